@@ -1,0 +1,9 @@
+pub mod Kinds
+pub mod Tree
+pub mod Shape
+pub mod Faults
+pub mod Bytes
+pub mod Seeds
+pub mod Log
+pub mod Written
+pub mod Meaning
