@@ -1,0 +1,11 @@
+//! Event logs: what a run was made from and the steps that it made, in order, and their bytes.
+#![tactic(auto)]
+
+pub mod log;
+pub mod write;
+
+pub use log::{Log, LogHeader, LogStep, MOST_DATA, MOST_STEPS};
+pub use write::write_log;
+
+#[cfg(test)]
+mod tests;
