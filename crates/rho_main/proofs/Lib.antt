@@ -1,0 +1,3 @@
+pub mod ReadingWords
+pub mod Leaving
+pub mod ReadingNumbers

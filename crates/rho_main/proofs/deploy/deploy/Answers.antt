@@ -1,0 +1,41 @@
+use Rattle.std.proofs.Common.{inr}
+use Rattle.rho_main.specs.Words.{names_of}
+use Rattle.rho_main.specs.Inputs.{accepted}
+use Rattle.rho_main.specs.Ends.{Leaves, LeavesAll, LeavesSome}
+use Rattle.rho_main.proofs.Leaving.{on_verdict, ok_and, leaves_all, leaves_some}
+use Rattle.rho_main.proofs.deploy.deploy.Goals as goal
+
+pub returns-in-Ok-write_plan-clause-verdict : goal.returns-in-Ok-write_plan-clause-verdict
+returns-in-Ok-write_plan-clause-verdict g c =
+    let names = names_of c.args.command.now in
+    let old = g.S.Shelf.files c.args.shelf.now in
+    let new = g.S.Shelf.files c.write_plan.new.shelf in
+    let before = g.O.Sink.written c.args.out.now in
+    let after = g.O.Sink.written c.write_plan.new.out in
+    let s = c.status_of.result in
+    let w = c.in-Ok-write_plan.ensures in
+    on_verdict s (Leaves s names old new before after) (λ files h.
+    ok_and (LeavesAll s names old new before after) (accepted names files) c.in-Ok.inputs.source.items (c.in-Ok.ensures.accepted files h)
+    (leaves_all s names _ c.in-Ok-make_plan.plan old (g.S.Shelf.files c.accept.new.shelf) new before after c.in-Ok-make_plan.ensures c.status_of.ensures c.in-Ok.ensures.files w.kept w.put))
+
+pub returns-in-Err-WriteFault-clause-part : goal.returns-in-Err-WriteFault-clause-part
+returns-in-Err-WriteFault-clause-part g c =
+    let names = names_of c.args.command.now in
+    let old = g.S.Shelf.files c.args.shelf.now in
+    let new = g.S.Shelf.files c.write_plan.new.shelf in
+    let before = g.O.Sink.written c.args.out.now in
+    let after = g.O.Sink.written c.write_plan.new.out in
+    let w = c.in-Err-WriteFault.ensures in
+    λ files h. inr (ok_and (LeavesSome names old new before after) (accepted names files) c.in-Ok.inputs.source.items (c.in-Ok.ensures.accepted files h)
+    (leaves_some names _ c.in-Ok-make_plan.plan old (g.S.Shelf.files c.accept.new.shelf) new before after c.in-Ok-make_plan.ensures c.in-Ok.ensures.files w.part w.put_part))
+
+pub returns-clause-part : goal.returns-clause-part
+returns-clause-part g c =
+    let names = names_of c.args.command.now in
+    let old = g.S.Shelf.files c.args.shelf.now in
+    let new = g.S.Shelf.files c.write_plan.new.shelf in
+    let before = g.O.Sink.written c.args.out.now in
+    let after = g.O.Sink.written c.write_plan.new.out in
+    let w = c.in-Err-NoMemory.ensures in
+    λ files h. inr (ok_and (LeavesSome names old new before after) (accepted names files) c.in-Ok.inputs.source.items (c.in-Ok.ensures.accepted files h)
+    (leaves_some names _ c.in-Ok-make_plan.plan old (g.S.Shelf.files c.accept.new.shelf) new before after c.in-Ok-make_plan.ensures c.in-Ok.ensures.files w.part w.put_part))

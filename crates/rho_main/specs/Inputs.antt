@@ -1,0 +1,82 @@
+-- What a deploy makes of the files that it is given, before it runs.
+use Rattle.std.specs.Prelude.{ℕ, ◌*◌, nat_le, ◌&&◌, if◌then◌else◌, List, [], ◌∷◌, ◌++◌, length, replicate, codes, Result, Ok, Err, Option, Some, None}
+use Rattle.std.specs.Str.{bytes_eq}
+use Rattle.rho_outside.specs.FileMap.{FileMap}
+use Rattle.rho_main.specs.declared.status.Input.{Input}
+use Rattle.rho_main.specs.declared.status.Input.TheVariants.{State, Prices, Source}
+use Rattle.rho_main.specs.Words.{Names}
+use Rattle.rho_main.specs.Price.{the_prices}
+
+-- the greatest number of bytes of an input
+abbrev pub size_limit : Input → ℕ
+size_limit State = 268435456
+size_limit Prices = 65536
+size_limit Source = 1048576
+
+-- the name of an input's file
+abbrev pub name_of : Names → Input → List ℕ
+name_of names State = names.state
+name_of names Prices = names.prices
+name_of names Source = names.source
+
+-- why files are refused: one is missing, is too large or has a form that is not built yet, or the limit is out of range
+pub data Refusal : Type 0 where
+  missing : Input → Refusal
+  too_large : Input → Refusal
+  unbuilt : Input → Refusal
+  bad_limit : Refusal
+
+infixl 10 ◌>>=◌
+-- one thing and, where it is not refused, the next
+abbrev pub ◌>>=◌ : {A B : Type 0} → Result A Refusal → (A → Result B Refusal) → Result B Refusal
+(Ok x) >>= f = f x
+(Err e) >>= f = Err e
+
+-- a file with at most so many bytes
+abbrev pub within : Input → ℕ → Option (List ℕ) → Result (List ℕ) Refusal
+within input max None = Err (missing input)
+within input max (Some bytes) = if nat_le (length bytes) max then Ok bytes else Err (too_large input)
+
+-- an input's bytes
+abbrev pub given : Names → FileMap → Input → Result (List ℕ) Refusal
+given names files input = within input (size_limit input) (files (name_of names input))
+
+-- bytes that are these
+abbrev pub only : Input → List ℕ → List ℕ → Result (List ℕ) Refusal
+only input wanted bytes = if bytes_eq bytes wanted then Ok bytes else Err (unbuilt input)
+
+-- the bytes of the empty state: its name, the version, a root of zeros and no rows
+abbrev pub empty_state : List ℕ
+empty_state = codes "RHOSTATE" ++ (1 ∷ replicate 40 0)
+
+-- a line of a text
+abbrev pub line : List ℕ → List ℕ
+line text = text ++ 10 ∷ []
+
+-- the one price text that is read so far
+abbrev pub price_text : List ℕ
+price_text = line (codes "comm = 10") ++ (line (codes "send = 3") ++ (line (codes "receive = 4") ++ (line (codes "name = 2") ++ (line (codes "case = 1") ++ (line (codes "op = 1") ++ line (codes "byte = 0"))))))
+
+-- the greatest limit of a deploy
+abbrev pub most_limit : ℕ
+most_limit = the_prices.comm * 1048576
+
+-- a limit in range
+abbrev pub in_range : ℕ → Result ℕ Refusal
+in_range limit = if nat_le 1 limit && nat_le limit most_limit then Ok limit else Err bad_limit
+
+-- the state's bytes, or the first refusal
+abbrev pub accepted_state : Names → FileMap → Result (List ℕ) Refusal
+accepted_state names files = given names files State >>= only State empty_state
+
+-- the state and then the price text
+abbrev pub accepted_prices : Names → FileMap → Result (List ℕ) Refusal
+accepted_prices names files = accepted_state names files >>= (λ state. given names files Prices >>= only Prices price_text)
+
+-- these and then the limit
+abbrev pub accepted_limit : Names → FileMap → Result ℕ Refusal
+accepted_limit names files = accepted_prices names files >>= (λ prices. in_range names.limit)
+
+-- these and then the source's bytes
+abbrev pub accepted : Names → FileMap → Result (List ℕ) Refusal
+accepted names files = accepted_limit names files >>= (λ limit. given names files Source)

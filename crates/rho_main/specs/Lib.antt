@@ -1,0 +1,10 @@
+pub mod Words
+pub mod Message
+pub mod Price
+pub mod Inputs
+pub mod Refused
+pub mod Report
+pub mod Ends
+pub mod Halts
+pub mod Plan
+pub mod Steps

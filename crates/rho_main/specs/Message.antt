@@ -1,0 +1,45 @@
+-- The exit status and the message of a status.
+use Rattle.std.specs.Prelude.{ℕ, List, [], ◌++◌, codes, decimal}
+use Rattle.rho_main.specs.declared.words.Usage.{Usage}
+use Rattle.rho_main.specs.declared.words.Usage.TheVariants as usage
+use Rattle.rho_main.specs.declared.status.Input.{Input}
+use Rattle.rho_main.specs.declared.status.Input.TheVariants as input
+use Rattle.rho_main.specs.declared.status.Status.{Status}
+use Rattle.rho_main.specs.declared.status.Status.TheVariants as status
+
+-- the number with which the program ends
+abbrev pub code_of : Status → ℕ
+code_of status.Done = 0
+code_of (status.Usage u) = 2
+code_of (status.ReadFault i) = 3
+code_of status.WriteFault = 4
+code_of (status.Limit n m) = 7
+code_of status.Exhausted = 10
+code_of status.Faulted = 11
+code_of status.NoMemory = 12
+code_of (status.TooLarge i n m) = 13
+code_of (status.Unbuilt i) = 20
+
+-- how an input is named in messages
+abbrev pub input_name : Input → List ℕ
+input_name input.State = codes "state"
+input_name input.Prices = codes "prices"
+input_name input.Source = codes "source"
+
+-- how a refusal of the words is named in messages
+abbrev pub usage_name : Usage → List ℕ
+usage_name usage.BadWords = codes "BadWords"
+usage_name usage.NoMemory = codes "NoMemory"
+
+-- the line that is written for a status, without its end: the group, the name and each field
+abbrev pub message_of : Status → List ℕ
+message_of status.Done = []
+message_of (status.Usage u) = codes "rho: usage: " ++ usage_name u
+message_of (status.ReadFault i) = codes "rho: read: ReadFault input=" ++ input_name i
+message_of status.WriteFault = codes "rho: write: WriteFault"
+message_of (status.Limit n m) = codes "rho: prices: Limit limit=" ++ (decimal n ++ (codes " most=" ++ decimal m))
+message_of (status.Unbuilt i) = codes "rho: unbuilt: Unbuilt input=" ++ input_name i
+message_of status.Exhausted = []
+message_of status.Faulted = []
+message_of status.NoMemory = codes "rho: memory: NoMemory"
+message_of (status.TooLarge i n m) = codes "rho: size: TooLarge input=" ++ (input_name i ++ (codes " seen=" ++ (decimal n ++ (codes " max=" ++ decimal m))))

@@ -1,0 +1,43 @@
+-- When a deploy ends before it runs.
+use Rattle.std.specs.Prelude.{◌≡◌, ℕ, ◌<◌, ◌⊎◌, List, IsOk, Err, Option, ⊤}
+use Rattle.rho_outside.specs.FileMap.{FileMap, Lacks, GivesAtLeast}
+use Rattle.rho_outside.specs.Causes.{Rose}
+use Rattle.rho_outside.specs.Told.{Told}
+use Rattle.rho_main.specs.Words.{Names}
+use Rattle.rho_main.specs.Inputs.{Refusal, missing, too_large, unbuilt, bad_limit, name_of, size_limit, most_limit, accepted_state, accepted_limit, accepted}
+use Rattle.rho_main.specs.declared.status.Input.{Input}
+use Rattle.rho_main.specs.declared.status.Input.TheVariants.{State, Prices, Source}
+use Rattle.rho_main.specs.declared.status.Status.{Status}
+use Rattle.rho_main.specs.declared.status.Status.TheVariants as status
+
+-- each told input before this one was accepted
+abbrev pub Reaches : Option FileMap → Names → Input → Type 0
+Reaches told names State = ⊤
+Reaches told names Prices = Told told (λ files. IsOk (accepted_state names files))
+Reaches told names Source = Told told (λ files. IsOk (accepted_limit names files))
+
+-- why one input gave no bytes, from the counts of failed fetches before and after
+abbrev pub InputCause : Option FileMap → List ℕ → ℕ → Input → ℕ → ℕ → Status → Type 0
+InputCause told name max input before now (status.ReadFault i) = (i ≡ input) × (Rose before now ⊎ Lacks told name)
+InputCause told name max input before now (status.TooLarge i seen most) = (i ≡ input) × ((most ≡ max) × ((max < seen) × GivesAtLeast told name seen))
+InputCause told name max input before now status.NoMemory = ⊤
+InputCause told name max input before now _ = ⊥
+
+-- why a deploy refuses its files, from the counts of failed fetches before and after; that a source is not built says only that all before it was accepted
+abbrev pub RefusedFor : Option FileMap → Names → ℕ → ℕ → Status → Type 0
+RefusedFor told names before now (status.ReadFault input) = (Rose before now ⊎ Lacks told (name_of names input)) × Reaches told names input
+RefusedFor told names before now (status.TooLarge input seen max) = (max ≡ size_limit input) × ((max < seen) × (GivesAtLeast told (name_of names input) seen × Told told (λ files. accepted names files ≡ Err (too_large input))))
+RefusedFor told names before now (status.Unbuilt Source) = Told told (λ files. IsOk (accepted names files))
+RefusedFor told names before now (status.Unbuilt input) = Told told (λ files. accepted names files ≡ Err (unbuilt input))
+RefusedFor told names before now (status.Limit limit most) = (limit ≡ names.limit) × ((most ≡ most_limit) × Told told (λ files. accepted names files ≡ Err bad_limit))
+RefusedFor told names before now status.NoMemory = ⊤
+RefusedFor told names before now _ = ⊥
+
+-- a status says this refusal; want of memory may stand in its place
+abbrev pub Says : Refusal → Status → Type 0
+Says refusal status.NoMemory = ⊤
+Says (missing input) (status.ReadFault i) = i ≡ input
+Says (too_large input) (status.TooLarge i seen max) = i ≡ input
+Says (unbuilt input) (status.Unbuilt i) = i ≡ input
+Says bad_limit (status.Limit limit most) = ⊤
+Says _ _ = ⊥

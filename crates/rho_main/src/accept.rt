@@ -1,0 +1,177 @@
+ghost use Rattle.std.specs.Prelude.{◌≡◌, ℕ, ◌≤◌, Ok, Err, IsOk, IfOk, IfErr, MatchResult, length};
+ghost use Rattle.rho_outside.specs.Causes.{Rose};
+ghost use Rattle.rho_outside.specs.FileMap.{Gives};
+ghost use Rattle.rho_outside.specs.Told.{Told};
+ghost use Rattle.rho_main.specs.Words.{names_of};
+ghost use Rattle.rho_main.specs.Inputs.{Refusal, accepted_state, accepted_prices, accepted_limit, accepted};
+ghost use Rattle.rho_main.specs.Refused.{InputCause, RefusedFor, Says};
+
+use crate::prices::{PRICE_TEXT, PRICES, most_limit};
+use crate::small::{Small, SmallFault, read_small};
+use crate::status::{Input, Status};
+use crate::words::Command;
+use rho_outside::{FetchFault, Shelf};
+use std::alloc::Global;
+
+/// The greatest number of bytes of a state, of a price text and of a source.
+const STATE_MAX: u64 = 268_435_456;
+
+const PRICES_MAX: u64 = 65_536;
+
+const SOURCE_MAX: u64 = 1_048_576;
+
+/// The empty state: its name, the version, a root of zeros and no rows.
+pub(crate) const EMPTY_STATE: &[u8] =
+    b"RHOSTATE\x01\0\0\0\0\0\0\0\0\0\0\0\0\0\0\0\0\0\0\0\0\0\0\0\0\0\0\0\0\0\0\0\0\0\0\0\0\0\0\0\0";
+
+/// The bytes of one input, at most `max` of them.
+fn take<S: Shelf>(
+    alloc: Global,
+    shelf: &mut S,
+    name: &str,
+    input: Input,
+    max: u64,
+) -> Result<Vec<u8>, Status>
+    ensures files { S.files shelf.new ≡ S.files shelf.old }
+    ensures keep_faults { S.keep_faults shelf.new ≡ S.keep_faults shelf.old }
+    ensures fetch_faults { S.fetch_faults shelf.old ≤ S.fetch_faults shelf.new }
+    ensures taken { IfOk result (λ bytes. Gives (S.files shelf.old) name.now bytes.items) }
+    ensures within { IfOk result (λ bytes. length bytes.items ≤ max) }
+    ensures cause { IfErr result (InputCause (S.files shelf.old) name.now max input (S.fetch_faults shelf.old) (S.fetch_faults shelf.new)) }
+{
+    match shelf.fetch(alloc, name, max) {
+        Ok(bytes) => Ok(bytes),
+        Err(FetchFault::Missing | FetchFault::Failed) => Err(Status::ReadFault { input }),
+        Err(FetchFault::TooLarge { seen }) => Err(Status::TooLarge { input, seen, max }),
+        Err(FetchFault::NoMemory) => Err(Status::NoMemory),
+    }
+}
+
+/// Fetches and checks the state.
+fn accept_state<S: Shelf>(alloc: Global, shelf: &mut S, command: &Command) -> Result<(), Status>
+    ensures files { S.files shelf.new ≡ S.files shelf.old }
+    ensures keep_faults { S.keep_faults shelf.new ≡ S.keep_faults shelf.old }
+    ensures fetch_faults { S.fetch_faults shelf.old ≤ S.fetch_faults shelf.new }
+    ensures accepted { IfOk result (λ _. Told (S.files shelf.old) (λ files. IsOk (accepted_state (names_of command.now) files))) }
+    ensures refused { IfErr result (RefusedFor (S.files shelf.old) (names_of command.now) (S.fetch_faults shelf.old) (S.fetch_faults shelf.new)) }
+    ensures exact { Told (S.files shelf.old) (λ files. (r : Refusal) → accepted_state (names_of command.now) files ≡ Err r
+        → ¬ (Rose (S.fetch_faults shelf.old) (S.fetch_faults shelf.new)) → MatchResult result (λ _. ⊥) (Says r)) }
+{
+    let state = take(
+        alloc,
+        shelf,
+        command.state.as_str(),
+        Input::State,
+        STATE_MAX,
+    )?;
+    if state.as_slice() == EMPTY_STATE {
+        Ok(())
+    } else {
+        Err(Status::Unbuilt {
+            input: Input::State,
+        })
+    }
+}
+
+/// Fetches and checks the prices, after the state.
+fn accept_prices<S: Shelf>(alloc: Global, shelf: &mut S, command: &Command) -> Result<(), Status>
+    ensures files { S.files shelf.new ≡ S.files shelf.old }
+    ensures keep_faults { S.keep_faults shelf.new ≡ S.keep_faults shelf.old }
+    ensures fetch_faults { S.fetch_faults shelf.old ≤ S.fetch_faults shelf.new }
+    ensures accepted { IfOk result (λ _. Told (S.files shelf.old) (λ files. IsOk (accepted_prices (names_of command.now) files))) }
+    ensures refused { IfErr result (RefusedFor (S.files shelf.old) (names_of command.now) (S.fetch_faults shelf.old) (S.fetch_faults shelf.new)) }
+    ensures exact { Told (S.files shelf.old) (λ files. (r : Refusal) → accepted_prices (names_of command.now) files ≡ Err r
+        → ¬ (Rose (S.fetch_faults shelf.old) (S.fetch_faults shelf.new)) → MatchResult result (λ _. ⊥) (Says r)) }
+{
+    accept_state(alloc, shelf, command)?;
+    let prices = take(
+        alloc,
+        shelf,
+        command.prices.as_str(),
+        Input::Prices,
+        PRICES_MAX,
+    )?;
+    if prices.as_slice() == PRICE_TEXT {
+        Ok(())
+    } else {
+        Err(Status::Unbuilt {
+            input: Input::Prices,
+        })
+    }
+}
+
+/// Checks the limit, after the state and the prices.
+fn accept_limit<S: Shelf>(alloc: Global, shelf: &mut S, command: &Command) -> Result<(), Status>
+    ensures files { S.files shelf.new ≡ S.files shelf.old }
+    ensures keep_faults { S.keep_faults shelf.new ≡ S.keep_faults shelf.old }
+    ensures fetch_faults { S.fetch_faults shelf.old ≤ S.fetch_faults shelf.new }
+    ensures accepted { IfOk result (λ _. Told (S.files shelf.old) (λ files. IsOk (accepted_limit (names_of command.now) files))) }
+    ensures in_range { IfOk result (λ _. command.now.limit ≤ 10485760) }
+    ensures refused { IfErr result (RefusedFor (S.files shelf.old) (names_of command.now) (S.fetch_faults shelf.old) (S.fetch_faults shelf.new)) }
+    ensures exact { Told (S.files shelf.old) (λ files. (r : Refusal) → accepted_limit (names_of command.now) files ≡ Err r
+        → ¬ (Rose (S.fetch_faults shelf.old) (S.fetch_faults shelf.new)) → MatchResult result (λ _. ⊥) (Says r)) }
+{
+    accept_prices(alloc, shelf, command)?;
+    let limit = command.limit;
+    let most = most_limit(&PRICES);
+    if limit == 0 || limit > most {
+        return Err(Status::Limit { limit, most });
+    }
+    Ok(())
+}
+
+/// Fetches the source, after the state, the prices and the limit.
+fn accept_source<S: Shelf>(
+    alloc: Global,
+    shelf: &mut S,
+    command: &Command,
+) -> Result<Vec<u8>, Status>
+    ensures files { S.files shelf.new ≡ S.files shelf.old }
+    ensures keep_faults { S.keep_faults shelf.new ≡ S.keep_faults shelf.old }
+    ensures fetch_faults { S.fetch_faults shelf.old ≤ S.fetch_faults shelf.new }
+    ensures accepted { IfOk result (λ source. Told (S.files shelf.old) (λ files. accepted (names_of command.now) files ≡ Ok source.items)) }
+    ensures in_range { IfOk result (λ _. command.now.limit ≤ 10485760) }
+    ensures refused { IfErr result (RefusedFor (S.files shelf.old) (names_of command.now) (S.fetch_faults shelf.old) (S.fetch_faults shelf.new)) }
+    ensures exact { Told (S.files shelf.old) (λ files. (r : Refusal) → accepted (names_of command.now) files ≡ Err r
+        → ¬ (Rose (S.fetch_faults shelf.old) (S.fetch_faults shelf.new)) → MatchResult result (λ _. ⊥) (Says r)) }
+{
+    accept_limit(alloc, shelf, command)?;
+    take(
+        alloc,
+        shelf,
+        command.file.as_str(),
+        Input::Source,
+        SOURCE_MAX,
+    )
+}
+
+/// What a deploy was given: the source's bytes and the process that they spell.
+#[derive(Drop)]
+pub(crate) struct Inputs {
+    pub(crate) source: Vec<u8>,
+    pub(crate) process: Small,
+}
+
+/// Fetches and checks what a deploy needs, each input just before it is checked.
+pub(crate) fn accept<S: Shelf>(
+    alloc: Global,
+    shelf: &mut S,
+    command: &Command,
+) -> Result<Inputs, Status>
+    ensures files { S.files shelf.new ≡ S.files shelf.old }
+    ensures keep_faults { S.keep_faults shelf.new ≡ S.keep_faults shelf.old }
+    ensures accepted { IfOk result (λ i. Told (S.files shelf.old) (λ files. accepted (names_of command.now) files ≡ Ok i.source.items)) }
+    ensures in_range { IfOk result (λ _. command.now.limit ≤ 10485760) }
+    ensures refused { IfErr result (RefusedFor (S.files shelf.old) (names_of command.now) (S.fetch_faults shelf.old) (S.fetch_faults shelf.new)) }
+    ensures exact { Told (S.files shelf.old) (λ files. (r : Refusal) → accepted (names_of command.now) files ≡ Err r
+        → ¬ (Rose (S.fetch_faults shelf.old) (S.fetch_faults shelf.new)) → MatchResult result (λ _. ⊥) (Says r)) }
+{
+    let source = accept_source(alloc, shelf, command)?;
+    match read_small(alloc, source.as_slice()) {
+        Ok(process) => Ok(Inputs { source, process }),
+        Err(SmallFault::NotSmall) => Err(Status::Unbuilt {
+            input: Input::Source,
+        }),
+        Err(SmallFault::NoMemory) => Err(Status::NoMemory),
+    }
+}

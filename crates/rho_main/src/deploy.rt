@@ -1,0 +1,138 @@
+ghost use Rattle.std.specs.Prelude.{◌≡◌, ◌≤◌, ◌⊎◌, ◌∷◌, [], None, Err, IsOk, IfOk, OnOk, OnErr, IsErrOf, string_bytes};
+ghost use Rattle.rho_outside.specs.Causes.{Rose};
+ghost use Rattle.rho_outside.specs.Put.{GrewBy, GrewByPart};
+ghost use Rattle.rho_outside.specs.Kept.{with_files, PartSet};
+ghost use Rattle.rho_outside.specs.Told.{Told};
+ghost use Rattle.rho_main.specs.Words.{names_of};
+ghost use Rattle.rho_main.specs.Inputs.{Refusal, accepted, empty_state};
+ghost use Rattle.rho_main.specs.Refused.{RefusedFor, Says};
+ghost use Rattle.rho_main.specs.Report.{status_of};
+ghost use Rattle.rho_main.specs.Ends.{OnUsage, OnRefusal, OnFileRefusal, OnHalt, OnVerdict, Leaves, LeavesInPart};
+ghost use Rattle.rho_main.specs.Plan.{IsPlan};
+
+use crate::accept::{EMPTY_STATE, Inputs, accept};
+use crate::finish::{Halt, keep_both, put_bytes};
+use crate::outcome::Verdict;
+use crate::prices::PRICES;
+use crate::report::report;
+use crate::small::play;
+use crate::status::Status;
+use crate::words::Command;
+use calculus::Digest;
+use event_log::{Log, LogHeader, write_log};
+use name_seed::bytes_digest;
+use rho_outside::{Shelf, Sink};
+use std::alloc::{AllocError, Global};
+
+/// The root of the empty state.
+const EMPTY_ROOT: Digest = Digest([0; 32]);
+
+/// All the bytes that a deploy writes, and how its run ended.
+#[derive(Drop)]
+pub(crate) struct Plan {
+    log: Vec<u8>,
+    next: Vec<u8>,
+    line: Vec<u8>,
+    verdict: Verdict,
+}
+
+/// Runs the source from the empty state, and makes all bytes that are to be written.
+fn make_plan(alloc: Global, inputs: &Inputs, limit: u64) -> Result<Plan, AllocError>
+    requires { limit ≤ 10485760 }
+    ensures { IfOk result (IsPlan limit inputs.now.source.items) }
+{
+    let source = bytes_digest(inputs.source.as_slice());
+    let outcome = play(alloc, &inputs.process, &EMPTY_ROOT, &source, &PRICES, limit)?;
+    let steps = outcome.steps.len() as u32;
+    let line = report(alloc, outcome.verdict, outcome.cost, &outcome.root, steps)?;
+    let header = LogHeader {
+        base: EMPTY_ROOT,
+        source,
+        prices: PRICES.digest(),
+        limit,
+    };
+    let log = Log {
+        header,
+        steps: outcome.steps,
+    };
+    Ok(Plan {
+        log: write_log(alloc, &log)?,
+        next: next_state(alloc, outcome.next)?,
+        line,
+        verdict: outcome.verdict,
+    })
+}
+
+/// The bytes of the next state, which is the old one where a run made none.
+fn next_state(alloc: Global, next: Option<Vec<u8>>) -> Result<Vec<u8>, AllocError>
+    ensures { IfOk result (λ bytes. next ≡ None → bytes.items ≡ empty_state) }
+{
+    match next {
+        Some(next) => Ok(next),
+        None => EMPTY_STATE.to_vec(alloc),
+    }
+}
+
+/// Keeps the log and then the next state, and then puts the report.
+fn write_plan<S: Shelf, O: Sink>(
+    alloc: Global,
+    command: &Command,
+    plan: &Plan,
+    shelf: &mut S,
+    out: &mut O,
+) -> Result<(), Halt>
+    ensures kept { OnOk result (S.files shelf.new ≡ with_files ((string_bytes command.now.log, plan.now.log.items) ∷ (string_bytes command.now.next, plan.now.next.items) ∷ []) (S.files shelf.old)) }
+    ensures part { OnErr result (PartSet ((string_bytes command.now.log, plan.now.log.items) ∷ (string_bytes command.now.next, plan.now.next.items) ∷ []) (S.files shelf.old) (S.files shelf.new)) }
+    ensures put { OnOk result (GrewBy plan.now.line.items (O.written out.old) (O.written out.new)) }
+    ensures put_part { OnErr result (GrewByPart plan.now.line.items (O.written out.old) (O.written out.new)) }
+    ensures cause { IsErrOf result Halt.WriteFault → Rose (S.keep_faults shelf.old) (S.keep_faults shelf.new) ⊎ Rose (O.faults out.old) (O.faults out.new) }
+{
+    let log = (command.log.as_str(), plan.log.as_slice());
+    let next = (command.next.as_str(), plan.next.as_slice());
+    keep_both(alloc, shelf, log, next)?;
+    put_bytes(alloc, out, plan.line.as_slice())
+}
+
+/// The status that a verdict gives.
+fn status_of(verdict: Verdict) -> Status
+    ensures { result ≡ status_of verdict }
+{
+    match verdict {
+        Verdict::Done => Status::Done,
+        Verdict::Exhausted => Status::Exhausted,
+        Verdict::Faulted { .. } => Status::Faulted,
+    }
+}
+
+/// Runs a source: nothing is kept or put before all inputs are accepted and the run has ended.
+pub(crate) fn deploy<S: Shelf, O: Sink>(
+    alloc: Global,
+    command: &Command,
+    shelf: &mut S,
+    out: &mut O,
+) -> Status
+    ensures no_usage { OnUsage result ⊥ }
+    ensures refused { OnFileRefusal result (RefusedFor (S.files shelf.old) (names_of command.now) (S.fetch_faults shelf.old) (S.fetch_faults shelf.new) result) }
+    ensures exact { Told (S.files shelf.old) (λ files. (r : Refusal) → accepted (names_of command.now) files ≡ Err r
+        → ¬ (Rose (S.fetch_faults shelf.old) (S.fetch_faults shelf.new)) → Says r result) }
+    ensures files_stay { OnRefusal result (S.files shelf.new ≡ S.files shelf.old) }
+    ensures bytes_stay { OnRefusal result (O.written out.new ≡ O.written out.old) }
+    ensures write_fault { result ≡ Status.WriteFault → Rose (S.keep_faults shelf.old) (S.keep_faults shelf.new) ⊎ Rose (O.faults out.old) (O.faults out.new) }
+    ensures write_fault_late { result ≡ Status.WriteFault → Told (S.files shelf.old) (λ files. IsOk (accepted (names_of command.now) files)) }
+    ensures verdict { OnVerdict result (Leaves result (names_of command.now) (S.files shelf.old) (S.files shelf.new) (O.written out.old) (O.written out.new)) }
+    ensures part { OnHalt result (LeavesInPart (names_of command.now) (S.files shelf.old) (S.files shelf.new) (O.written out.old) (O.written out.new)) }
+{
+    let inputs = match accept(alloc, shelf, command) {
+        Ok(inputs) => inputs,
+        Err(status) => return status,
+    };
+    let plan = match make_plan(alloc, &inputs, command.limit) {
+        Ok(plan) => plan,
+        Err(_) => return Status::NoMemory,
+    };
+    match write_plan(alloc, command, &plan, shelf, out) {
+        Ok(()) => status_of(plan.verdict),
+        Err(Halt::WriteFault) => Status::WriteFault,
+        Err(Halt::NoMemory) => Status::NoMemory,
+    }
+}

@@ -1,0 +1,62 @@
+ghost use Rattle.std.specs.Prelude.{◌≡◌, ◌≤◌, ◌∷◌, [], OnOk, OnErr, IsErrOf};
+ghost use Rattle.rho_outside.specs.Causes.{Rose};
+ghost use Rattle.rho_outside.specs.Put.{GrewBy, GrewByPart};
+ghost use Rattle.rho_outside.specs.Kept.{with_files, PartSet};
+ghost use Rattle.rho_main.specs.Halts.{halt_of};
+
+use rho_outside::{KeepFault, Shelf, Sink};
+use std::alloc::Global;
+
+/// Why the last steps of a verb ended early.
+#[derive(Clone, Copy, Debug, PartialEq, Eq)]
+pub(crate) enum Halt {
+    WriteFault,
+    NoMemory,
+}
+
+fn halt_of(fault: KeepFault) -> Halt
+    ensures { result ≡ halt_of fault }
+{
+    match fault {
+        KeepFault::Failed => Halt::WriteFault,
+        KeepFault::NoMemory => Halt::NoMemory,
+    }
+}
+
+/// Keeps one file.
+fn keep_file<S: Shelf>(alloc: Global, shelf: &mut S, name: &str, bytes: &[u8]) -> Result<(), Halt>
+    ensures kept { OnOk result (S.files shelf.new ≡ with_files ((name.now, bytes.now) ∷ []) (S.files shelf.old)) }
+    ensures part { OnErr result (PartSet ((name.now, bytes.now) ∷ []) (S.files shelf.old) (S.files shelf.new)) }
+    ensures cause { IsErrOf result Halt.WriteFault → Rose (S.keep_faults shelf.old) (S.keep_faults shelf.new) }
+    ensures fetch_faults { S.fetch_faults shelf.new ≡ S.fetch_faults shelf.old }
+    ensures keep_faults { S.keep_faults shelf.old ≤ S.keep_faults shelf.new }
+{
+    shelf.keep(alloc, name, bytes).map_err(halt_of)
+}
+
+/// Keeps two files, one after the other.
+pub(crate) fn keep_both<S: Shelf>(
+    alloc: Global,
+    shelf: &mut S,
+    first: (&str, &[u8]),
+    second: (&str, &[u8]),
+) -> Result<(), Halt>
+    ensures kept { OnOk result (S.files shelf.new ≡ with_files ((first.entry.0.now, first.entry.1.now) ∷ (second.entry.0.now, second.entry.1.now) ∷ []) (S.files shelf.old)) }
+    ensures part { OnErr result (PartSet ((first.entry.0.now, first.entry.1.now) ∷ (second.entry.0.now, second.entry.1.now) ∷ []) (S.files shelf.old) (S.files shelf.new)) }
+    ensures cause { IsErrOf result Halt.WriteFault → Rose (S.keep_faults shelf.old) (S.keep_faults shelf.new) }
+    ensures fetch_faults { S.fetch_faults shelf.new ≡ S.fetch_faults shelf.old }
+    ensures keep_faults { S.keep_faults shelf.old ≤ S.keep_faults shelf.new }
+{
+    keep_file(alloc, shelf, first.0, first.1)?;
+    keep_file(alloc, shelf, second.0, second.1)
+}
+
+/// Puts bytes to the output.
+pub(crate) fn put_bytes<O: Sink>(alloc: Global, out: &mut O, bytes: &[u8]) -> Result<(), Halt>
+    ensures put { OnOk result (GrewBy bytes.now (O.written out.old) (O.written out.new)) }
+    ensures part { OnErr result (GrewByPart bytes.now (O.written out.old) (O.written out.new)) }
+    ensures cause { IsErrOf result Halt.WriteFault → Rose (O.faults out.old) (O.faults out.new) }
+    ensures faults { O.faults out.old ≤ O.faults out.new }
+{
+    out.put(alloc, bytes).map_err(halt_of)
+}

@@ -1,0 +1,22 @@
+//! The interpreter's top call: from the words of a command line, through files and an output, to a status.
+#![tactic(auto)]
+
+pub mod accept;
+pub mod deploy;
+pub mod finish;
+pub mod outcome;
+pub mod prices;
+pub mod report;
+pub mod small;
+pub mod status;
+pub mod top;
+pub mod words;
+
+pub use outcome::Verdict;
+pub use prices::Prices;
+pub use status::{Input, Status};
+pub use top::run;
+pub use words::{Command, Usage};
+
+#[cfg(test)]
+mod tests;

@@ -1,0 +1,100 @@
+ghost use Rattle.std.specs.Prelude.{◌≡◌, IfOk, string_bytes};
+ghost use Rattle.rho_main.specs.Message.{code_of, message_of};
+
+use crate::words::Usage;
+use std::alloc::{AllocError, Global};
+use std::fmt;
+
+/// A file that a verb reads.
+#[derive(Clone, Copy, Debug, PartialEq, Eq)]
+pub enum Input {
+    State,
+    Prices,
+    Source,
+}
+
+/// How a call of `run` ended.
+#[derive(Clone, Copy, Debug, PartialEq, Eq)]
+pub enum Status {
+    /// The verdict is Done.
+    Done,
+    /// The words are refused.
+    Usage(Usage),
+    /// An input could not be read.
+    ReadFault { input: Input },
+    /// A file could not be kept, or the report not be put.
+    WriteFault,
+    /// The limit is 0 or above the greatest one, `most`.
+    Limit { limit: u64, most: u64 },
+    /// An input has a form that is not built yet.
+    Unbuilt { input: Input },
+    /// The verdict is Exhausted: the price passed the limit.
+    Exhausted,
+    /// The verdict is Faulted: the source or a body has a fault.
+    Faulted,
+    /// Memory is wanted.
+    NoMemory,
+    /// An input has more than `max` bytes, its limit: at least `seen`.
+    TooLarge { input: Input, seen: u64, max: u64 },
+}
+
+impl fmt::Display for Input {
+    ghost use Rattle.std.specs.Prelude.{Some};
+    ghost use Rattle.rho_main.specs.Message.{input_name};
+
+    ghost output = { λ input. Some (input_name input) };
+
+    fn fmt<W: fmt::Write>(&self, f: &mut fmt::Formatter<W>) -> fmt::Result {
+        match self {
+            Input::State => f.write_str("state"),
+            Input::Prices => f.write_str("prices"),
+            Input::Source => f.write_str("source"),
+        }
+    }
+}
+
+impl Status {
+    /// The exit status of the program: 0 for Done, and one number for each other end.
+    pub fn code(&self) -> u8
+        ensures { result ≡ code_of self.now }
+    {
+        match self {
+            Status::Done => 0,
+            Status::Usage(_) => 2,
+            Status::ReadFault { .. } => 3,
+            Status::WriteFault => 4,
+            Status::Limit { .. } => 7,
+            Status::Exhausted => 10,
+            Status::Faulted => 11,
+            Status::NoMemory => 12,
+            Status::TooLarge { .. } => 13,
+            Status::Unbuilt { .. } => 20,
+        }
+    }
+
+    /// The line for standard error, without its line feed; empty where the report says all.
+    pub fn message(&self, alloc: Global) -> Result<Vec<u8>, AllocError>
+        ensures { IfOk result (λ line. line.items ≡ message_of self.now) }
+    {
+        Ok(self.message_text(alloc)?.into_bytes())
+    }
+
+    fn message_text(&self, alloc: Global) -> Result<String, AllocError>
+        ensures { IfOk result (λ line. string_bytes line ≡ message_of self.now) }
+    {
+        match self {
+            Status::Done | Status::Exhausted | Status::Faulted => Ok(String::new(alloc)),
+            Status::Usage(usage) => format!(in alloc; "rho: usage: {usage}"),
+            Status::ReadFault { input } => format!(in alloc; "rho: read: ReadFault input={input}"),
+            Status::WriteFault => String::from_str(alloc, "rho: write: WriteFault"),
+            Status::Limit { limit, most } => {
+                format!(in alloc; "rho: prices: Limit limit={limit} most={most}")
+            }
+            Status::Unbuilt { input } => format!(in alloc; "rho: unbuilt: Unbuilt input={input}"),
+            Status::NoMemory => String::from_str(alloc, "rho: memory: NoMemory"),
+            Status::TooLarge { input, seen, max } => {
+                format!(in alloc; "rho: size: TooLarge input={input} seen={seen} max={max}")
+            }
+        }
+    }
+}
