@@ -7,3 +7,12 @@ pub mod Seeds
 pub mod Log
 pub mod Written
 pub mod Meaning
+pub mod Bare
+pub mod Variables
+pub mod Form
+pub mod Size
+pub mod Order
+pub mod Congruence
+pub mod Code
+pub mod Normal
+pub mod Substitution

@@ -1,7 +1,7 @@
 -- Processes without names, as trees: a form's label, and its constituents in written order.
-use Rattle.std.specs.Prelude.{◌≡◌, ℕ, zero, suc, ◌+◌, Bool, true, false, List, [], ◌∷◌, ℤ, pos, negsuc, nat_abs, refl}
+use Rattle.std.specs.Prelude.{◌≡◌, ℕ, zero, suc, ◌+◌, Bool, true, false, List, [], ◌∷◌, ℤ, pos, nat_abs, refl}
 use Rattle.std.proofs.Common.{ap, map}
-use Rattle.std.specs.Coded.{Coded, code_by, coded_ℕ, coded_ℤ, coded_bool, coded_list, coded×}
+use Rattle.std.specs.Coded.{Coded, code_by, coded_ℕ, coded_ℤ, coded_list, coded×}
 use base.Stored.{Gv, gnil, gcons}
 use Rattle.calculus.specs.Kinds.{pick, simple_number, simple_of, simple_of-number, kind_number, kind_of, kind_of-number, rights_number, rights_of, rights_of-number, unary_op_number, unary_op_of, unary_op_of-number, binary_op_number, binary_op_of, binary_op_of-number, rest_number, rest_of, rest_of-number, origin_number, origin_of, origin_of-number}
 use Rattle.calculus.specs.declared.plain.Simple.{Simple}
