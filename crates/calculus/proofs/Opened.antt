@@ -1,6 +1,5 @@
 -- Definitions that computing opens, under one name.
 use Rattle.std.specs.Prelude.{ℕ}
-use Rattle.sha2.specs.Sha256.{sha256}
 use Rattle.calculus.specs.Bytes.{be32, be64}
 use Rattle.calculus.specs.Order.{placed, sorted}
 use Rattle.calculus.specs.Congruence.{congruent, congruent_to}

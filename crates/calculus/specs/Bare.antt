@@ -1,5 +1,5 @@
 -- Bare forms: written processes without their names.
-use Rattle.std.specs.Prelude.{ℕ, ◌+◌, cond, List, [], ◌∷◌, ◌++◌, map as each, reverse, codes, Option, Some, None}
+use Rattle.std.specs.Prelude.{ℕ, ◌+◌, cond, List, [], ◌∷◌, ◌++◌, map as each, flat_map, reverse, codes, Option, Some, None}
 use Rattle.std.specs.Str.{bytes_eq}
 use Rattle.calculus.specs.declared.plain.Origin.{Origin}
 use Rattle.calculus.specs.declared.plain.Origin.TheVariants as origins
@@ -53,19 +53,14 @@ abbrev pub index : List ℕ → Names → ℕ
 index x [] = 0
 index x (y ∷ ys) = cond (bytes_eq x y) 0 (index x ys + 1)
 
--- the constituents of all of these together
-abbrev pub all_held : List Tree → List Tree
-all_held [] = []
-all_held (t ∷ ts) = held t ++ all_held ts
-
 -- what a form comes to, of the trees of its constituents: parallel parts are flattened, a drop, a quote and a closed form are what stands in them, and a use of a name is its index
 abbrev pub bare_parts : Form → Names → List Tree → List Tree
-bare_parts (in_process par) v ts = all_held ts
-bare_parts (in_pattern pattern) v ts = all_held ts
-bare_parts drop v ts = all_held ts
-bare_parts quote v ts = all_held ts
-bare_parts quote_pattern v ts = all_held ts
-bare_parts closed v ts = all_held ts
+bare_parts (in_process par) v ts = flat_map held ts
+bare_parts (in_pattern pattern) v ts = flat_map held ts
+bare_parts drop v ts = flat_map held ts
+bare_parts quote v ts = flat_map held ts
+bare_parts quote_pattern v ts = flat_map held ts
+bare_parts closed v ts = flat_map held ts
 bare_parts (in_process l) v ts = many l ts ∷ []
 bare_parts (in_pattern l) v ts = many l ts ∷ []
 bare_parts (around l) v ts = many l ts ∷ []

@@ -16,3 +16,15 @@ pub mod Congruence
 pub mod Code
 pub mod Normal
 pub mod Substitution
+pub mod Outcome
+pub mod Texts
+pub mod Operators
+pub mod Methods
+pub mod Values
+pub mod Matching
+pub mod Rows
+pub mod Unfolding
+pub mod Root
+pub mod Steps
+pub mod Candidates
+pub mod Runs
