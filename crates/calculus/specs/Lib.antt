@@ -28,3 +28,4 @@ pub mod Root
 pub mod Steps
 pub mod Candidates
 pub mod Runs
+pub mod Laws

@@ -7,6 +7,7 @@
 pub mod count;
 pub mod fault;
 pub mod ids;
+pub mod laws;
 pub mod plain;
 pub mod process;
 
