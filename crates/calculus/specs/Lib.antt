@@ -28,4 +28,5 @@ pub mod Root
 pub mod Steps
 pub mod Candidates
 pub mod Runs
+pub mod Printed
 pub mod Laws
