@@ -4,3 +4,7 @@ pub mod Room
 pub mod States
 pub mod Candidates
 pub mod Least
+pub mod ExamplesValues
+pub mod ExamplesMatches
+pub mod ExamplesUnfoldings
+pub mod ExamplesRuns

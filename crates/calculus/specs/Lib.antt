@@ -30,3 +30,8 @@ pub mod Candidates
 pub mod Runs
 pub mod Printed
 pub mod Laws
+pub mod Examples
+pub mod ExamplesValues
+pub mod ExamplesMatches
+pub mod ExamplesUnfoldings
+pub mod ExamplesRuns
