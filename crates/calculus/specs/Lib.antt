@@ -35,3 +35,5 @@ pub mod ExamplesValues
 pub mod ExamplesMatches
 pub mod ExamplesUnfoldings
 pub mod ExamplesRuns
+pub mod ExamplesPrinted
+pub mod ExamplesSteps
