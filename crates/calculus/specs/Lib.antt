@@ -37,3 +37,5 @@ pub mod ExamplesUnfoldings
 pub mod ExamplesRuns
 pub mod ExamplesPrinted
 pub mod ExamplesSteps
+pub mod ExamplesBare
+pub mod ExamplesCongruence
