@@ -6,19 +6,19 @@ use Rattle.calculus.proofs.Opened.{hashing}
 pub step_examples : StepExamples
 unfolding hashing
 step_examples =
-    record
-      { both_leave = refl
-      ; persistent_stays = refl
-      ; peek_leaves_the_datum = refl
-      ; persistent_datum_stays = refl
-      ; join_takes_both = refl
-      ; data_must_differ = refl
-      ; channels_must_agree = refl
-      ; patterns_must_match = refl
-      ; equal_ids = refl
-      ; no_repeat_with_a_linear_datum = refl
-      ; repeat_with_equal_ids = refl
-      ; built_in_takes = refl
-      ; stored_row_with_that_id = refl
-      ; it_is_stored = refl
-      }
+    record {
+      both_leave = refl;
+      persistent_stays = refl;
+      peek_leaves_the_datum = refl;
+      persistent_datum_stays = refl;
+      join_takes_both = refl;
+      data_must_differ = refl;
+      channels_must_agree = refl;
+      patterns_must_match = refl;
+      equal_ids = refl;
+      no_repeat_with_a_linear_datum = refl;
+      repeat_with_equal_ids = refl;
+      built_in_takes = refl;
+      stored_row_with_that_id = refl;
+      it_is_stored = refl;
+    }

@@ -12,3 +12,4 @@ pub mod ExamplesPrinted
 pub mod ExamplesSteps
 pub mod ExamplesBare
 pub mod ExamplesCongruence
+pub mod ExamplesForm

@@ -39,3 +39,4 @@ pub mod ExamplesPrinted
 pub mod ExamplesSteps
 pub mod ExamplesBare
 pub mod ExamplesCongruence
+pub mod ExamplesForm

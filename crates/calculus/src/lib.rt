@@ -5,6 +5,7 @@
 #![tactic(auto)]
 
 pub mod count;
+pub mod examples;
 pub mod fault;
 pub mod ids;
 pub mod laws;
