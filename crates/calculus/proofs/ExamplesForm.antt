@@ -1,6 +1,5 @@
 -- Proofs of the examples of trees that are closed processes or not.
-use Rattle.std.proofs.Common.{rules, arith, ◌≡◌, ◌≤◌, ◌<◌, ℕ, List, [], ◌∷◌, refl, inl, inr}
-use Rattle.std.specs.Prelude.{ℤ, pos, ⊤, ◌≤ℤ◌, ◌<ℤ◌, ◌⊎◌}
+use Rattle.std.proofs.Common.{rules, arith}
 use Rattle.calculus.specs.ExamplesForm.{FormExamples}
 
 pub form_examples : FormExamples

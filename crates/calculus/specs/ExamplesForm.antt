@@ -1,11 +1,10 @@
 -- Examples of trees that are closed processes or not.
-use Rattle.std.specs.Prelude.{◌^◌, ℕ, List, [], ◌∷◌, codes}
+use Rattle.std.specs.Prelude.{List, [], ◌∷◌, codes}
 use Rattle.calculus.specs.declared.plain.Origin.TheVariants as origins
-use Rattle.calculus.specs.declared.plain.Simple.TheVariants as simples
-use Rattle.calculus.specs.Tree.{name_var, new, some_process, same, not_this, simple, Tree}
+use Rattle.calculus.specs.Tree.{new, some_process, same, not_this, Tree}
 use Rattle.calculus.specs.Shape.{leaf, one, only}
 use Rattle.calculus.specs.Form.{IsClosed}
-use Rattle.calculus.specs.Examples.{whole, num, nil, the_var, the_name, list_of, tuple_of, call, sent, heard, on, thin, parts, a_var, a_name}
+use Rattle.calculus.specs.Examples.{num, nil, the_var, the_name, tuple_of, call, sent, heard, on, thin, parts, a_var, a_name}
 
 -- `for (P <- @1) { .. }` of these name patterns and this body
 abbrev pub hears : List Tree → Tree → Tree
