@@ -24,20 +24,20 @@ Refines o u = (o.price ≤ u.price) × (IsKnown o.answer → u ≡ o)
 same : {A : Type 0} (o : Outcome A) → Refines o o
 same o = (omega arith, λ k. refl)
 
-charged_more : {A : Type 0} (n : ℕ) (o u : Outcome A) → Refines o u → Refines (charged n o) (charged n u)
+pub charged_more : {A : Type 0} (n : ℕ) (o u : Outcome A) → Refines o u → Refines (charged n o) (charged n u)
 charged_more n o u h = (omega (arith, h.0), λ k. ap (charged n) (h.1 k))
 
-grows : {A B : Type 0} (n : ℕ) (a : Answer A) (f : A → Outcome B) → n ≤ (then_do n a f).price
+pub grows : {A B : Type 0} (n : ℕ) (a : Answer A) (f : A → Outcome B) → n ≤ (then_do n a f).price
 grows n (gives x) f = omega arith
 grows n (fails e) f = omega arith
 grows n unknown f = omega arith
 
-then_more : {A B : Type 0} (n : ℕ) (a : Answer A) (u : Outcome A) (f g : A → Outcome B) → Refines (record { price = n; answer = a }) u → ((x : A) → Refines (f x) (g x)) → Refines (then_do n a f) (after u g)
+pub then_more : {A B : Type 0} (n : ℕ) (a : Answer A) (u : Outcome A) (f g : A → Outcome B) → Refines (record { price = n; answer = a }) u → ((x : A) → Refines (f x) (g x)) → Refines (then_do n a f) (after u g)
 then_more n (gives x) u f g h k = subst (λ v. Refines (charged n (f x)) (after v g)) (sym (h.1 tt)) (charged_more n (f x) (g x) (k x))
 then_more n (fails e) u f g h k = subst (λ v. Refines (then_do n (fails e) f) (after v g)) (sym (h.1 tt)) (same (then_do n (fails e) g))
 then_more n unknown u f g h k = (omega (arith, h.0, grows u.price u.answer g), λ b. absurd b)
 
-after_more : {A B : Type 0} (o u : Outcome A) (f g : A → Outcome B) → Refines o u → ((x : A) → Refines (f x) (g x)) → Refines (after o f) (after u g)
+pub after_more : {A B : Type 0} (o u : Outcome A) (f g : A → Outcome B) → Refines o u → ((x : A) → Refines (f x) (g x)) → Refines (after o f) (after u g)
 after_more o u f g h k = then_more o.price o.answer u f g h k
 
 -- one way to unfold gives what the other gives where that is known
