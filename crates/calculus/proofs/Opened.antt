@@ -14,10 +14,11 @@ use Rattle.calculus.specs.Matching.{all_matches, bind_matches}
 use Rattle.calculus.specs.Unfolding.{unfold_in}
 use Rattle.calculus.specs.Root.{key, root}
 use Rattle.calculus.specs.Steps.{meeting}
+use Rattle.calculus.specs.Printed.{printed_text}
 
 -- opens the definitions that other proofs see folded
 unfoldable pub computing : ℕ
-unfolding digits be32 be64 placed sorted congruent congruent_to placed_by by_code ascending put renumber binary_answer unary_answer method_answer value values all_matches bind_matches unfold_in key root meeting
+unfolding digits be32 be64 placed sorted congruent congruent_to placed_by by_code ascending put renumber binary_answer unary_answer method_answer value values all_matches bind_matches unfold_in key root meeting printed_text
 computing = 0
 
 -- opens SHA-256 too

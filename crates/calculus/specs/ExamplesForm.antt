@@ -4,7 +4,7 @@ use Rattle.calculus.specs.declared.plain.Origin.TheVariants as origins
 use Rattle.calculus.specs.Tree.{new, some_process, same, not_this, Tree}
 use Rattle.calculus.specs.Shape.{leaf, one, only}
 use Rattle.calculus.specs.Form.{IsClosed}
-use Rattle.calculus.specs.Examples.{num, nil, the_var, the_name, tuple_of, call, sent, heard, on, thin, parts, a_var, a_name}
+use Rattle.calculus.specs.Examples.{word, num, nil, the_var, the_name, tuple_of, call, sent, heard, on, thin, parts, a_var, a_name}
 
 -- `for (P <- @1) { .. }` of these name patterns and this body
 abbrev pub hears : List Tree → Tree → Tree
@@ -24,6 +24,9 @@ pub record FormExamples : Type 0 where
   pub bound_name : IsClosed (hears (a_name ∷ []) (only (sent (the_name 0) (the_name 0 ∷ []))))
   -- `for (@x <- @1) { for (@={x} <- @1) { Nil } }`
   pub same_sees_outside : IsClosed (hears (a_var ∷ []) (hears (thin (one same (the_var 0)) ∷ []) nil))
+  -- `"a"`
+  pub a_text : IsClosed (word (codes "a"))
+
   -- a variable that nothing binds
   pub free_variable : IsNone (the_var 0)
   -- a name variable where a process is bound: `for (@x <- @1) { *x }`

@@ -296,5 +296,5 @@ abbrev mutual
   all_printed no_form ts b d n = []
 
 -- the printed text of a closed process
-abbrev pub printed_text : Tree → List ℕ
+unfoldable pub printed_text : Tree → List ℕ
 printed_text t = first_text (printed term t 0 0)
