@@ -26,7 +26,6 @@ pub record FormExamples : Type 0 where
   pub same_sees_outside : IsClosed (hears (a_var ∷ []) (hears (thin (one same (the_var 0)) ∷ []) nil))
   -- `"a"`
   pub a_text : IsClosed (word (codes "a"))
-
   -- a variable that nothing binds
   pub free_variable : IsNone (the_var 0)
   -- a name variable where a process is bound: `for (@x <- @1) { *x }`

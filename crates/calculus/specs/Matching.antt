@@ -160,11 +160,12 @@ form_matches l ts ms t = one_if (congruent (node l ts) t)
 abbrev pub piece_of : Label → Trees → List Piece → Piece
 piece_of l ts ms = record { whole = record { wide = is_wide l; tries = form_matches l ts ms }; inner = wholes ms }
 
--- a constituent of a pattern, and constituents
 abbrev mutual
+  -- a constituent of a pattern as it is tried
   pub piece : Tree → Piece
   piece (node l ts) = piece_of l ts (pieces ts)
 
+  -- constituents so
   pub pieces : Trees → List Piece
   pieces none = []
   pieces (also t ts) = piece t ∷ pieces ts
