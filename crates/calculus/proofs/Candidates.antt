@@ -1,5 +1,5 @@
 -- Each allowed step is among the candidates.
-use Rattle.std.proofs.Common.{◌≡◌, ℕ, suc, Bool, true, false, ◌&&◌, cond, List, [], ◌∷◌, ◌++◌, length, refl, ap, sym, ◌∙◌, subst, inl, inr}
+use Rattle.std.proofs.Common.{◌≡◌, ℕ, suc, Bool, true, false, not, ◌&&◌, ◌||◌, cond, List, [], ◌∷◌, ◌++◌, length, refl, ap, sym, ◌∙◌, subst, inl, inr}
 use Rattle.std.specs.Prelude.{◌⊎◌, ⊤, flat_map, map as each, Option, Some, None, count_by, is_none, option_and_then, IsSome}
 use Rattle.std.specs.Str.{bytes_eq}
 use Rattle.std.proofs.lemmas.Slice.Eq.{bytes_eq-Decides}
@@ -8,8 +8,9 @@ use Rattle.calculus.specs.Tree.{Tree}
 use Rattle.calculus.specs.Log.{Step}
 use Rattle.calculus.specs.Rows.{Row}
 use Rattle.calculus.specs.Steps.{Bag, standing, Held, Receiver, Datum, Meeting, with_id, row_choices, differ, as_receiver, as_datum, as_data, taken, all_taken, meet, meet_rows, meet_for, first_there, meeting, same_meeting, right_repeat}
-use Rattle.calculus.specs.Laws.{CandidatesSuffice, DataDiffer}
-use Rattle.calculus.specs.Candidates.{id_lists, next_step, row_steps, candidates, none_allowed}
+use Rattle.calculus.specs.Laws.{CandidatesSuffice, DataDiffer, EndIsDecided}
+use Rattle.calculus.specs.Runs.{Verdict, done, exhausted, faulted, verdict}
+use Rattle.calculus.specs.Candidates.{id_lists, next_step, row_steps, candidates, none_allowed, is_done}
 
 -- x stands in the list
 abbrev pub Member : {A : Type 0} → A → List A → Type 0
@@ -224,3 +225,20 @@ data_differ a s h = go (differ s.data_ids) (first_there (each (meet_for a.made s
     go : (d : Bool) (x : Option Meeting) → IsSome (cond d x None) → d ≡ true
     go true x h = refl
     go false x h = cc
+
+all_none : (b : Bag) (made ss : List Step) → ((s : Step) → meeting b made s ≡ None) → none_allowed b made ss ≡ true
+all_none b made [] h = refl
+all_none b made (s ∷ ss) h = cc (h s, all_none b made ss h)
+
+ended_for : (v : Verdict) (b : Bag) (made : List Step) → not (is_done v) || none_allowed b made (candidates b made) ≡ true → v ≡ done → (s : Step) → meeting b made s ≡ None
+ended_for done b made h e = candidates_suffice b made h
+ended_for exhausted b made h e = cc
+ended_for (faulted i f) b made h e = cc
+
+end_for : (v : Verdict) (b : Bag) (made : List Step) → (v ≡ done → (s : Step) → meeting b made s ≡ None) → not (is_done v) || none_allowed b made (candidates b made) ≡ true
+end_for done b made h = all_none b made (candidates b made) (h refl)
+end_for exhausted b made h = refl
+end_for (faulted i f) b made h = refl
+
+pub end_is_decided : EndIsDecided
+end_is_decided p cap a = (ended_for (verdict p cap a) a.bag a.made, end_for (verdict p cap a) a.bag a.made)

@@ -1,5 +1,5 @@
 -- Proofs of the examples of trees that are closed processes or not.
-use Rattle.std.proofs.Common.{rules, arith, ℕ, zero, suc, ◌<◌, List, [], ◌∷◌, refl}
+use Rattle.std.proofs.Common.{rules, arith, zero, suc}
 use Rattle.std.proofs.lemmas.Str.{IsUtf8-from_ascii}
 use Rattle.std.specs.Str.{IsAscii}
 use Rattle.std.specs.Prelude.{codes}

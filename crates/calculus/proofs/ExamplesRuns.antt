@@ -22,5 +22,6 @@ run_examples =
       take = refl;
       take_and_then_peek = (refl, refl);
       nothing_more = refl;
+      exhausted_at_once = refl;
       a_step_is_left = refl;
     }

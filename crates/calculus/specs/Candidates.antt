@@ -1,8 +1,10 @@
 -- A finite list of steps that decides whether any step is allowed.
-use Rattle.std.specs.Prelude.{ℕ, zero, suc, Bool, true, ◌&&◌, List, [], ◌∷◌, length, map as each, flat_map, count_by, Option, Some, None, is_none}
+use Rattle.std.specs.Prelude.{ℕ, zero, suc, Bool, true, false, not, ◌&&◌, ◌||◌, List, [], ◌∷◌, length, map as each, flat_map, count_by, Option, Some, None, is_none}
+use Rattle.calculus.specs.Outcome.{Prices}
 use Rattle.calculus.specs.Log.{Step}
 use Rattle.calculus.specs.Rows.{Row}
 use Rattle.calculus.specs.Steps.{Bag, standing, Receiver, as_receiver, same_meeting, meeting}
+use Rattle.calculus.specs.Runs.{State, Verdict, done, verdict}
 
 -- all lists of n ids of these rows
 abbrev pub id_lists : ℕ → List Row → List (List (List ℕ))
@@ -26,3 +28,12 @@ candidates b made = flat_map (λ r. row_steps (standing b) made r (as_receiver r
 abbrev pub none_allowed : Bag → List Step → List Step → Bool
 none_allowed b made [] = true
 none_allowed b made (s ∷ ss) = is_none (meeting b made s) && none_allowed b made ss
+
+-- whether a verdict is done
+abbrev pub is_done : Verdict → Bool
+is_done done = true
+is_done _ = false
+
+-- whether a run may end in this state, as the candidates show
+abbrev pub has_ended : Prices → ℕ → State → Bool
+has_ended p cap a = not (is_done (verdict p cap a)) || none_allowed a.bag a.made (candidates a.bag a.made)

@@ -9,12 +9,20 @@ use Rattle.calculus.specs.Shape.{leaf, one, two, many, process, only}
 use Rattle.calculus.specs.Examples.{whole, num, word, nil, the_var, the_name, op_on, sent, heard, on, thin, a_var, prices, hex, zeros, step}
 use Rattle.calculus.specs.Log.{Step}
 use Rattle.calculus.specs.Root.{root}
-use Rattle.calculus.specs.Candidates.{candidates, none_allowed}
+use Rattle.calculus.specs.Candidates.{has_ended}
 use Rattle.calculus.specs.Runs.{State, Verdict, done, exhausted, faulted, verdict, cost, next_rows, state_after}
 
 -- the source of the first path
 abbrev pub first_path_source : Tree
 first_path_source = only (one (new (origins.Plain ∷ [])) (process (sent (the_name 0) (num 5 ∷ []) ∷ heard (on (the_name 0) (a_var ∷ []) ∷ []) (only (sent (word (codes "out")) (the_var 0 ∷ []))) ∷ [])))
+
+-- the digest of its text
+abbrev pub first_path_digest : List ℕ
+first_path_digest = hex (codes "49fb0c722e238b8ec04ff088db9b402ce250629ad1a9fb34b47751f3c8fcefcf")
+
+-- its one step
+abbrev pub first_path_step : Step
+first_path_step = step (hex (codes "4635a4e937da233bb770ee40d025c55841f94e4ad89cbc2d263b44d0453c1843")) (hex (codes "7f23baccb68420097cb78b39b78f1cfddb354303d20f4cd69f8ac72398355d98") ∷ []) 0
 
 -- verdict, cost and next root of a state that a deploy from the empty checkpoint has come to
 abbrev pub result_of : ℕ → State → Verdict × (ℕ × List ℕ)
@@ -32,16 +40,16 @@ IsAllowed cap t source ss = is_some (state_after prices cap 9 [] t source ss) �
 abbrev pub IsRefused : ℕ → Tree → List ℕ → List Step → Type 0
 IsRefused cap t source ss = (is_some (state_after prices cap 9 [] t source []) ≡ true) × (is_some (state_after prices cap 9 [] t source ss) ≡ false)
 
--- after these steps, whether no candidate is allowed
+-- whether a run may end after these steps
 abbrev pub HasEnded : ℕ → Tree → List ℕ → List Step → Bool → Type 0
-HasEnded cap t source ss b = option_map (λ a. none_allowed a.bag a.made (candidates a.bag a.made)) (state_after prices cap 9 [] t source ss) ≡ Some b
+HasEnded cap t source ss b = option_map (has_ended prices cap) (state_after prices cap 9 [] t source ss) ≡ Some b
 
 -- verdicts, costs and roots, and which steps are allowed
 pub record RunExamples : Type 0 where
   -- `new c in { c!(5) | for (@x <- c) { @"out"!(x) } }` with a limit of 22
-  pub first_path : Comes 22 first_path_source (hex (codes "49fb0c722e238b8ec04ff088db9b402ce250629ad1a9fb34b47751f3c8fcefcf")) (step (hex (codes "4635a4e937da233bb770ee40d025c55841f94e4ad89cbc2d263b44d0453c1843")) (hex (codes "7f23baccb68420097cb78b39b78f1cfddb354303d20f4cd69f8ac72398355d98") ∷ []) 0 ∷ []) done 22 (hex (codes "6f62476791fb224f244f82b68b5997bde5a2d543e06d46dd4bc4e40369e948a1"))
+  pub first_path : Comes 22 first_path_source first_path_digest (first_path_step ∷ []) done 22 (hex (codes "6f62476791fb224f244f82b68b5997bde5a2d543e06d46dd4bc4e40369e948a1"))
   -- the same with a limit of 21
-  pub past_the_limit : Comes 21 first_path_source (hex (codes "49fb0c722e238b8ec04ff088db9b402ce250629ad1a9fb34b47751f3c8fcefcf")) (step (hex (codes "4635a4e937da233bb770ee40d025c55841f94e4ad89cbc2d263b44d0453c1843")) (hex (codes "7f23baccb68420097cb78b39b78f1cfddb354303d20f4cd69f8ac72398355d98") ∷ []) 0 ∷ []) exhausted 21 zeros
+  pub past_the_limit : Comes 21 first_path_source first_path_digest (first_path_step ∷ []) exhausted 21 zeros
   -- `Nil`
   pub nothing_to_do : Comes 1000 nil (hex (codes "e118b5c29cb4b975251601a6cc3209a4ea3eb0b429b205b679a8645da47da654")) [] done 0 zeros
   -- `@1!(3) | @1!(3)` keeps two rows
@@ -66,7 +74,9 @@ pub record RunExamples : Type 0 where
   pub take : IsAllowed 1000 (process (sent (num 1) (num 7 ∷ []) ∷ heard (on (num 1) (a_var ∷ []) ∷ []) nil ∷ two (receive kinds.Peek) (many row (on (num 1) (a_var ∷ []) ∷ [])) nil ∷ [])) (hex (codes "4c760c6d3a296f61eaf1bd204aa2e2df2ca5564d016c2033cfd5877b73fa49ce")) (step (hex (codes "15a0fd577e24082f23275a6da8b3acb8eee11284d9b62b671f10721f3fac007d")) (hex (codes "39356c23faa7aea788480c508f9881db51da8ae27c30c23c23d3c1d167a21b4d") ∷ []) 0 ∷ [])
   -- and cannot be peeked at afterwards
   pub take_and_then_peek : IsRefused 1000 (process (sent (num 1) (num 7 ∷ []) ∷ heard (on (num 1) (a_var ∷ []) ∷ []) nil ∷ two (receive kinds.Peek) (many row (on (num 1) (a_var ∷ []) ∷ [])) nil ∷ [])) (hex (codes "4c760c6d3a296f61eaf1bd204aa2e2df2ca5564d016c2033cfd5877b73fa49ce")) (step (hex (codes "15a0fd577e24082f23275a6da8b3acb8eee11284d9b62b671f10721f3fac007d")) (hex (codes "39356c23faa7aea788480c508f9881db51da8ae27c30c23c23d3c1d167a21b4d") ∷ []) 0 ∷ step (hex (codes "abbdcb17ff09601583507abd61425f7fc32737495c6d10bf22bf2b03bd5b6779")) (hex (codes "39356c23faa7aea788480c508f9881db51da8ae27c30c23c23d3c1d167a21b4d") ∷ []) 0 ∷ [])
-  -- after the step of the first path no step is allowed
-  pub nothing_more : HasEnded 22 first_path_source (hex (codes "49fb0c722e238b8ec04ff088db9b402ce250629ad1a9fb34b47751f3c8fcefcf")) (step (hex (codes "4635a4e937da233bb770ee40d025c55841f94e4ad89cbc2d263b44d0453c1843")) (hex (codes "7f23baccb68420097cb78b39b78f1cfddb354303d20f4cd69f8ac72398355d98") ∷ []) 0 ∷ []) true
-  -- and before it one is
-  pub a_step_is_left : HasEnded 22 first_path_source (hex (codes "49fb0c722e238b8ec04ff088db9b402ce250629ad1a9fb34b47751f3c8fcefcf")) [] false
+  -- after the step of the first path a run ends
+  pub nothing_more : HasEnded 22 first_path_source first_path_digest (first_path_step ∷ []) true
+  -- under a limit of 8 the source alone passes it
+  pub exhausted_at_once : HasEnded 8 first_path_source first_path_digest [] true
+  -- and before it one does not
+  pub a_step_is_left : HasEnded 22 first_path_source first_path_digest [] false

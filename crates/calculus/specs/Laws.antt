@@ -10,8 +10,8 @@ use Rattle.calculus.specs.Log.{Step}
 use Rattle.calculus.specs.Rows.{Row}
 use Rattle.calculus.specs.Unfolding.{unfold_in, Unfolds}
 use Rattle.calculus.specs.Steps.{Bag, differ, meeting}
-use Rattle.calculus.specs.Candidates.{candidates, none_allowed}
-use Rattle.calculus.specs.Runs.{Work, State, Allowed, state_after, Leads}
+use Rattle.calculus.specs.Candidates.{candidates, none_allowed, has_ended}
+use Rattle.calculus.specs.Runs.{Work, State, Allowed, state_after, Leads, IsEnd}
 
 -- each tree is congruent to itself
 abbrev pub CongruenceIsReflexive : Type 0
@@ -48,3 +48,7 @@ DataDiffer = (a : State) (s : Step) → Allowed a s → differ s.data_ids ≡ tr
 -- where none of the candidates is allowed, no step is
 abbrev pub CandidatesSuffice : Type 0
 CandidatesSuffice = (b : Bag) (made : List Step) → none_allowed b made (candidates b made) ≡ true → (s : Step) → meeting b made s ≡ None
+
+-- the candidates decide whether a run may end
+abbrev pub EndIsDecided : Type 0
+EndIsDecided = (p : Prices) (cap : ℕ) (a : State) → (has_ended p cap a ≡ true → IsEnd p cap a) × (IsEnd p cap a → has_ended p cap a ≡ true)

@@ -26,8 +26,8 @@ pub mod Rows
 pub mod Unfolding
 pub mod Root
 pub mod Steps
-pub mod Candidates
 pub mod Runs
+pub mod Candidates
 pub mod Printed
 pub mod Laws
 pub mod Examples

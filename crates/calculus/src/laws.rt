@@ -1,6 +1,6 @@
 // Each law of the definitions stands in the contract of one function, which does nothing.
 
-ghost use Rattle.calculus.specs.Laws.{CandidatesSuffice, CongruenceIsReflexive, DataDiffer, NilOffersNothing, OneState, OneUnfolding, RoomKeepsState, RoomKeepsWork, VariableMatchesOnce};
+ghost use Rattle.calculus.specs.Laws.{CandidatesSuffice, CongruenceIsReflexive, DataDiffer, EndIsDecided, NilOffersNothing, OneState, OneUnfolding, RoomKeepsState, RoomKeepsWork, VariableMatchesOnce};
 
 /// Each process is congruent to itself.
 pub fn congruence_is_reflexive()
@@ -45,4 +45,9 @@ pub fn data_differ()
 /// Where none of the candidates is allowed, no step is.
 pub fn candidates_suffice()
     ensures law { CandidatesSuffice }
+{}
+
+/// The candidates decide whether a run may end in a state.
+pub fn end_is_decided()
+    ensures law { EndIsDecided }
 {}
