@@ -1,1 +1,16 @@
 pub mod BytesLemmas
+pub mod Opened
+pub mod Reflexive
+pub mod Room
+pub mod States
+pub mod Candidates
+pub mod Least
+pub mod ExamplesValues
+pub mod ExamplesMatches
+pub mod ExamplesUnfoldings
+pub mod ExamplesRuns
+pub mod ExamplesPrinted
+pub mod ExamplesSteps
+pub mod ExamplesBare
+pub mod ExamplesCongruence
+pub mod ExamplesForm

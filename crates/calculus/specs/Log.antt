@@ -1,5 +1,5 @@
 -- Logs: the steps of a run in order, under what they were made from, and their text.
-use Rattle.std.specs.Prelude.{ℕ, List, [], ◌∷◌, ◌++◌, length, map as each, codes}
+use Rattle.std.specs.Prelude.{ℕ, List, ◌∷◌, ◌++◌, length, map as each, codes}
 use Rattle.calculus.specs.Bytes.{be32, be64, joined}
 
 -- a step: a receiver's id, the ids of its data in the order of its sorted binds, and how often the very same step was made before

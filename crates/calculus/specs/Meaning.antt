@@ -1,7 +1,7 @@
 -- What a process, a name and a pattern of the program stand for: one level, in which each constituent is already the tree that it stands for, and the fold of it.
-use Rattle.std.specs.Prelude.{ℕ, List, [], ◌∷◌, Option, option_map, string_bytes, map as each}
+use Rattle.std.specs.Prelude.{ℕ, List, Option, option_map, string_bytes, map as each}
 use Rattle.calculus.specs.Tree.{Label, par, row, bool, int, str, uri, bytes, fresh, list, tuple, set, dict, pair, send, receive, bind, match, case, bundle, unary, binary, method, pattern, rest, any, simple, same, both, either, not_this, list_pattern, set_pattern, map_pattern}
-use Rattle.calculus.specs.Written.{Form, in_process, in_pattern, around, use_process, use_name, drop, quote, declare, bind_process, bind_name, bind_rest, quote_pattern, closed, Written, bare_form, form_of_one, form_of_two, form_of_three, form_of}
+use Rattle.calculus.specs.Written.{in_process, in_pattern, around, use_process, use_name, drop, quote, declare, bind_process, bind_name, bind_rest, quote_pattern, closed, Written, bare_form, form_of_one, form_of_two, form_of_three, form_of}
 use Rattle.calculus.specs.declared.plain.Ground.{Ground}
 use Rattle.calculus.specs.declared.plain.Ground.TheVariants as ground
 use Rattle.calculus.specs.declared.plain.Rest.{Rest}

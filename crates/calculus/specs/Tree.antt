@@ -1,7 +1,7 @@
 -- Processes without names, as trees: a form's label, and its constituents in written order.
-use Rattle.std.specs.Prelude.{◌≡◌, ℕ, zero, suc, ◌+◌, Bool, true, false, List, [], ◌∷◌, ℤ, pos, negsuc, nat_abs, refl}
+use Rattle.std.specs.Prelude.{◌≡◌, ℕ, zero, suc, ◌+◌, Bool, true, false, List, [], ◌∷◌, ℤ, pos, nat_abs, refl}
 use Rattle.std.proofs.Common.{ap, map}
-use Rattle.std.specs.Coded.{Coded, code_by, coded_ℕ, coded_ℤ, coded_bool, coded_list, coded×}
+use Rattle.std.specs.Coded.{Coded, code_by, coded_ℕ, coded_ℤ, coded_list, coded×}
 use base.Stored.{Gv, gnil, gcons}
 use Rattle.calculus.specs.Kinds.{pick, simple_number, simple_of, simple_of-number, kind_number, kind_of, kind_of-number, rights_number, rights_of, rights_of-number, unary_op_number, unary_op_of, unary_op_of-number, binary_op_number, binary_op_of, binary_op_of-number, rest_number, rest_of, rest_of-number, origin_number, origin_of, origin_of-number}
 use Rattle.calculus.specs.declared.plain.Simple.{Simple}
@@ -12,6 +12,7 @@ use Rattle.calculus.specs.declared.plain.BinaryOp.{BinaryOp}
 use Rattle.calculus.specs.declared.plain.TermRest.{TermRest}
 use Rattle.calculus.specs.declared.plain.Origin.{Origin}
 
+-- the forms of processes and patterns, with the data in them: `par` and `pattern` hold parts, and `row` holds constituents that stand in a list of their own
 pub data Label : Type 0 where
   par : Label
   row : Label
@@ -53,9 +54,11 @@ pub data Label : Type 0 where
   map_pattern : Label
 
 mutual
+  -- a form and its constituents
   pub data Tree : Type 0 where
     node : Label → Trees → Tree
 
+  -- trees in order
   pub data Trees : Type 0 where
     none : Trees
     also : Tree → Trees → Trees
@@ -65,27 +68,31 @@ abbrev pub trees : List Tree → Trees
 trees [] = none
 trees (t ∷ ts) = also t (trees ts)
 
--- the number of nodes
 abbrev mutual
+  -- the number of nodes of a tree
   pub weight : Tree → ℕ
   weight (node l ts) = weights ts + 1
 
+  -- the number of nodes of these
   pub weights : Trees → ℕ
   weights none = 0
   weights (also t ts) = weight t + weights ts
 
--- a label as plain data, from which it is had back
+-- what a label is as plain data: the number of its form, and the data in it
 abbrev pub Plain : Type 0
 Plain = ℕ × (ℤ × List ℕ)
 
+-- 1 for true
 abbrev bit : Bool → ℕ
 bit true = 1
 bit false = 0
 
+-- true for a number above 0
 abbrev bit_of : ℕ → Bool
 bit_of zero = false
 bit_of (suc n) = true
 
+-- a label as that
 abbrev pub plain : Label → Plain
 plain par = (0, (pos 0, []))
 plain row = (1, (pos 0, []))
@@ -126,6 +133,7 @@ plain list_pattern = (35, (pos 0, []))
 plain set_pattern = (36, (pos 0, []))
 plain map_pattern = (37, (pos 0, []))
 
+-- the label that stands so
 abbrev pub label_of : Plain → Label
 label_of p = pick par
     (par ∷
@@ -167,10 +175,12 @@ label_of p = pick par
     set_pattern ∷
     map_pattern ∷ []) p.0
 
+-- origins are had back from their numbers
 origins_back : (xs : List Origin) → map origin_of (map origin_number xs) ≡ xs
 origins_back [] = refl
 origins_back (x ∷ xs) = cc (origin_of-number x, origins_back xs)
 
+-- a label is had back from its plain data
 pub label_of-plain : (l : Label) → label_of (plain l) ≡ l
 label_of-plain par = refl
 label_of-plain row = refl
@@ -213,24 +223,29 @@ label_of-plain list_pattern = refl
 label_of-plain set_pattern = refl
 label_of-plain map_pattern = refl
 
+-- how a label is stored
 abbrev pub label_code : Coded Label
 label_code = code_by Plain (coded× coded_ℕ (coded× coded_ℤ (coded_list coded_ℕ))) plain label_of label_of-plain
 
 abbrev mutual
+  -- how a tree is stored
   pub stored : Tree → Gv
   stored (node l ts) = gcons (label_code.code l) (stored_all ts)
 
+  -- how trees are stored
   pub stored_all : Trees → Gv
   stored_all none = gnil
   stored_all (also t ts) = gcons (stored t) (stored_all ts)
 
 mutual
+  -- trees that are stored alike are one
   pub stored-one : (t u : Tree) → stored t ≡ stored u → t ≡ u
   stored-one (node l ts) (node m us) e =
       let p : l ≡ m = label_code.inj l m (cc) in
       let q : ts ≡ us = stored_all-one ts us (cc) in
       cc
 
+  -- and so are lists of them
   pub stored_all-one : (ts us : Trees) → stored_all ts ≡ stored_all us → ts ≡ us
   stored_all-one none none e = refl
   stored_all-one none (also u us) e = cc
@@ -240,5 +255,6 @@ mutual
       let q : ts ≡ us = stored_all-one ts us (cc) in
       cc
 
+-- trees as values of contracts
 abbrev pub tree_code : Coded Tree
 tree_code = record { code = stored; inj = stored-one }

@@ -19,9 +19,11 @@ pub data Form : Type 0 where
   closed : Form
 
 mutual
+  -- a form and its constituents
   pub data Written : Type 0 where
     form : Form → Writtens → Written
 
+  -- such trees in order
   pub data Writtens : Type 0 where
     no_more : Writtens
     more : Written → Writtens → Writtens

@@ -5,8 +5,10 @@
 #![tactic(auto)]
 
 pub mod count;
+pub mod examples;
 pub mod fault;
 pub mod ids;
+pub mod laws;
 pub mod plain;
 pub mod process;
 
