@@ -13,3 +13,7 @@ pub mod ExamplesSteps
 pub mod ExamplesBare
 pub mod ExamplesCongruence
 pub mod ExamplesForm
+pub mod Prefixes
+pub mod Heads
+pub mod Known
+pub mod Tails

@@ -40,3 +40,4 @@ pub mod ExamplesSteps
 pub mod ExamplesBare
 pub mod ExamplesCongruence
 pub mod ExamplesForm
+pub mod CodeLaws
