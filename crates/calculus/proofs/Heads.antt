@@ -1,7 +1,7 @@
 -- The head of a form's code in three pieces: the form's own byte, the form without its data, and what follows the byte.
-use Rattle.std.proofs.Common.{◌≡◌, ℕ, zero, suc, ◌<◌, ◌≤◌, ◌+◌, Bool, true, false, cond, List, [], ◌∷◌, ◌++◌, map as each, length, refl, sym, ap, ◌∙◌, arith}
-use Rattle.std.specs.Prelude.{⊤, ℤ, pos, ◌+ℤ◌, ◌^◌, nat_abs}
-use Rattle.calculus.specs.Tree.{Label, par, row, bool, int, str, uri, bytes, fresh, var, name_var, list, tuple, set, dict, pair, send, receive, bind, new, match, case, bundle, unary, binary, method, pattern, rest, any, some_process, some_name, simple, same, both, either, not_this, list_pattern, set_pattern, map_pattern}
+use Rattle.std.proofs.Common.{◌≡◌, ℕ, true, List, [], ◌∷◌, ◌++◌, map as each, length, refl}
+use Rattle.std.specs.Prelude.{pos, ◌+ℤ◌, ◌^◌, nat_abs}
+use Rattle.calculus.specs.Tree.{Label, par, row, bool, int, str, uri, bytes, fresh, var, name_var, list, tuple, set, dict, send, receive, new, match, bundle, unary, binary, method, pattern, rest, any, some_process, some_name, simple, same, both, either, not_this, list_pattern, set_pattern, map_pattern}
 use Rattle.calculus.specs.Kinds.{simple_number, kind_number, rights_number, unary_op_number, binary_op_number, rest_number, origin_number}
 use Rattle.calculus.specs.declared.plain.Simple.TheVariants as simples
 use Rattle.calculus.specs.declared.plain.Kind.TheVariants as kinds_of_receive
@@ -12,7 +12,7 @@ use Rattle.calculus.specs.declared.plain.TermRest.TheVariants as rests
 use Rattle.calculus.specs.Bytes.{be32, be64}
 use Rattle.calculus.specs.Congruence.{is_bag}
 use Rattle.calculus.specs.Code.{byte_of, text, head}
-use Rattle.calculus.specs.Form.{Sort, term, part, a_bind, a_case, a_rest, pat, name_pat, pat_part, name_part, row_of, pair_of, Kids, all, these, no_form, part_kids, pat_kids, name_kids, kids}
+use Rattle.calculus.specs.Form.{Sort, term, part, a_bind, a_case, a_rest, pat, name_pat, pat_part, name_part, row_of, pair_of, part_kids, pat_kids, name_kids, kids}
 
 -- the byte that is a form's own, where it has one
 abbrev pub lead : Label → List ℕ

@@ -1,5 +1,5 @@
 -- A form's own byte shows which form it is among those of one sort.
-use Rattle.std.proofs.Common.{◌≡◌, ℕ, zero, suc, ◌+◌, Bool, true, false, cond, List, [], ◌∷◌, ◌++◌, length, refl, sym, ap, ◌∙◌, arith}
+use Rattle.std.proofs.Common.{◌≡◌, ℕ, true, cond, List, [], ◌∷◌, length, refl, sym, ap, ◌∙◌}
 use Rattle.std.specs.Prelude.{⊤, pos}
 use Rattle.std.specs.Str.{bytes_eq}
 use Rattle.calculus.specs.Tree.{Label, par, row, bool, int, str, uri, bytes, fresh, var, name_var, list, tuple, set, dict, pair, send, receive, bind, new, match, case, bundle, unary, binary, method, pattern, rest, any, some_process, some_name, simple, same, both, either, not_this, list_pattern, set_pattern, map_pattern}
@@ -9,7 +9,7 @@ use Rattle.calculus.specs.declared.plain.Rights.TheVariants as rights
 use Rattle.calculus.specs.declared.plain.UnaryOp.TheVariants as unary_ops
 use Rattle.calculus.specs.declared.plain.BinaryOp.TheVariants as binary_ops
 use Rattle.calculus.specs.declared.plain.TermRest.TheVariants as rests
-use Rattle.calculus.specs.Form.{Sort, term, part, a_bind, a_case, a_rest, pat, name_pat, pat_part, name_part, row_of, pair_of, Kids, all, these, no_form, part_kids, pat_kids, name_kids, kids}
+use Rattle.calculus.specs.Form.{Sort, term, part, a_bind, a_case, a_rest, pat, name_pat, pat_part, name_part, row_of, pair_of, Kids, no_form, part_kids, pat_kids, name_kids, kids}
 use Rattle.calculus.proofs.Heads.{lead, blank}
 
 -- there is such a form

@@ -17,3 +17,9 @@ pub mod Prefixes
 pub mod Heads
 pub mod Known
 pub mod Tails
+pub mod Sorting
+pub mod Counted
+pub mod Meeting
+pub mod Formed
+pub mod Splitting
+pub mod FromFits

@@ -1,5 +1,5 @@
 -- Lists of bytes of which neither is a proper prefix of the other.
-use Rattle.std.proofs.Common.{◌≡◌, ℕ, zero, suc, ◌<◌, ◌≤◌, ◌+◌, List, [], ◌∷◌, ◌++◌, length, refl, sym, ap, ◌∙◌, arith}
+use Rattle.std.proofs.Common.{◌≡◌, ℕ, List, [], ◌∷◌, ◌++◌, length, refl, arith}
 use Rattle.std.specs.Prelude.{⊤}
 use Rattle.calculus.specs.CodeLaws.{Splits}
 use Rattle.calculus.specs.Bytes.{joined}

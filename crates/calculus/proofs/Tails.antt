@@ -1,17 +1,14 @@
 -- What follows a form's own byte: a length and as many bytes, a number of constituents, or bytes whose number is the form's.
-use Rattle.std.proofs.Common.{◌≡◌, ℕ, zero, suc, ◌<◌, ◌≤◌, ◌+◌, ◌*◌, ◌^◌, Bool, true, false, cond, List, [], ◌∷◌, ◌++◌, map as each, length, refl, sym, ap, ◌∙◌, subst, arith, length-append}
+use Rattle.std.proofs.Common.{◌≡◌, ℕ, ◌<◌, ◌+◌, ◌*◌, ◌^◌, Bool, true, false, List, [], ◌∷◌, ◌++◌, map as each, length, refl, sym, ap, ◌∙◌, subst, arith, length-append}
 use Rattle.std.proofs.lemmas.List.{length-map}
-use Rattle.std.specs.Prelude.{⊤, ℤ, pos, ◌+ℤ◌, nat_abs}
-use Rattle.std.proofs.lemmas.Bool.{false≢true}
-use Rattle.calculus.specs.Tree.{Label, par, row, bool, int, str, uri, bytes, fresh, var, name_var, list, tuple, set, dict, pair, send, receive, bind, new, match, case, bundle, unary, binary, method, pattern, rest, any, some_process, some_name, simple, same, both, either, not_this, list_pattern, set_pattern, map_pattern, plain}
+use Rattle.std.specs.Prelude.{⊤, pos, ◌+ℤ◌, nat_abs}
+use Rattle.calculus.specs.Tree.{Label, par, row, bool, int, str, uri, bytes, fresh, var, name_var, list, tuple, set, dict, send, receive, new, bundle, unary, binary, method, pattern, rest, simple, plain}
 use Rattle.calculus.specs.Kinds.{origin_number}
 use Rattle.calculus.specs.Bytes.{be32, be64}
-use Rattle.calculus.specs.Code.{text, head}
+use Rattle.calculus.specs.Code.{text}
 use Rattle.calculus.specs.CodeLaws.{Splits}
-use Rattle.calculus.specs.Form.{Sort, term, part, a_bind, a_case, a_rest, pat, name_pat, pat_part, name_part, row_of, pair_of, Kids, kids}
-use Rattle.calculus.proofs.Prefixes.{Splits-append, Splits-length, cut}
-use Rattle.calculus.proofs.Heads.{lead, tail, blank, head-parts}
-use Rattle.calculus.proofs.Known.{IsForm, one-form, same-length}
+use Rattle.calculus.proofs.Prefixes.{Splits-append, Splits-length}
+use Rattle.calculus.proofs.Heads.{tail, blank}
 
 -- the number of digits to the base 256, after those of a
 abbrev pub number : ℕ → List ℕ → ℕ
@@ -111,7 +108,7 @@ unfolding TailIs
 split_by true l m n k e p q a b = rw (p, q) (Splits-text (plain l).1.1 (plain m).1.1 (rw p at a) (rw q at b))
 split_by false l m n k e p q a b = Splits-length (tail l n) (tail m k) (p ∙ ap width e ∙ sym q)
 
-tails : (l m : Label) (n k : ℕ) → blank l ≡ blank m → IsFine l → IsFine m → length (tail l n) < 2 ^ 32 → length (tail m k) < 2 ^ 32 → Splits (tail l n) (tail m k)
+pub tails : (l m : Label) (n k : ℕ) → blank l ≡ blank m → IsFine l → IsFine m → length (tail l n) < 2 ^ 32 → length (tail m k) < 2 ^ 32 → Splits (tail l n) (tail m k)
 tails l m n k e h g a b =
     let q = subst (λ (x : Label). TailIs (is_text x) m k) (sym e) (tail-is m k g) in
     split_by (is_text (blank l)) l m n k e (tail-is l n h) q a b

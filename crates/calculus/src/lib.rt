@@ -4,6 +4,7 @@
 //! docs/CALCULUS.md tells in plain words.
 #![tactic(auto)]
 
+pub mod code_laws;
 pub mod count;
 pub mod examples;
 pub mod fault;
