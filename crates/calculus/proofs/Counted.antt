@@ -33,27 +33,6 @@ counted-tail dict n h = refl
 counted-tail pattern n h = refl
 counted-tail _ n h = absurd (false≢true h)
 
--- the number of constituents matters only where the head shows it
-pub kids-count : (l : Label) (s : Sort) (n k : ℕ) → (counted l ≡ true → n ≡ k) → kids s l n ≡ kids s l k
-kids-count par s n k h = ap (kids s par) (h refl)
-kids-count row s n k h = ap (kids s row) (h refl)
-kids-count list s n k h = ap (kids s list) (h refl)
-kids-count tuple s n k h = ap (kids s tuple) (h refl)
-kids-count set s n k h = ap (kids s set) (h refl)
-kids-count dict s n k h = ap (kids s dict) (h refl)
-kids-count pattern s n k h = ap (kids s pattern) (h refl)
-kids-count _ term n k h = refl
-kids-count _ part n k h = refl
-kids-count _ a_bind n k h = refl
-kids-count _ a_case n k h = refl
-kids-count _ a_rest n k h = refl
-kids-count _ pat n k h = refl
-kids-count _ name_pat n k h = refl
-kids-count _ pat_part n k h = refl
-kids-count _ name_part n k h = refl
-kids-count _ (row_of s) n k h = refl
-kids-count _ (pair_of s) n k h = refl
-
 -- a form whose number of constituents is not shown holds sorts in turn, and so does each that is no bag
 abbrev pub Fixed : Bool → Kids → Type 0
 Fixed true p = ⊤

@@ -13,9 +13,9 @@ use Rattle.calculus.proofs.Tails.{length-be32}
 use Rattle.calculus.proofs.Sorting.{total-arranged}
 
 abbrev mutual
-  -- a tree of this sort, where P holds of each label in it
+  -- a tree of this sort, where P holds of each label in it; a name pattern may here have name variables beside other parts
   pub Formed : (Label → Type 0) → Sort → Tree → Type 0
-  Formed P s (node l ts) = P l × Holds P (kids s l (count ts)) ts
+  Formed P s (node l ts) = P l × Holds P (kids s l 0) ts
 
   pub Holds : (Label → Type 0) → Kids → Trees → Type 0
   Holds P (all s) none = ⊤
@@ -34,7 +34,7 @@ is_form P no_form ts h = absurd h
 module _ (P Q : Label → Type 0) (f : (l : Label) → P l → Q l) where
   mutual
     pub Formed-map : (s : Sort) (t : Tree) → Formed P s t → Formed Q s t
-    Formed-map s (node l ts) h = (f l h.0, Holds-map (kids s l (count ts)) ts h.1)
+    Formed-map s (node l ts) h = (f l h.0, Holds-map (kids s l 0) ts h.1)
 
     Holds-map : (p : Kids) (ts : Trees) → Holds P p ts → Holds Q p ts
     Holds-map (all s) none h = tt
@@ -50,15 +50,15 @@ IsFull : Kids → Type 0
 IsFull (these (s ∷ ss)) = ⊤
 IsFull _ = ⊥
 
-own-byte : (s : Sort) (l : Label) (n : ℕ) → length (lead l) ≡ 1 → (0 < length (head l n)) ⊎ IsFull (kids s l n)
+own-byte : (s : Sort) (l : Label) (n : ℕ) → length (lead l) ≡ 1 → (0 < length (head l n)) ⊎ IsFull (kids s l 0)
 own-byte s l n e = inl (omega (arith, ap length (head-parts l n), length-append (lead l) (tail l n)))
 
 -- a form has a head or constituents
-solid : (s : Sort) (l : Label) (n : ℕ) → IsForm (kids s l n) → (0 < length (head l n)) ⊎ IsFull (kids s l n)
+solid : (s : Sort) (l : Label) (n : ℕ) → IsForm (kids s l 0) → (0 < length (head l n)) ⊎ IsFull (kids s l 0)
 unfolding IsFull
-solid part l n h = own-byte part l n (known part l n h).1
-solid pat_part l n h = own-byte pat_part l n (known pat_part l n h).1
-solid name_part l n h = own-byte name_part l n (known name_part l n h).1
+solid part l n h = own-byte part l n (known part l 0 h).1
+solid pat_part l n h = own-byte pat_part l n (known pat_part l 0 h).1
+solid name_part l n h = own-byte name_part l n (known name_part l 0 h).1
 solid term par n h = inl (omega (arith, length-be32 n))
 solid term _ n h = absurd h
 solid a_bind bind n h = inr tt
@@ -87,7 +87,7 @@ module _ (P : Label → Type 0) where
 
     pub some-code : (s : Sort) (t : Tree) → Formed P s t → 0 < length (code t)
     some-code s (node l ts) h =
-        let p = kids s l (count ts) in
+        let p = kids s l 0 in
         ⊎_elim (λ (a : 0 < length (head l (count ts))). omega (arith, length-code l ts)) (λ (a : IsFull p). omega (arith, length-code l ts, some-joined p ts h.1 a)) (solid s l (count ts) (is_form P p ts h.1))
 
     some-joined : (p : Kids) (ts : Trees) → Holds P p ts → IsFull p → 0 < length (joined (codes ts))

@@ -23,3 +23,7 @@ pub mod Meeting
 pub mod Formed
 pub mod Splitting
 pub mod FromFits
+pub mod Ordered
+pub mod Counting
+pub mod Alike
+pub mod Reading

@@ -8,10 +8,12 @@ use Rattle.calculus.specs.Code.{head, arranged, code, codes}
 use Rattle.calculus.specs.CodeLaws.{IsShort, Splits}
 use Rattle.calculus.specs.Form.{Sort, Kids, all, these, no_form, kids}
 use Rattle.calculus.proofs.Prefixes.{Splits-append, Splits-joined, Together}
+use Rattle.calculus.proofs.Known.{IsForm}
 use Rattle.calculus.proofs.Tails.{IsFine}
 use Rattle.calculus.proofs.Sorting.{Each, together-arranged}
 use Rattle.calculus.proofs.Counted.{counted, Fixed, fixed, Loose, loose}
-use Rattle.calculus.proofs.Meeting.{heads, same-bag, same-count, same-kids}
+use Rattle.calculus.proofs.Meeting.{heads, same-bag, same-count, same-kids, same-blank, same-tail}
+use Rattle.calculus.proofs.Heads.{blank, tail}
 use Rattle.calculus.proofs.Formed.{Formed, Holds, is_form, length-code, count-le}
 
 -- the codes of these have room in four bytes together
@@ -53,21 +55,45 @@ arrange true d (these ss) ts us f o c h = absurd o
 arrange false d (these ss) ts us f o c h = h
 arrange b d no_form ts us f o c h = absurd h
 
+-- two forms of one sort
+module _ (s : Sort) (l m : Label) (ts us : Trees) (h : Formed IsFine s (node l ts)) (k : Formed IsFine s (node m us)) (a : IsShort (node l ts)) (b : IsShort (node m us)) where
+  one_is : IsForm (kids s l 0)
+  one_is = is_form IsFine (kids s l 0) ts h.1
+
+  other_is : IsForm (kids s m 0)
+  other_is = is_form IsFine (kids s m 0) us k.1
+
+  one_few : count ts < 2 ^ 32
+  one_few = omega (arith, count-le IsFine (kids s l 0) ts h.1, kids-short l ts a)
+
+  other_few : count us < 2 ^ 32
+  other_few = omega (arith, count-le IsFine (kids s m 0) us k.1, kids-short m us b)
+
+  pub heads_split : Splits (head l (count ts)) (head m (count us))
+  heads_split = heads s l m (count ts) (count us) one_is other_is h.0 k.0 (head-short l ts a) (head-short m us b)
+
+  -- with one head
+  module _ (e : head l (count ts) ≡ head m (count us)) where
+    pub blanks : blank l ≡ blank m
+    blanks = same-blank s l m (count ts) (count us) one_is other_is e one_few other_few
+
+    pub tails_equal : tail l (count ts) ≡ tail m (count us)
+    tails_equal = same-tail s l m (count ts) (count us) one_is other_is e one_few other_few
+
+    pub same_holds : Holds IsFine (kids s l 0) us
+    same_holds = subst (λ (q : Kids). Holds IsFine q us) (same-kids s l m (count ts) (count us) one_is other_is e one_few other_few) k.1
+
+    pub sides : Apart (kids s l 0) (codes ts) (codes us) → Together (arranged (is_bag l) (codes ts)) (arranged (is_bag m) (codes us))
+    sides apart =
+        subst (λ (x : Bool). Together (arranged (is_bag l) (codes ts)) (arranged x (codes us))) (same-bag s l m (count ts) (count us) one_is other_is e one_few other_few)
+        (arrange (is_bag l) (counted l) (kids s l 0) ts us (fixed l s 0) (loose l s 0) (same-count s l m (count ts) (count us) one_is other_is e one_few other_few) apart)
+
 mutual
   pub splits : (s : Sort) (t u : Tree) → Formed IsFine s t → Formed IsFine s u → IsShort t → IsShort u → Splits (code t) (code u)
   splits s (node l ts) (node m us) h k a b =
-      let n = count ts in
-      let o = count us in
-      let p = kids s l n in
-      let fl = is_form IsFine p ts h.1 in
-      let fm = is_form IsFine (kids s m o) us k.1 in
-      Splits-append (head l n) (head m o) (joined (arranged (is_bag l) (codes ts))) (joined (arranged (is_bag m) (codes us))) (heads s l m n o fl fm h.0 k.0 (head-short l ts a) (head-short m us b))
-      (λ e. let x : n < 2 ^ 32 = omega (arith, count-le IsFine p ts h.1, kids-short l ts a) in
-      let y : o < 2 ^ 32 = omega (arith, count-le IsFine (kids s m o) us k.1, kids-short m us b) in
-      let g = subst (λ (q : Kids). Holds IsFine q us) (same-kids s l m n o fl fm e x y) k.1 in
-      let apart = splits_kids p ts us h.1 g (kids-short l ts a) (kids-short m us b) in
-      let side = arrange (is_bag l) (counted l) p ts us (fixed l s n) (loose l s n) (same-count s l m n o fl fm e x y) apart in
-      Splits-joined (arranged (is_bag l) (codes ts)) (arranged (is_bag m) (codes us)) (rw (← same-bag s l m n o fl fm e x y) side))
+      Splits-append (head l (count ts)) (head m (count us)) (joined (arranged (is_bag l) (codes ts))) (joined (arranged (is_bag m) (codes us))) (heads_split s l m ts us h k a b)
+      (λ e. let apart = splits_kids (kids s l 0) ts us h.1 (same_holds s l m ts us h k a b e) (kids-short l ts a) (kids-short m us b) in
+      Splits-joined (arranged (is_bag l) (codes ts)) (arranged (is_bag m) (codes us)) (sides s l m ts us h k a b e apart))
 
   pub splits_kids : (p : Kids) (ts us : Trees) → Holds IsFine p ts → Holds IsFine p us → AreShort ts → AreShort us → Apart p (codes ts) (codes us)
   splits_kids (all s) none us h k a b = tt
