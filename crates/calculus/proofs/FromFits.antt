@@ -25,7 +25,7 @@ either_part : (P : Label → Type 0) (b : Bool) (ts : Trees) → Holds P (cond b
 either_part P true ts h = h
 either_part P false ts h = as_name_parts P ts h
 
-any_number : (P : Label → Type 0) (s : Sort) (l : Label) (n : ℕ) (ts : Trees) → Holds P (kids s l n) ts → Holds P (kids s l 0) ts
+pub any_number : (P : Label → Type 0) (s : Sort) (l : Label) (n : ℕ) (ts : Trees) → Holds P (kids s l n) ts → Holds P (kids s l 0) ts
 any_number P name_pat pattern n ts h = either_part P (leb n 1) ts h
 any_number P name_pat _ n ts h = h
 any_number P part l n ts h = h
@@ -62,7 +62,7 @@ module _ (P : Label → Type 0) (f : (s : Sort) (v : Scope) (l : Label) (ts : Tr
     held (these (s ∷ ss)) v o (also t (also u us)) h = (formed s v t h.0, held (these ss) v o (also u us) h.1)
     held no_form v o ts h = absurd h
 
-fine : (s : Sort) (v : Scope) (l : Label) (ts : Trees) → IsPlain s v l ts → IsFine l
+pub fine : (s : Sort) (v : Scope) (l : Label) (ts : Trees) → IsPlain s v l ts → IsFine l
 fine s v (fresh x) ts h = h.0
 fine s v par ts h = tt
 fine s v _ ts h = tt

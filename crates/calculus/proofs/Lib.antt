@@ -27,3 +27,6 @@ pub mod Ordered
 pub mod Counting
 pub mod Alike
 pub mod Reading
+pub mod Binding
+pub mod Ranges
+pub mod CodesAgree

@@ -30,10 +30,10 @@ pub length-codes : (ts : Trees) → length (codes ts) ≡ count ts
 length-codes none = refl
 length-codes (also t ts) = omega (arith, length-codes ts)
 
-first-short : (t : Tree) (ts : Trees) → AreShort (also t ts) → IsShort t
+pub first-short : (t : Tree) (ts : Trees) → AreShort (also t ts) → IsShort t
 first-short t ts a = omega (arith, length-append (code t) (joined (codes ts)))
 
-rest-short : (t : Tree) (ts : Trees) → AreShort (also t ts) → AreShort ts
+pub rest-short : (t : Tree) (ts : Trees) → AreShort (also t ts) → AreShort ts
 rest-short t ts a = omega (arith, length-append (code t) (joined (codes ts)))
 
 pub kids-short : (l : Label) (ts : Trees) → IsShort (node l ts) → AreShort ts
