@@ -1,13 +1,13 @@
 -- Congruence of forms, where congruence of their constituents is equality of keys.
-use Rattle.std.proofs.Common.{◌≡◌, ℕ, zero, suc, ◌+◌, Bool, true, false, cond, List, [], ◌∷◌, length, refl, sym, ap, ◌∙◌, subst, arith}
-use Rattle.std.specs.Prelude.{⊤, ℤ, pos, negsuc, eqb, ◌&&◌, count_by, sum_by}
+use Rattle.std.proofs.Common.{◌≡◌, ℕ, suc, ◌+◌, Bool, true, false, cond, List, [], ◌∷◌, length, refl, sym, ap, ◌∙◌}
+use Rattle.std.specs.Prelude.{⊤, ℤ, pos, negsuc, eqb, ◌&&◌, count_by}
 use Rattle.std.specs.Bool.{Decides, one_answer}
 use Rattle.std.specs.Str.{bytes_eq}
 use Rattle.std.proofs.lemmas.Slice.Eq.{bytes_eq-Decides}
 use Rattle.std.proofs.lemmas.Bool.{false≢true, eqb-true, eq-eqb, and_parts, and_from}
 use Rattle.std.proofs.lemmas.List.Sums.{sum_by-cons}
 use Rattle.calculus.specs.Tree.{Label, Tree, node, Trees, none, also, plain, label_of as from_plain, label_of-plain}
-use Rattle.calculus.specs.Shape.{listed, held}
+use Rattle.calculus.specs.Shape.{listed}
 use Rattle.calculus.specs.Order.{sorted}
 use Rattle.calculus.specs.Code.{arranged}
 use Rattle.calculus.specs.Congruence.{same_int, same_label, is_bag, as_many, in_turn, congruent, congruent_to}
@@ -25,20 +25,21 @@ same_int-Decides (negsuc m) (pos n) = (λ e. absurd (false≢true e), λ e. cc)
 pub same_label-Decides : (l m : Label) → Decides (same_label l m) (l ≡ m)
 same_label-Decides l m = (there l m, back l m)
   where
-  there : (l m : Label) → same_label l m ≡ true → l ≡ m
-  there l m e =
-      let p = and_parts (eqb (plain l).0 (plain m).0) (same_int (plain l).1.0 (plain m).1.0 && bytes_eq (plain l).1.1 (plain m).1.1) e in
-      let q = and_parts (same_int (plain l).1.0 (plain m).1.0) (bytes_eq (plain l).1.1 (plain m).1.1) p.1 in
-      let x : (plain l).0 ≡ (plain m).0 = eqb-true (plain l).0 (plain m).0 p.0 in
-      let y : (plain l).1.0 ≡ (plain m).1.0 = (same_int-Decides (plain l).1.0 (plain m).1.0).0 q.0 in
-      let z : (plain l).1.1 ≡ (plain m).1.1 = (bytes_eq-Decides (plain l).1.1 (plain m).1.1).0 q.1 in
-      let w : plain l ≡ plain m = λ i. (x i, (y i, z i)) in
-      sym (label_of-plain l) ∙ ap from_plain w ∙ label_of-plain m
-  back : (l m : Label) → l ≡ m → same_label l m ≡ true
-  back l m e =
-      and_from (eqb (plain l).0 (plain m).0) (same_int (plain l).1.0 (plain m).1.0 && bytes_eq (plain l).1.1 (plain m).1.1) (eq-eqb (plain l).0 (plain m).0 (ap (λ x. (plain x).0) e))
-      (and_from (same_int (plain l).1.0 (plain m).1.0) (bytes_eq (plain l).1.1 (plain m).1.1) ((same_int-Decides (plain l).1.0 (plain m).1.0).1 (ap (λ x. (plain x).1.0) e))
-      ((bytes_eq-Decides (plain l).1.1 (plain m).1.1).1 (ap (λ x. (plain x).1.1) e)))
+    there : (l m : Label) → same_label l m ≡ true → l ≡ m
+    there l m e =
+        let p = and_parts (eqb (plain l).0 (plain m).0) (same_int (plain l).1.0 (plain m).1.0 && bytes_eq (plain l).1.1 (plain m).1.1) e in
+        let q = and_parts (same_int (plain l).1.0 (plain m).1.0) (bytes_eq (plain l).1.1 (plain m).1.1) p.1 in
+        let x : (plain l).0 ≡ (plain m).0 = eqb-true (plain l).0 (plain m).0 p.0 in
+        let y : (plain l).1.0 ≡ (plain m).1.0 = (same_int-Decides (plain l).1.0 (plain m).1.0).0 q.0 in
+        let z : (plain l).1.1 ≡ (plain m).1.1 = (bytes_eq-Decides (plain l).1.1 (plain m).1.1).0 q.1 in
+        let w : plain l ≡ plain m = λ i. (x i, (y i, z i)) in
+        sym (label_of-plain l) ∙ ap from_plain w ∙ label_of-plain m
+
+    back : (l m : Label) → l ≡ m → same_label l m ≡ true
+    back l m e =
+        and_from (eqb (plain l).0 (plain m).0) (same_int (plain l).1.0 (plain m).1.0 && bytes_eq (plain l).1.1 (plain m).1.1) (eq-eqb (plain l).0 (plain m).0 (ap (λ x. (plain x).0) e))
+        (and_from (same_int (plain l).1.0 (plain m).1.0) (bytes_eq (plain l).1.1 (plain m).1.1) ((same_int-Decides (plain l).1.0 (plain m).1.0).1 (ap (λ x. (plain x).1.0) e))
+        ((bytes_eq-Decides (plain l).1.1 (plain m).1.1).1 (ap (λ x. (plain x).1.1) e)))
 
 -- what holds of each of these trees
 abbrev pub EachTree : (Tree → Type 0) → Trees → Type 0
@@ -154,11 +155,12 @@ module _ (K : Tree → List ℕ) where
   unfolding congruent
   nodes l m ts us h = (there, back)
     where
-    there : same_label l m && by_form (is_bag l) ts us ≡ true → SameNode l ts m us
-    there e =
-        let p = and_parts (same_label l m) (by_form (is_bag l) ts us) e in
-        let q = (same_label-Decides l m).0 p.0 in
-        (q, (kids_agree (is_bag l) ts us (h q)).0 p.1)
-    back : SameNode l ts m us → same_label l m && by_form (is_bag l) ts us ≡ true
-    back s =
-        and_from (same_label l m) (by_form (is_bag l) ts us) ((same_label-Decides l m).1 s.0) ((kids_agree (is_bag l) ts us (h s.0)).1 s.1)
+      there : same_label l m && by_form (is_bag l) ts us ≡ true → SameNode l ts m us
+      there e =
+          let p = and_parts (same_label l m) (by_form (is_bag l) ts us) e in
+          let q = (same_label-Decides l m).0 p.0 in
+          (q, (kids_agree (is_bag l) ts us (h q)).0 p.1)
+
+      back : SameNode l ts m us → same_label l m && by_form (is_bag l) ts us ≡ true
+      back s =
+          and_from (same_label l m) (by_form (is_bag l) ts us) ((same_label-Decides l m).1 s.0) ((kids_agree (is_bag l) ts us (h s.0)).1 s.1)

@@ -1,12 +1,11 @@
 -- How many variables a form binds: no more than its code has bytes, and none outside a process.
-use Rattle.std.proofs.Common.{◌≡◌, ℕ, zero, suc, ◌<◌, ◌≤◌, ◌+◌, ◌^◌, Bool, true, false, List, [], ◌∷◌, ◌++◌, length, map as each, refl, sym, ap, ◌∙◌, arith, length-append, inl, inr, ⊎_elim}
-use Rattle.std.proofs.lemmas.List.{length-map}
+use Rattle.std.proofs.Common.{◌≡◌, ℕ, ◌≤◌, ◌+◌, List, [], ◌∷◌, length, refl, ap, ◌∙◌, arith, length-append, inl, inr, ⊎_elim}
 use Rattle.std.specs.Prelude.{⊤, ◌⊎◌}
-use Rattle.calculus.specs.Tree.{Label, par, row, bool, int, str, uri, bytes, fresh, var, name_var, list, tuple, set, dict, pair, send, receive, bind, new, match, case, bundle, unary, binary, method, rest, some_process, some_name, Tree, node, Trees, none, also}
+use Rattle.calculus.specs.Tree.{Label, par, row, bool, int, str, uri, bytes, fresh, var, name_var, list, tuple, set, dict, pair, send, receive, new, match, bundle, unary, binary, method, rest, some_process, some_name, Tree, node, Trees, none, also}
 use Rattle.calculus.specs.declared.plain.TermRest.TheVariants as rests
 use Rattle.calculus.specs.Shape.{count}
 use Rattle.calculus.specs.Bytes.{joined}
-use Rattle.calculus.specs.Variables.{Sense, a_name, own, bound, bound_all, binders}
+use Rattle.calculus.specs.Variables.{Sense, own, bound, bound_all}
 use Rattle.calculus.specs.Code.{head, code, codes}
 use Rattle.calculus.specs.Form.{Sort, term, part, a_bind, a_case, a_rest, pat, name_pat, pat_part, name_part, row_of, pair_of, Kids, all, these, no_form, kids}
 use Rattle.calculus.proofs.Known.{IsForm}

@@ -1,11 +1,9 @@
 -- Well-formed trees of one sort with short codes are congruent exactly where their codes are equal.
-use Rattle.std.proofs.Common.{◌≡◌, ℕ, zero, suc, ◌<◌, ◌≤◌, ◌+◌, ◌^◌, Bool, true, false, List, [], ◌∷◌, ◌++◌, length, refl, sym, ap, ◌∙◌, subst, arith, length-append}
-use Rattle.std.specs.Prelude.{⊤}
-use Rattle.std.specs.Bool.{Decides}
-use Rattle.calculus.specs.Tree.{Label, int, fresh, par, Tree, node, Trees, none, also}
+use Rattle.std.proofs.Common.{◌≡◌, Bool, true, false, [], ◌∷◌, ◌++◌, length, refl, sym, ap, ◌∙◌, subst}
+use Rattle.calculus.specs.Tree.{Label, fresh, par, Tree, node, Trees, none, also}
 use Rattle.calculus.specs.Bytes.{joined}
 use Rattle.calculus.specs.Shape.{count}
-use Rattle.calculus.specs.Congruence.{is_bag, congruent}
+use Rattle.calculus.specs.Congruence.{is_bag}
 use Rattle.calculus.specs.Code.{head, arranged, code, codes}
 use Rattle.calculus.specs.CodeLaws.{IsShort, CodeIsCongruence}
 use Rattle.calculus.specs.Form.{Sort, term, Kids, all, these, no_form, kids}
@@ -17,7 +15,7 @@ use Rattle.calculus.proofs.Reading.{IsRanged, one-label}
 use Rattle.calculus.proofs.Formed.{Formed, Holds, Formed-map}
 use Rattle.calculus.proofs.Ranges.{ranged_closed}
 use Rattle.calculus.proofs.Splitting.{AreShort, length-codes, kids-short, first-short, rest-short, heads_split, blanks, tails_equal, same_holds, sides, splits_kids}
-use Rattle.calculus.proofs.Alike.{EachTree, Agree, keys, AgreeAll, AgreeBy, Pairs, SameNode, nodes}
+use Rattle.calculus.proofs.Alike.{EachTree, Agree, keys, AgreeBy, Pairs, SameNode, nodes}
 
 keys-codes : (ts : Trees) → keys code ts ≡ codes ts
 keys-codes none = refl
@@ -46,9 +44,9 @@ in_turn_of_all none us h = tt
 in_turn_of_all (also t ts) none h = tt
 in_turn_of_all (also t ts) (also u us) h = (h.0.0, in_turn_of_all ts us (fewer ts h.1))
   where
-  fewer : (rs : Trees) → EachTree (λ r. EachTree (Agree code r) (also u us)) rs → EachTree (λ r. EachTree (Agree code r) us) rs
-  fewer none h = tt
-  fewer (also r rs) h = (h.0.1, fewer rs h.1)
+    fewer : (rs : Trees) → EachTree (λ r. EachTree (Agree code r) (also u us)) rs → EachTree (λ r. EachTree (Agree code r) us) rs
+    fewer none h = tt
+    fewer (also r rs) h = (h.0.1, fewer rs h.1)
 
 by_form : (b : Bool) (p : Kids) (ts us : Trees) → Loose b p → Relates p ts ts → Relates p ts us → AgreeBy code b ts us
 by_form true (all s) ts us o h k = each_both (λ t. EachTree (Agree code t) ts) (λ t. EachTree (Agree code t) us) ts h k
@@ -64,7 +62,7 @@ module _ (s : Sort) (l m : Label) (ts us : Trees) (h : Formed IsRanged s (node l
   equal_codes e =
       let f : arranged (is_bag l) (codes ts) ≡ arranged (is_bag l) (codes us) = rw (← keys-codes ts, ← keys-codes us) e.1 in
       let n : count ts ≡ count us =
-          sym (length-codes ts) ∙ sym (length-arranged (is_bag l) (codes ts)) ∙ ap length f ∙ length-arranged (is_bag l) (codes us) ∙ length-codes us
+      sym (length-codes ts) ∙ sym (length-arranged (is_bag l) (codes ts)) ∙ ap length f ∙ length-arranged (is_bag l) (codes us) ∙ length-codes us
       in
       ap (λ x. head l x ++ joined (arranged (is_bag l) (codes ts))) n ∙ ap (λ x. head l (count us) ++ joined x) f
       ∙ ap (λ x. head x (count us) ++ joined (arranged (is_bag x) (codes us))) e.0

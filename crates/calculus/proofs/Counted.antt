@@ -1,5 +1,5 @@
 -- Forms with any number of constituents: their heads show how many there are.
-use Rattle.std.proofs.Common.{◌≡◌, ℕ, Bool, true, false, refl, ap}
+use Rattle.std.proofs.Common.{◌≡◌, ℕ, Bool, true, false, refl}
 use Rattle.std.specs.Prelude.{⊤}
 use Rattle.std.proofs.lemmas.Bool.{false≢true}
 use Rattle.calculus.specs.Tree.{Label, par, row, list, tuple, set, dict, pattern}

@@ -1,14 +1,14 @@
 -- Two lists hold the same, each as often, exactly where they are equal once they are put in order.
-use Rattle.std.proofs.Common.{◌≡◌, ℕ, zero, suc, ◌<◌, ◌≤◌, ◌+◌, Bool, true, false, cond, List, [], ◌∷◌, length, refl, sym, ap, ◌∙◌, subst, arith, inl, inr, ⊎_elim}
+use Rattle.std.proofs.Common.{◌≡◌, ℕ, suc, ◌<◌, ◌+◌, true, false, cond, List, [], ◌∷◌, length, refl, sym, ap, ◌∙◌, arith, ⊎_elim}
 use Rattle.std.specs.Str.{bytes_eq}
 use Rattle.std.proofs.lemmas.Slice.Eq.{bytes_eq-Decides}
-use Rattle.std.proofs.lemmas.Bool.{cases_Bool, false≢true, false_from_ne_true}
+use Rattle.std.proofs.lemmas.Bool.{cases_Bool}
 use Rattle.calculus.specs.Order.{placed, sorted}
 use Rattle.calculus.proofs.Ordered.{placed-placed}
 use Rattle.calculus.proofs.Sorting.{by_place, Each, Each-map, length-sorted}
 
 -- 1 where the two are equal
-abbrev hit : List ℕ → List ℕ → ℕ
+abbrev pub hit : List ℕ → List ℕ → ℕ
 hit c d = cond (bytes_eq c d) 1 0
 
 -- how often a list of bytes stands among these

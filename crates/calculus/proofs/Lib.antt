@@ -30,3 +30,5 @@ pub mod Reading
 pub mod Binding
 pub mod Ranges
 pub mod CodesAgree
+pub mod Keys
+pub mod Equivalence

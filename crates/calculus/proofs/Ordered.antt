@@ -1,11 +1,11 @@
 -- The order of lists of bytes, and that lists are put in order in one way.
-use Rattle.std.proofs.Common.{◌≡◌, ℕ, zero, suc, ◌<◌, ◌≤◌, ◌+◌, Bool, true, false, cond, List, [], ◌∷◌, length, refl, sym, ap, ◌∙◌, subst, arith, inl, inr, ⊎_elim}
-use Rattle.std.specs.Ordering.{nat_cmp, is_le, is_gt, ordering_then, ordering_reverse, MatchOrdering}
+use Rattle.std.proofs.Common.{◌≡◌, ℕ, true, false, List, [], ◌∷◌, refl, sym, ap, ◌∙◌, ⊎_elim}
+use Rattle.std.specs.Ordering.{nat_cmp, is_le, is_gt, ordering_then, ordering_reverse}
 use Rattle.std.specs.declared.cmp.Ordering.{Ordering}
 use Rattle.std.specs.declared.cmp.Ordering.TheVariants.{Less, Equal, Greater}
 use Rattle.std.proofs.lemmas.Cmp.{nat_list_cmp_total, upto, ranked}
 use Rattle.std.proofs.lemmas.Bool.{cases_Bool, false≢true}
-use Rattle.calculus.specs.Order.{byte_cmp, up_to, placed, sorted}
+use Rattle.calculus.specs.Order.{byte_cmp, up_to, placed}
 
 first_equal : (o p : Ordering) → ordering_then o p ≡ Equal → (o ≡ Equal) × (p ≡ Equal)
 first_equal Less p e = cc

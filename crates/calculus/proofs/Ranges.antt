@@ -1,16 +1,16 @@
 -- In a short code each index of a variable has room in four bytes, since each variable in scope costs a byte.
-use Rattle.std.proofs.Common.{◌≡◌, ℕ, zero, suc, ◌<◌, ◌≤◌, ◌+◌, ◌^◌, Bool, true, false, List, [], ◌∷◌, ◌++◌, length, map as each, reverse, refl, sym, ap, ◌∙◌, arith, length-append}
+use Rattle.std.proofs.Common.{◌≡◌, ℕ, zero, suc, ◌<◌, ◌≤◌, ◌+◌, ◌^◌, List, [], ◌∷◌, ◌++◌, length, map as each, reverse, ◌∙◌, arith, length-append}
 use Rattle.std.proofs.lemmas.List.{length-map, length-reverse}
 use Rattle.std.specs.Prelude.{⊤}
-use Rattle.calculus.specs.Tree.{Label, par, int, fresh, var, name_var, receive, new, case, match, Tree, node, Trees, none, also}
+use Rattle.calculus.specs.Tree.{Label, int, fresh, var, name_var, receive, new, case, match, Tree, node, Trees, none, also}
 use Rattle.calculus.specs.declared.plain.Origin.{Origin}
 use Rattle.calculus.specs.Kinds.{origin_number}
 use Rattle.calculus.specs.Bytes.{joined, be32}
 use Rattle.calculus.specs.Shape.{count}
 use Rattle.calculus.specs.Variables.{Sense, a_process, a_name, bound, bound_all, binders}
-use Rattle.calculus.specs.Code.{head, code, codes}
+use Rattle.calculus.specs.Code.{code, codes}
 use Rattle.calculus.specs.CodeLaws.{IsShort}
-use Rattle.calculus.specs.Form.{Sort, term, part, a_bind, a_case, a_rest, pat, name_pat, pat_part, name_part, row_of, pair_of, Kids, all, these, no_form, kids, Scope, HasVariable, IsPlain, outer, Fits, Hold, IsClosed}
+use Rattle.calculus.specs.Form.{Sort, term, part, a_bind, a_case, pat, pat_part, name_part, row_of, Kids, all, these, no_form, kids, Scope, HasVariable, IsPlain, outer, Fits, Hold, IsClosed}
 use Rattle.calculus.proofs.Tails.{IsFine}
 use Rattle.calculus.proofs.Reading.{IsRanged}
 use Rattle.calculus.proofs.Formed.{Formed, Holds, length-code}
@@ -35,7 +35,7 @@ module _ (P : Label → Type 0) (d : ℕ) where
   two_room : (t u : Tree) → Formed P term u → d + length (joined (codes (also t (also u none)))) < 2 ^ 32 → Room d (length (bound_all (also t (also u none)))) (also t (also u none))
   two_room t u h a =
       let e : length (bound_all (also t (also u none))) ≡ length (bound t) =
-          length-append (bound t) (bound u ++ []) ∙ (let b : bound u ≡ [] = no_bound P term u tt h in rw b (omega arith))
+      length-append (bound t) (bound u ++ []) ∙ (let b : bound u ≡ [] = no_bound P term u tt h in rw b (omega arith))
       in
       let c = length-append (code t) (code u ++ []) in
       let f = length-append (code u) [] in

@@ -1,14 +1,14 @@
 -- A form is had back from its head.
-use Rattle.std.proofs.Common.{◌≡◌, ℕ, zero, suc, ◌<◌, ◌≤◌, ◌+◌, ◌^◌, Bool, true, false, List, [], ◌∷◌, ◌++◌, map as each, length, drop, refl, sym, ap, ◌∙◌, subst, arith}
+use Rattle.std.proofs.Common.{◌≡◌, ℕ, zero, suc, ◌<◌, ◌^◌, Bool, true, false, List, [], ◌∷◌, ◌++◌, map as each, length, drop, refl, sym, ap, ◌∙◌, arith}
 use Rattle.std.specs.Prelude.{⊤, ℤ, pos, ◌+ℤ◌, neg_ℤ, nat_abs, ◌≤ℤ◌, ◌<ℤ◌}
 use Rattle.std.proofs.lemmas.Int.{ints}
-use Rattle.calculus.specs.Tree.{Label, par, row, bool, int, str, uri, bytes, fresh, var, name_var, list, tuple, set, dict, pair, send, receive, bind, new, match, case, bundle, unary, binary, method, pattern, rest, any, some_process, some_name, simple, same, both, either, not_this, list_pattern, set_pattern, map_pattern}
-use Rattle.calculus.specs.Kinds.{simple_number, simple_of, simple_of-number, kind_number, kind_of, kind_of-number, rights_number, rights_of, rights_of-number, unary_op_number, unary_op_of, unary_op_of-number, binary_op_number, binary_op_of, binary_op_of-number, rest_number, rest_of, rest_of-number, origin_number, origin_of, origin_of-number}
+use Rattle.calculus.specs.Tree.{Label, bool, int, str, uri, bytes, fresh, var, name_var, send, receive, new, bundle, unary, binary, method, rest, simple}
+use Rattle.calculus.specs.Kinds.{simple_of, simple_of-number, kind_of, kind_of-number, rights_of, rights_of-number, unary_op_of, unary_op_of-number, binary_op_of, binary_op_of-number, rest_of, rest_of-number, origin_number, origin_of, origin_of-number}
 use Rattle.calculus.specs.declared.plain.Origin.{Origin}
-use Rattle.calculus.specs.Bytes.{be32, be64}
-use Rattle.calculus.specs.Code.{byte_of, text}
+use Rattle.calculus.specs.Bytes.{be32}
+use Rattle.calculus.specs.Code.{byte_of}
 use Rattle.calculus.proofs.Heads.{tail, blank}
-use Rattle.calculus.proofs.Tails.{number, number-be32, number-be64, length-be32}
+use Rattle.calculus.proofs.Tails.{number, number-be32, number-be64}
 
 -- the data of a form are in the ranges that a head has room for
 abbrev pub IsRanged : Label → Type 0

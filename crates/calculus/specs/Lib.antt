@@ -41,3 +41,4 @@ pub mod ExamplesBare
 pub mod ExamplesCongruence
 pub mod ExamplesForm
 pub mod CodeLaws
+pub mod CongruenceLaws

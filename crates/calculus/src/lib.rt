@@ -5,6 +5,7 @@
 #![tactic(auto)]
 
 pub mod code_laws;
+pub mod congruence_laws;
 pub mod count;
 pub mod examples;
 pub mod fault;
