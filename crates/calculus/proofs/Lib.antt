@@ -32,3 +32,8 @@ pub mod Ranges
 pub mod CodesAgree
 pub mod Keys
 pub mod Equivalence
+pub mod Weakening
+pub mod Kept
+pub mod PlainKept
+pub mod Placing
+pub mod Changing

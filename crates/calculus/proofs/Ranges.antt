@@ -70,7 +70,7 @@ module _ (P : Label → Type 0) (d : ℕ) where
   room (new os) _ ts h a = absurd h
   room l s ts h a = no_more d ts (rest_room l ts a)
 
-in_scope : (v : Scope) (i : ℕ) (w : Sense) → HasVariable v i w → i < length v
+pub in_scope : (v : Scope) (i : ℕ) (w : Sense) → HasVariable v i w → i < length v
 in_scope [] i w h = absurd h
 in_scope (x ∷ v) zero w h = omega arith
 in_scope (x ∷ v) (suc i) w h = omega (arith, in_scope v i w h)
