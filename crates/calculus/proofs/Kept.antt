@@ -1,12 +1,10 @@
 -- What stays as it is where each constituent of a form is changed to one tree with the same label and the same bound variables.
-use Rattle.std.proofs.Common.{◌≡◌, ℕ, zero, suc, ◌<◌, ◌≤◌, ◌+◌, Bool, true, false, cond, List, [], ◌∷◌, ◌++◌, length, reverse, refl, sym, ap, ◌∙◌, subst, arith}
-use Rattle.std.specs.Prelude.{⊤, leb, count_by}
-use Rattle.std.proofs.lemmas.List.Sums.{sum_by-cons}
-use Rattle.calculus.specs.Tree.{Label, par, row, bool, int, str, uri, bytes, fresh, var, name_var, list, tuple, set, dict, pair, send, receive, bind, new, match, case, bundle, unary, binary, method, pattern, rest, any, some_process, some_name, simple, same, both, either, not_this, list_pattern, set_pattern, map_pattern, Tree, node, Trees, none, also}
-use Rattle.calculus.specs.declared.plain.Rights.{Rights}
-use Rattle.calculus.specs.Shape.{count, listed, label_of, held, at}
-use Rattle.calculus.specs.Variables.{Sense, bound, bound_all, binders, is_wide}
-use Rattle.calculus.specs.Form.{Sort, term, part, a_bind, a_case, a_rest, pat, name_pat, pat_part, name_part, row_of, pair_of, Kids, all, these, no_form, part_kids, pat_kids, name_kids, kids, Scope, IsPlain, IsNarrow, wides}
+use Rattle.std.proofs.Common.{◌≡◌, ℕ, Bool, true, false, cond, List, [], ◌∷◌, length}
+use Rattle.std.specs.Prelude.{⊤, leb}
+use Rattle.calculus.specs.Tree.{Label, par, row, pair, send, receive, bind, new, match, case, bundle, unary, binary, method, pattern, rest, some_name, same, both, either, not_this, list_pattern, set_pattern, map_pattern, Tree, Trees, none, also}
+use Rattle.calculus.specs.Shape.{label_of, held}
+use Rattle.calculus.specs.Variables.{bound}
+use Rattle.calculus.specs.Form.{Sort, term, part, a_bind, a_case, a_rest, pat, name_pat, pat_part, name_part, row_of, pair_of, Kids, all, these, no_form, part_kids, pat_kids, name_kids, kids}
 
 -- the sorts whose trees stay one tree: all but the parts of a process
 abbrev pub Whole : Sort → Type 0
@@ -59,9 +57,13 @@ either_whole : (b : Bool) → AllWhole (cond b (all name_part) (all pat_part))
 either_whole true = tt
 either_whole false = tt
 
+abbrev pub NotTerm : Sort → Type 0
+NotTerm term = ⊥
+NotTerm _ = ⊤
+
 -- what a form of such a sort holds is of such sorts, but for the parts of a process
-pub holds_whole : (s : Sort) (l : Label) (n : ℕ) → Whole s → (s ≡ term → ⊥) → AllWhole (kids s l n)
-holds_whole term l n o d = absurd (d refl)
+pub holds_whole : (s : Sort) (l : Label) (n : ℕ) → Whole s → NotTerm s → AllWhole (kids s l n)
+holds_whole term l n o d = absurd d
 holds_whole part l n o d = absurd o
 holds_whole pat_part l n o d = pat_whole l
 holds_whole name_part l n o d = name_whole l

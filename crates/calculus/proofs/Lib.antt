@@ -37,3 +37,6 @@ pub mod Kept
 pub mod PlainKept
 pub mod Placing
 pub mod Changing
+pub mod Changed
+pub mod Substituting
+pub mod Closing

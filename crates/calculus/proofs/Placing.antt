@@ -1,6 +1,5 @@
 -- Constituents of one sort that are put in order are still of that sort, and so are two lists of them one after another.
-use Rattle.std.proofs.Common.{◌≡◌, ℕ, Bool, true, false, cond, List, [], ◌∷◌, ◌++◌, map as each, refl, sym, ap, ◌∙◌, subst}
-use Rattle.std.specs.Prelude.{⊤}
+use Rattle.std.proofs.Common.{◌≡◌, ℕ, Bool, true, false, cond, List, [], ◌∷◌, map as each, refl, ap, ◌∙◌}
 use Rattle.calculus.specs.Tree.{Label, Tree, node, Trees, none, also, trees}
 use Rattle.calculus.specs.Shape.{listed, joined_trees}
 use Rattle.calculus.specs.Variables.{Sense}
@@ -8,7 +7,7 @@ use Rattle.calculus.specs.Order.{up_to}
 use Rattle.calculus.specs.Congruence.{is_bag}
 use Rattle.calculus.specs.Code.{code}
 use Rattle.calculus.specs.Normal.{placed_by, by_code, ascending, made_node}
-use Rattle.calculus.specs.Form.{Sort, Kids, all, Scope, Fits, Hold}
+use Rattle.calculus.specs.Form.{Sort, all, Scope, Fits, Hold}
 
 pub trees-listed : (ts : Trees) → trees (listed ts) ≡ ts
 trees-listed none = refl

@@ -1,14 +1,14 @@
 -- What must hold of a form beside the sorts of its constituents stays where each of these is changed to one like it.
-use Rattle.std.proofs.Common.{◌≡◌, ℕ, zero, suc, ◌<◌, ◌≤◌, ◌+◌, Bool, true, false, cond, List, [], ◌∷◌, ◌++◌, length, reverse, refl, sym, ap, ◌∙◌, subst, arith}
-use Rattle.std.specs.Prelude.{⊤, count_by}
+use Rattle.std.proofs.Common.{◌≡◌, ℕ, suc, ◌+◌, cond, List, [], ◌∷◌, ◌++◌, length, refl, sym, ap, ◌∙◌}
+use Rattle.std.specs.Prelude.{⊤}
 use Rattle.std.proofs.lemmas.List.Sums.{sum_by-cons}
-use Rattle.calculus.specs.Tree.{Label, par, var, name_var, tuple, receive, new, match, case, bundle, pattern, either, not_this, set_pattern, map_pattern, Tree, node, Trees, none, also}
+use Rattle.calculus.specs.Tree.{Label, var, name_var, tuple, receive, match, case, bundle, pattern, either, not_this, set_pattern, map_pattern, Tree, Trees, none, also}
 use Rattle.calculus.specs.declared.plain.Rights.{Rights}
 use Rattle.calculus.specs.declared.plain.Kind.{Kind}
 use Rattle.calculus.specs.Shape.{count, listed, label_of, held, at}
-use Rattle.calculus.specs.Variables.{Sense, bound, bound_all, binders, is_wide}
-use Rattle.calculus.specs.Form.{Sort, term, part, a_bind, a_case, a_rest, pat, name_pat, pat_part, name_part, row_of, pair_of, Kids, all, these, no_form, kids, Scope, IsPlain, IsNarrow, wides}
-use Rattle.calculus.proofs.Kept.{Kept, KeptAll, Like, like}
+use Rattle.calculus.specs.Variables.{bound, bound_all, binders, is_wide}
+use Rattle.calculus.specs.Form.{Sort, term, part, a_bind, a_case, a_rest, pat, pat_part, name_part, row_of, pair_of, these, kids, Scope, IsPlain, IsNarrow, wides}
+use Rattle.calculus.proofs.Kept.{KeptAll, Like, like}
 
 pub count-like : (ts us : Trees) → Like ts us → count us ≡ count ts
 count-like none none h = refl
@@ -22,7 +22,7 @@ bound-like none (also u us) h = absurd h
 bound-like (also t ts) none h = absurd h
 bound-like (also t ts) (also u us) h = ap (λ vs. vs ++ bound_all us) h.1 ∙ ap (λ vs. bound t ++ vs) (bound-like ts us h.2)
 
-length-like : (ts us : Trees) → Like ts us → length (listed us) ≡ length (listed ts)
+pub length-like : (ts us : Trees) → Like ts us → length (listed us) ≡ length (listed ts)
 length-like none none h = refl
 length-like none (also u us) h = absurd h
 length-like (also t ts) none h = absurd h

@@ -1,10 +1,9 @@
 -- What is well formed in a scope is so under more variables outside.
-use Rattle.std.proofs.Common.{◌≡◌, ℕ, zero, suc, ◌<◌, ◌+◌, List, [], ◌∷◌, ◌++◌, length, reverse, refl, sym, ap, ◌∙◌, subst, arith, append_assoc}
-use Rattle.std.specs.Prelude.{⊤}
+use Rattle.std.proofs.Common.{◌≡◌, ℕ, zero, suc, List, [], ◌∷◌, ◌++◌, reverse, refl, sym, subst, append_assoc}
 use Rattle.calculus.specs.Tree.{Label, var, name_var, par, receive, new, match, bundle, Tree, node, Trees, none, also}
 use Rattle.calculus.specs.Shape.{count}
 use Rattle.calculus.specs.Variables.{Sense, binders}
-use Rattle.calculus.specs.Form.{Sort, term, part, a_bind, a_case, a_rest, pat, name_pat, pat_part, name_part, row_of, pair_of, Kids, all, these, no_form, kids, Scope, HasVariable, IsPlain, outer, Fits, Hold}
+use Rattle.calculus.specs.Form.{Sort, pat_part, name_part, Kids, all, these, no_form, kids, Scope, HasVariable, IsPlain, outer, Fits, Hold}
 
 pub more_variables : (v w : Scope) (i : ℕ) (s : Sense) → HasVariable v i s → HasVariable (v ++ w) i s
 more_variables [] w i s h = absurd h
@@ -35,10 +34,11 @@ outer-append s l v w = refl
 
 mutual
   pub weaken : (s : Sort) (v w : Scope) (t : Tree) → Fits s v t → Fits s (v ++ w) t
-  weaken s v w (node l ts) h =
-      (plain_more s v w l ts h.0,
-      subst (λ (x : Scope). Hold (kids s l (count ts)) x (reverse (binders l ts)) ts) (sym (outer-append s l v w))
-      (weaken_kids (kids s l (count ts)) (outer s l v) (outer s l w) (reverse (binders l ts)) ts h.1))
+  weaken s v w (node l ts) h = (
+    plain_more s v w l ts h.0,
+    subst (λ (x : Scope). Hold (kids s l (count ts)) x (reverse (binders l ts)) ts) (sym (outer-append s l v w))
+        (weaken_kids (kids s l (count ts)) (outer s l v) (outer s l w) (reverse (binders l ts)) ts h.1),
+  )
 
   pub weaken_kids : (p : Kids) (v w : Scope) (o : List Sense) (ts : Trees) → Hold p v o ts → Hold p (v ++ w) o ts
   weaken_kids (all s) v w o none h = tt

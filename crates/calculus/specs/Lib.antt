@@ -42,3 +42,4 @@ pub mod ExamplesCongruence
 pub mod ExamplesForm
 pub mod CodeLaws
 pub mod CongruenceLaws
+pub mod SubstitutionLaws

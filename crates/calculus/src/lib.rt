@@ -13,6 +13,7 @@ pub mod ids;
 pub mod laws;
 pub mod plain;
 pub mod process;
+pub mod substitution_laws;
 
 pub use count::Steps;
 pub use fault::FaultKind;
