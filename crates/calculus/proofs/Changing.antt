@@ -14,6 +14,11 @@ abbrev pub form_of : Sense → ℕ → Label
 form_of a_process = var
 form_of a_name = name_var
 
+-- a use of a variable in scope is a part
+pub leaf_fits : (y : Scope) (i : ℕ) (s : Sense) → HasVariable y i s → Fits part y (leaf (form_of s i))
+leaf_fits y i a_process h = (h, tt)
+leaf_fits y i a_name h = (h, tt)
+
 module _ (F : Change) where
   -- under d inner variables uses in the scope x become what is well formed in the scope y, and so further inside
   abbrev pub Good : ℕ → Scope → Scope → Type 0
@@ -40,10 +45,6 @@ module _ (F : Change) where
   outer_good name_part (new os) d x y g = closed_good d
   outer_good name_part match d x y g = closed_good d
   outer_good s l d x y g = g
-
-  leaf_fits : (y : Scope) (i : ℕ) (s : Sense) → HasVariable y i s → Fits part y (leaf (form_of s i))
-  leaf_fits y i a_process h = (h, tt)
-  leaf_fits y i a_name h = (h, tt)
 
   -- a use of a variable
   pub variable_good : (d : ℕ) (x y : Scope) (i : ℕ) (s : Sense) → Good d x y → HasVariable x i s → Hold (all part) y [] (changed F d (form_of s) i)

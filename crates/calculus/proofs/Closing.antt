@@ -3,14 +3,14 @@ use Rattle.std.proofs.Common.{◌≡◌, ℕ, zero, suc, ◌<◌, ◌≤◌, ◌
 use Rattle.std.proofs.lemmas.List.{length-reverse, get_or-reverse}
 use Rattle.calculus.specs.Tree.{par, Tree, node, Trees, none, also, trees}
 use Rattle.calculus.specs.Shape.{leaf, held, at}
-use Rattle.calculus.specs.Variables.{Sense, a_process, a_name}
+use Rattle.calculus.specs.Variables.{Sense}
 use Rattle.calculus.specs.Substitution.{Change, change, the_one, put, renumber}
 use Rattle.calculus.specs.Form.{term, part, all, Scope, HasVariable, Fits, Hold, IsClosed}
 use Rattle.calculus.specs.SubstitutionLaws.{PutIsClosed, RenumberFits}
 use Rattle.calculus.proofs.Ranges.{in_scope}
 use Rattle.calculus.proofs.Weakening.{weaken_kids}
 use Rattle.calculus.proofs.Placing.{trees-listed}
-use Rattle.calculus.proofs.Changing.{form_of, Good}
+use Rattle.calculus.proofs.Changing.{leaf_fits, Good}
 use Rattle.calculus.proofs.Changed.{One}
 use Rattle.calculus.proofs.Substituting.{whole}
 
@@ -69,14 +69,10 @@ put_is_closed v t vs h n a =
 abbrev numbered : (ℕ → ℕ) → Change
 numbered f = λ k d form. also (leaf (form (f k + d))) none
 
-use_fits : (y : Scope) (i : ℕ) (s : Sense) → HasVariable y i s → Fits part y (leaf (form_of s i))
-use_fits y i a_process h = (h, tt)
-use_fits y i a_name h = (h, tt)
-
 numbers_good : (v w : Scope) (f : ℕ → ℕ) → ((i : ℕ) (s : Sense) → HasVariable v i s → HasVariable w (f i) s) → Good (numbered f) 0 v w
 numbers_good v w f g o e i s b h = (
   λ l. inner_variable o v w i s (omega arith) h,
-  λ l. (use_fits (o ++ w) (f (i - e) + e) s (inside_variable o w e (f (i - e)) s (omega arith) (g (i - e) s (outer_variable o v e i s (omega arith) l h))), tt),
+  λ l. (leaf_fits (o ++ w) (f (i - e) + e) s (inside_variable o w e (f (i - e)) s (omega arith) (g (i - e) s (outer_variable o v e i s (omega arith) l h))), tt),
 )
 
 pub renumber_fits : RenumberFits

@@ -33,7 +33,7 @@ counted-tail dict n h = refl
 counted-tail pattern n h = refl
 counted-tail _ n h = absurd (false≢true h)
 
--- a form whose number of constituents is not shown holds sorts in turn, and so does each that is no bag
+-- a form whose head does not show the number of its constituents holds sorts in turn
 abbrev pub Fixed : Bool → Kids → Type 0
 Fixed true p = ⊤
 Fixed false (all s) = ⊥
