@@ -40,3 +40,6 @@ pub mod ExamplesSteps
 pub mod ExamplesBare
 pub mod ExamplesCongruence
 pub mod ExamplesForm
+pub mod CodeLaws
+pub mod CongruenceLaws
+pub mod SubstitutionLaws

@@ -4,6 +4,8 @@
 //! docs/CALCULUS.md tells in plain words.
 #![tactic(auto)]
 
+pub mod code_laws;
+pub mod congruence_laws;
 pub mod count;
 pub mod examples;
 pub mod fault;
@@ -11,6 +13,7 @@ pub mod ids;
 pub mod laws;
 pub mod plain;
 pub mod process;
+pub mod substitution_laws;
 
 pub use count::Steps;
 pub use fault::FaultKind;
