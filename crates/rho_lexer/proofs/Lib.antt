@@ -1,0 +1,16 @@
+pub mod Ascii
+pub mod Contents
+pub mod Escapes
+pub mod Faults
+pub mod Gaps
+pub mod Heads
+pub mod IllFormed
+pub mod Numbers
+pub mod Lexing
+pub mod Marks
+pub mod Reading
+pub mod Signs
+pub mod Steps
+pub mod Strings
+pub mod Uris
+pub mod Words
