@@ -1,0 +1,4 @@
+pub mod Parts
+pub mod Normal
+pub mod Measures
+pub mod Falls

@@ -1,0 +1,307 @@
+ghost use Rattle.std.specs.Prelude.{◌≡◌, All, IfOk};
+ghost use Rattle.calculus.specs.Tree.{par};
+ghost use Rattle.calculus.specs.Shape.{leaf, only};
+ghost use Rattle.calculus.specs.Size.{height};
+ghost use Rattle.rho_term.specs.Parts.{part_tree, pat_part_tree, bind_tree, term_tree, pat_tree};
+ghost use Rattle.rho_term.specs.Normal.{IsNormal, IsOrdered};
+ghost use Rattle.rho_term.specs.Measures.{in_u32};
+
+use crate::copy::{copy_bind, copy_part, copy_pat, copy_term};
+use crate::measure::{parts_height, pat_parts_height};
+use calculus::{BinaryOp, Digest, Ground, Kind, Origin, Rights, Simple, TermRest, UnaryOp};
+use std::alloc::{AllocError, Global};
+use std::marker::Model;
+
+/// A process in normal order, seen as the tree that it stands for.
+///
+/// Its parts ascend in their codes, and so do the members of each set and map in it, wherever they
+/// stand. A name is the process that it quotes.
+#[cycle(term)]
+#[derive(Drop)]
+pub struct Term {
+    parts: Vec<Part>,
+    height: u32,
+}
+
+/// A part of a process.
+#[cycle(term)]
+#[derive(Drop)]
+pub enum Part {
+    Ground(Ground),
+    /// The drop of a fresh name.
+    Fresh(Digest),
+    /// A process variable, by the number of variables in scope that are bound after it.
+    Var(u32),
+    /// The drop of a name variable, by the same number.
+    NameVar(u32),
+    List(Vec<Term>),
+    /// At least one member.
+    Tuple(Vec<Term>),
+    Set(Vec<Term>),
+    /// Keys with their values.
+    Map(Vec<(Term, Term)>),
+    Send {
+        channel: Term,
+        args: Vec<Term>,
+        persistent: bool,
+    },
+    /// 1 to 16 binds.
+    Receive {
+        kind: Kind,
+        binds: Vec<TermBind>,
+        body: Term,
+    },
+    /// At least one name.
+    New {
+        names: Vec<Origin>,
+        body: Term,
+    },
+    /// At least one case.
+    Match {
+        target: Term,
+        cases: Vec<TermCase>,
+    },
+    Bundle {
+        rights: Rights,
+        body: Term,
+    },
+    Unary {
+        op: UnaryOp,
+        arg: Term,
+    },
+    Binary {
+        op: BinaryOp,
+        left: Term,
+        right: Term,
+    },
+    Method {
+        name: String,
+        target: Term,
+        args: Vec<Term>,
+    },
+}
+
+/// A pattern of processes or of names, its parts in written order, seen as the tree that it stands for.
+///
+/// A name pattern is the pattern of the process that it quotes; a name variable there is the one part
+/// `NameVar`.
+#[cycle(term)]
+#[derive(Drop)]
+pub struct TermPat {
+    pub parts: Vec<PatPart>,
+}
+
+/// A part of a pattern.
+#[cycle(term)]
+#[derive(Drop)]
+pub enum PatPart {
+    /// What takes any process.
+    Wild,
+    /// A process variable.
+    Var,
+    /// A name variable.
+    NameVar,
+    Simple(Simple),
+    /// What is congruent to a process of the scope outside.
+    Same(Term),
+    Ground(Ground),
+    Both(TermPat, TermPat),
+    Either(TermPat, TermPat),
+    Not(TermPat),
+    List(Vec<TermPat>, TermRest),
+    Tuple(Vec<TermPat>),
+    Set(Vec<TermPat>, TermRest),
+    Map(Vec<(TermPat, TermPat)>, TermRest),
+    Send {
+        channel: TermPat,
+        args: Vec<TermPat>,
+        persistent: bool,
+    },
+    Bundle {
+        rights: Rights,
+        body: TermPat,
+    },
+    /// A receive, a `new` or a `match` without a variable of the scope outside.
+    Closed(Part),
+}
+
+/// A bind of a receive: the patterns of a datum's arguments, a remainder and a channel.
+#[cycle(term)]
+#[derive(Drop)]
+pub struct TermBind {
+    pub pats: Vec<TermPat>,
+    pub rest: TermRest,
+    pub channel: Term,
+}
+
+/// A case of a `match`.
+#[cycle(term)]
+#[derive(Drop)]
+pub struct TermCase {
+    pub pat: TermPat,
+    pub body: Term,
+}
+
+impl Model for Term {
+    ghost use Rattle.std.specs.Prelude.{◌≡◌};
+    ghost use Rattle.calculus.specs.Tree.{Tree, tree_code, weight};
+    ghost use Rattle.calculus.specs.Size.{height as height_of};
+
+    ghost Value = { Tree };
+
+    ghost coded = { tree_code };
+
+    ghost use Rattle.rho_term.specs.Parts.{term_tree};
+    ghost use Rattle.rho_term.specs.Normal.{IsNormal};
+    ghost use Rattle.rho_term.specs.Measures.{in_u32};
+
+    ghost view = { λ a. term_tree a.parts.items };
+
+    ghost invariant = { λ a. IsNormal (term_tree a.parts.items) × (a.height ≡ in_u32 (height_of (term_tree a.parts.items))) };
+
+    ghost size = { weight };
+
+    ghost use Rattle.rho_term.specs.Falls.{parts_fall};
+
+    ghost size_decreases = { λ a h. parts_fall a.parts.items };
+}
+
+impl Model for TermPat {
+    ghost use Rattle.calculus.specs.Tree.{Tree, tree_code, weight};
+
+    ghost Value = { Tree };
+
+    ghost coded = { tree_code };
+
+    ghost use Rattle.rho_term.specs.Parts.{pat_tree};
+    ghost use Rattle.rho_term.specs.Normal.{IsNormal};
+
+    ghost view = { λ a. pat_tree a.parts.items };
+
+    ghost invariant = { λ a. IsNormal (pat_tree a.parts.items) };
+
+    ghost size = { weight };
+
+    ghost use Rattle.rho_term.specs.Falls.{pat_parts_fall};
+
+    ghost size_decreases = { λ a h. pat_parts_fall a.parts.items };
+}
+
+impl Term {
+    /// The empty process, `Nil`. It takes no memory.
+    pub fn nil(alloc: Global) -> Term
+        ensures { result ≡ leaf par }
+    {
+        Term {
+            parts: Vec::new(alloc),
+            height: 0,
+        }
+    }
+
+    /// The process of these parts, which ascend in their codes; so do the members of a set or a map
+    /// among them.
+    pub fn from_sorted(parts: Vec<Part>) -> Term
+        requires parts { IsOrdered (term_tree parts.items) }
+        requires members { All (λ p. IsOrdered (part_tree p)) parts.items }
+        ensures { result ≡ term_tree parts.items }
+    {
+        let height = parts_height(&parts);
+        Term { parts, height }
+    }
+
+    /// The process of this one part. Members of a set or a map that it is ascend in their codes. Want
+    /// of memory is the one error.
+    pub fn from_part(alloc: Global, part: Part) -> Result<Term, AllocError>
+        requires { IsOrdered (part_tree part) }
+        ensures { IfOk result (λ t. t ≡ only (part_tree part)) }
+    {
+        let mut parts = Vec::new(alloc);
+        parts.push(part)?;
+        Ok(Term::from_sorted(parts))
+    }
+
+    /// The parts, ascending in their codes.
+    pub fn parts(&self) -> &[Part]
+        ensures parts { self.now ≡ term_tree result.now }
+        ensures normal { IsNormal self.now }
+    {
+        self.parts.as_slice()
+    }
+
+    /// The parts, given away.
+    pub fn into_parts(self) -> Vec<Part>
+        ensures parts { self ≡ term_tree result.items }
+        ensures normal { IsNormal self }
+    {
+        self.parts
+    }
+
+    /// The height, or the greatest `u32` where it is greater.
+    pub fn height(&self) -> u32
+        ensures height { result ≡ in_u32 (height self.now) }
+        ensures normal { IsNormal self.now }
+    {
+        self.height
+    }
+
+    // The same process from parts that stand for the same trees.
+    pub(crate) fn with_parts(&self, parts: Vec<Part>) -> Term
+        requires { term_tree parts.items ≡ self.now }
+        ensures { result ≡ self.now }
+    {
+        let height = self.height;
+        Term { parts, height }
+    }
+
+    /// An equal process. Want of memory is the one error.
+    pub fn copy(&self, alloc: Global) -> Result<Term, AllocError>
+        ensures { IfOk result (λ t. t ≡ self.now) }
+    {
+        copy_term(alloc, self)
+    }
+}
+
+impl TermPat {
+    /// The pattern of these parts. The members of a set or a map that is one of them, as a closed form,
+    /// ascend in their codes.
+    pub fn new(parts: Vec<PatPart>) -> TermPat
+        requires { All (λ p. IsOrdered (pat_part_tree p)) parts.items }
+        ensures { result ≡ pat_tree parts.items }
+    {
+        let _height = pat_parts_height(&parts);
+        TermPat { parts }
+    }
+
+    /// The parts, in written order.
+    pub fn parts(&self) -> &[PatPart]
+        ensures parts { self.now ≡ pat_tree result.now }
+        ensures normal { IsNormal self.now }
+    {
+        self.parts.as_slice()
+    }
+
+    /// An equal pattern. Want of memory is the one error.
+    pub fn copy(&self, alloc: Global) -> Result<TermPat, AllocError>
+        ensures { IfOk result (λ t. t ≡ self.now) }
+    {
+        copy_pat(alloc, self)
+    }
+}
+
+impl Part {
+    /// A part that stands for the same tree. Want of memory is the one error.
+    pub fn copy(&self, alloc: Global) -> Result<Part, AllocError>
+        ensures { IfOk result (λ p. part_tree p ≡ part_tree self.now) }
+    {
+        copy_part(alloc, self)
+    }
+}
+
+impl TermBind {
+    /// A bind that stands for the same tree. Want of memory is the one error.
+    pub fn copy(&self, alloc: Global) -> Result<TermBind, AllocError>
+        ensures { IfOk result (λ b. bind_tree b ≡ bind_tree self.now) }
+    {
+        copy_bind(alloc, self)
+    }
+}

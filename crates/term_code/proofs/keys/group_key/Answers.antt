@@ -1,0 +1,13 @@
+use Rattle.std.proofs.Common.{◌≡◌, arith, ap, map, length}
+use Rattle.std.proofs.lemmas.Grind.{common_steps}
+use Rattle.sha2.specs.Sha256.{sha256}
+use Rattle.calculus.specs.Code.{code}
+use Rattle.calculus.specs.Root.{group_code}
+use Rattle.term_code.proofs.Codes.{sorted-ascending, length-map}
+use Rattle.term_code.proofs.keys.group_key.Goals as goal
+
+pub returns : goal.returns
+returns c =
+    let s = sorted-ascending (map code c.args.channels.now) c.requires in
+    let n = length-map code c.args.channels.now in
+    grind (arith, common_steps, s, n)
