@@ -1,0 +1,13 @@
+pub mod Agree
+pub mod Begins
+pub mod Clean
+pub mod Complete
+pub mod Computed
+pub mod Descending
+pub mod First
+pub mod Marks
+pub mod OneReading
+pub mod Operands
+pub mod Picks
+pub mod Wider
+pub mod Sound

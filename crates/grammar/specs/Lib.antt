@@ -1,0 +1,9 @@
+pub mod Choice
+pub mod Descent
+pub mod Examples
+pub mod Grammar
+pub mod Productions
+pub mod Rules
+pub mod Spells
+pub mod Terminals
+pub mod Values
