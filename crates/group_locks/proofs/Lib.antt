@@ -1,0 +1,9 @@
+pub mod Sums
+pub mod Turns
+pub mod Loops
+pub mod Groups
+pub mod Draws
+pub mod Seats
+pub mod Opens
+pub mod Ends
+pub mod Numbers

@@ -1,0 +1,46 @@
+use Rattle.std.proofs.Common.{◌≡◌, ◌∙◌, ◌+◌, ◌-◌, ◌*◌, ◌++◌, sym, ap, arith, length, length-append, [], ℕ, List, append_assoc}
+use Rattle.group_locks.specs.Counts.{all_of}
+use Rattle.group_locks.specs.Rule.{view, joined}
+use Rattle.group_locks.specs.declared.view.View.{View}
+use Rattle.group_locks.proofs.Seats.{join}
+use Rattle.group_locks.proofs.Ends.{all_tail, all_of_split, total_split, joined_view, out_of}
+use Rattle.group_locks.proofs.close.gather.Goals as goal
+
+pub join_seat-requires : goal.join_seat-requires
+join_seat-requires g c =
+    let m = g.S.Scene.meaning in
+    let i = c.loop-seat.invariant in let s = c.in-Some.ensures.steps in let seat = c.in-Some.seat in
+    let here = all_tail (λ t. (t.state.token.table_id ≡ c.args.token.now.table_id) × (t.state.token.me.0.held ≡ [])) _ _ _ s.0 i.each in (
+      i.table ∙ c.requires.table.0,
+      here.0.0 ∙ c.requires.table.0,
+      out_of _ _ here.0.1 seat.state.out,
+      c.requires.table.1,
+      join m _ _ _ _ _ _ (ap (λ x. x.0.held) i.me) here.0.1,
+    )
+
+pub move_all-requires : goal.move_all-requires
+move_all-requires g c =
+    let i = c.loop-seat.invariant in let s = c.in-Some.ensures.steps in let seat = c.in-Some.seat in
+    let t = total_split (λ t. length t.state.token.me.0.entries) _ _ _ s.0 in let e = ap length seat.state.told in let r = i.room in omega arith
+
+pub loop-seat-preserved : goal.loop-seat-preserved
+loop-seat-preserved g c =
+    let E : Type 0 = g.row.S-Entry.Denot in let X : Type 0 = g.row.S-Shard.Denot in
+    let i = c.loop-seat.invariant in let s = c.in-Some.ensures.steps in let seat = c.in-Some.seat in
+    let here = all_tail (λ t. (t.state.token.table_id ≡ c.args.token.now.table_id) × (t.state.token.me.0.held ≡ [])) _ _ _ s.0 i.each in
+    let all : List (ℕ × E) = c.loop-seat.all.items in
+    let moved : c.move_all.new.all.items ≡ all ++ seat.state.token.me.0.entries = c.move_all.ensures.items ∙ ap {A = List (ℕ × E)} (λ l. all ++ l) seat.state.told in
+    let rest = c.next.new.self.rest.items in
+    let n : ℕ = length c.args.seats.items - length c.loop-seat.seat-iterator.rest.items in
+    let size : length c.loop-seat.seat-iterator.rest.items ≡ length rest + 1 = (let q = ap length s.0 in omega arith) in
+    let more : n + 1 ≡ length c.args.seats.items - length rest = (let a = i.left in omega arith) in
+    let w : View E X = seat.state.token.me.0 in
+    record {
+      table = c.join_seat.ensures.0 ∙ i.table;
+      left = let a = i.left in omega arith;
+      me = c.join_seat.ensures.2 ∙ (ap (λ x. (joined x.0 w, x.1)) i.me ∙ (ap {A = View E X} (λ v. (v, [])) (joined_view all n w seat.state.part)
+          ∙ (ap {A = ℕ} (λ k. (view {E = E} {X = X} (32 * k) (all ++ w.entries) [] [], [])) more ∙ ap {A = List (ℕ × E)} (λ l. (view {E = E} {X = X} (32 * (length c.args.seats.items - length rest)) l [] [], [])) (sym moved))));
+      all = ap {A = List (ℕ × E)} (λ l. l ++ all_of (λ t. t.state.token.me.0.entries) rest) moved ∙ (append_assoc all w.entries (all_of (λ t. t.state.token.me.0.entries) rest) ∙ (ap {A = List (ℕ × E)} (λ l. all ++ l) (sym (all_of_split (λ t. t.state.token.me.0.entries) _ _ _ s.0)) ∙ i.all));
+      room = let a = ap length moved in let b = length-append all w.entries in let t = total_split (λ t. length t.state.token.me.0.entries) _ _ _ s.0 in let r = i.room in let k = c.move_all.ensures.room in omega arith;
+      each = here.1;
+    }

@@ -1,0 +1,15 @@
+use Rattle.std.proofs.Common.{◌≡◌, ◌≤◌, ◌+◌, ◌-◌, ◌*◌, ◌++◌, [], length, vec_capacity}
+use Rattle.std.specs.List.{All}
+use Rattle.group_locks.specs.Counts.{all_of, total}
+use Rattle.group_locks.specs.Rule.{view}
+use Rattle.group_locks.proofs.close.gather.Given as goal
+
+abbrev pub invariant-loop-seat : goal.invariant-loop-seat
+invariant-loop-seat g l = record {
+  table : l.token.table_id ≡ l.initial.token.table_id;
+  left : length l.seat-iterator.rest.items ≤ length l.fn.seats.items;
+  me : l.token.me ≡ (view (32 * (length l.fn.seats.items - length l.seat-iterator.rest.items)) l.all.items [] [], []);
+  all : l.all.items ++ all_of (λ s. s.state.token.me.0.entries) l.seat-iterator.rest.items ≡ all_of (λ s. s.state.token.me.0.entries) l.fn.seats.items;
+  room : length l.all.items + total (λ s. length s.state.token.me.0.entries) l.seat-iterator.rest.items ≤ vec_capacity l.all;
+  each : All (λ s. (s.state.token.table_id ≡ l.initial.token.table_id) × (s.state.token.me.0.held ≡ [])) l.seat-iterator.rest.items;
+}

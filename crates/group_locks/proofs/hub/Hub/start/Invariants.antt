@@ -1,0 +1,14 @@
+use Rattle.std.proofs.Common.{◌≡◌, ◌≤◌, ◌+◌, ◌-◌, [], length, vec_len, vec_capacity}
+use Rattle.std.specs.List.{All}
+use Rattle.group_locks.specs.Rule.{newcomer}
+use Rattle.group_locks.proofs.hub.Hub.start.Given as goal
+
+abbrev pub invariant-loop : goal.invariant-loop
+invariant-loop g l = record {
+  table : l.token.table_id ≡ l.hub.table.shared.table_id;
+  me : l.token.me ≡ (newcomer (l.seats + 1 - l.counter), []);
+  count : length l.made.items + 1 ≡ l.counter;
+  len : vec_len l.made + 1 ≡ l.counter;
+  room : l.seats ≤ vec_capacity l.made;
+  each : All (λ s. (s.state.token.table_id ≡ l.hub.table.shared.table_id) × (s.state.token.me.0 ≡ newcomer 1)) l.made.items;
+}

@@ -1,0 +1,14 @@
+use Rattle.std.proofs.Common.{◌++◌, ◌∷◌, [], sym, subst}
+use Rattle.group_locks.specs.declared.view.View.{View}
+use Rattle.group_locks.specs.Rule.{Carries}
+use Rattle.group_locks.proofs.Groups.{carries_drawn}
+use Rattle.group_locks.proofs.seat.Seat.commit.Goals as goal
+
+pub returns-clause-carries : goal.returns-clause-carries
+returns-clause-carries g c =
+    let m = g.S.Scene.meaning in
+    let E : Type 0 = g.row.S-Entry.Denot in let X : Type 0 = g.row.S-Shard.Denot in
+    let f = g.S.Scene.in_hand c.args.held.now in
+    let v : View E X = c.args.self.now.state.token.me.0 in
+    let P : View E X → Type 0 = λ w. Carries m w.since w.held f in
+    subst P (sym c.commit_at.ensures.view) (carries_drawn m f (v.since ++ c.args.entry ∷ []) v.held c.requires.carries)

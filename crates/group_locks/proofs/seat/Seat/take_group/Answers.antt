@@ -1,0 +1,22 @@
+use Rattle.std.proofs.Common.{◌∙◌, sym, ap, arith}
+use Rattle.std.proofs.lemmas.Nat.Bits.{bit_at_above}
+use mathlib.Core.Logic.{dite}
+use native.Mathlib.Decide.{dec_le}
+use Rattle.group_locks.proofs.Groups.{below_none, below_on}
+use Rattle.group_locks.proofs.seat.Seat.take_group.Goals as goal
+
+pub invariant_of-self : goal.invariant_of-self
+invariant_of-self g c = let e = c.take_turns.ensures in let s = c.args.self.now.state in record {
+  told = s.told ∙ sym (ap (λ v. v.entries) e.view);
+  out = e.out;
+  falls = e.falls;
+  part = (let p = s.part in let q = ap (λ v. v.parts) e.view in omega arith);
+  fresh = λ _. ap (λ v. v.since) e.view;
+}
+
+pub returns-clause-turns : goal.returns-clause-turns
+returns-clause-turns g c k =
+    let held = c.take_turns.new.token.me.0.held in
+    dite (dec_le 64 k)
+    (λ le. below_none k held (below_on 64 k held le c.take_turns.ensures.falls.0) ∙ sym (bit_at_above c.args.shards 64 k (let fits = c.ranges.shards.fits in omega arith) le))
+    (λ nle. c.take_turns.ensures.numbers k (omega arith))

@@ -1,0 +1,16 @@
+use Rattle.std.proofs.Common.{◌≡◌, ◌∙◌, sym, ap, subst, arith, List}
+use Rattle.group_locks.specs.Meaning.{Follows}
+use Rattle.group_locks.proofs.Turns.{give_turn}
+use Rattle.group_locks.proofs.steps.give_turn.Goals as goal
+
+pub store-requires : goal.store-requires
+store-requires g c =
+    let m = g.S.Scene.meaning in
+    let me = c.exchange.ensures.3 in
+    let top = c.requires.top in
+    let view : c.exchange.new.seat.me.0 ≡ c.args.token.now.me.0 = ap (λ a. a.0) me in
+    let P : List _ → Type 0 = λ es. Follows m es c.args.number top.0 c.args.shard in (
+      c.exchange.ensures.0 ∙ c.requires.table,
+      (let w = c.requires.counts in let n = c.requires.number in omega arith),
+      give_turn m _ _ _ _ c.args.number _ _ _ _ top.0 c.args.shard (ap (λ v. v.held) view ∙ top.1) (ap (λ a. a.1) me) (subst P (sym (ap (λ v. v.since) view)) top.2),
+    )

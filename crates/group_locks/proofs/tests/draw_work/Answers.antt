@@ -1,0 +1,23 @@
+use Rattle.std.proofs.Common.{◌++◌, ◌∷◌, [], sym, subst, arith, Option, List, ℕ, None, slice_index_or}
+use Rattle.group_locks.specs.Meaning.{AllFollow}
+use Rattle.group_locks.specs.Rule.{Carries}
+use Rattle.group_locks.specs.Numbers.{numbers}
+use Rattle.group_locks.proofs.Numbers.{follow_self, has_space, carries_on}
+use Rattle.group_locks.proofs.tests.draw_work.Goals as goal
+
+pub commit-requires-clause-allowed : goal.commit-requires-clause-allowed
+commit-requires-clause-allowed c κs =
+    let held = c.args.seat.now.state.token.me.0.held in
+    let P : List ℕ → Type 0 = λ es. AllFollow numbers es held held in
+    (held, subst P (sym c.requires.since) (follow_self held), has_space held (λ k. slice_index_or c.args.hand.now.rows k None) c.args.work c.in-Some.x (sym c.in-Some.ensures) (let x = c.if-x-lt18446744073709551615.true in omega arith) c.requires.carries)
+
+pub commit-requires-clause-carries : goal.commit-requires-clause-carries
+commit-requires-clause-carries c κs =
+    let held = c.args.seat.now.state.token.me.0.held in
+    let f' : ℕ → Option ℕ = λ k. slice_index_or c.put.new.self.rows k None in
+    let P : List ℕ → Type 0 = λ es. Carries numbers (es ++ c.args.work ∷ []) held f' in
+    subst P (sym c.requires.since) (carries_on held (λ k. slice_index_or c.args.hand.now.rows k None) f' c.args.work c.in-Some.x (sym c.in-Some.ensures) c.put.ensures.here c.put.ensures.others c.requires.carries)
+
+pub returns-in_default-clause-carries : goal.returns-in_default-clause-carries
+returns-in_default-clause-carries c =
+    let P : List ℕ → Type 0 = λ es. Carries numbers es c.args.seat.now.state.token.me.0.held (λ k. slice_index_or c.args.hand.now.rows k None) in subst P (sym c.requires.since) c.requires.carries

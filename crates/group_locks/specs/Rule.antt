@@ -1,0 +1,129 @@
+-- What holds between any two steps of a hub, and what each step tells the seat that makes it.
+-- Word 0 counts the entries drawn. Word k + 1 is 1 while a seat has the turn of shard k, and else 0. Slot k holds shard k while nobody has its turn.
+use Rattle.std.specs.Prelude.{◌≡◌, ◌≢◌, ℕ, ◌+◌, ◌-◌, ◌*◌, ◌^◌, ◌<◌, ◌≤◌, Bool, true, List, [], ◌∷◌, ◌++◌, length, slice_index, slice_get, Option, Some, None, nat_lt, ◌&&◌}
+use mathlib.Core.Option.{some, none}
+use mathlib.Core.Option as opt
+use lib.ListN.{get_elem?}
+use Rattle.atomic_table.specs.Table.{State, Me, Step, rest}
+use Rattle.group_locks.specs.declared.view.View.{View}
+use Rattle.group_locks.specs.Counts.{count, total, once_below, Each}
+use Rattle.group_locks.specs.Meaning.{Meaning, store_after, Allowed, Follows, AllFollow, Ran}
+
+-- a view, field by field
+abbrev pub view : {E X : Type 0} → ℕ → List (ℕ × E) → List (ℕ × X) → List E → View E X
+view parts entries held since = record { parts = parts; entries = entries; held = held; since = since }
+
+-- a seat with the parts of so many seats, which has drawn nothing and holds nothing
+abbrev pub newcomer : {E X : Type 0} → ℕ → View E X
+newcomer seats = view (32 * seats) [] [] []
+
+module _ {Store E X : Type 0} (m : Meaning Store E X) (now : Store) (words : List ℕ) (homes : List (opt.Option (Option X))) (views : List (View E X)) where
+  -- Turns. A turn word names at most one seat, whose view names the turn. A shard whose turn is free is in its slot, and is the projection of the
+  -- store now. A shard whose turn is held is so too, up to what the entries that its holder drew since may make of it.
+  pub record TurnRule : Type 0 where
+    pub turn : (k : ℕ) → k < 64 → slice_index words (k + 1) ≡ total (λ v. count k v.held) views
+    pub one : (k : ℕ) → k < 64 → total (λ v. count k v.held) views < 2
+    pub home : (k : ℕ) → k < 64 → slice_index words (k + 1) ≡ 0 → (x : X) × (get_elem? homes k ≡ some (some (Some x))) × m.projects now k x
+    pub idle : (id : ℕ) (v : View E X) → get_elem? views id ≡ some v → v.parts ≡ 0 → v.held ≡ []
+    pub held : (id : ℕ) (v : View E X) → get_elem? views id ≡ some v → Each (λ k x. (k < 64) × ((y : X) → Follows m v.since k x y → m.projects now k y)) v.held
+
+module _ {E X : Type 0} (seats : ℕ) (log : List E) (word : ℕ) (views : List (View E X)) where
+  -- Draws. The numbers in all lists differ, are below the sequence word and are all the numbers below it, and each entry is that of its number in the
+  -- log. Each seat has 32 parts, and at most 2^53 entries a part, so the word doesn't wrap; a view without parts has no entry.
+  pub record DrawRule : Type 0 where
+    pub drawn : word ≡ length log
+    pub numbers : (id : ℕ) (v : View E X) → get_elem? views id ≡ some v → Each (λ n e. get_elem? log n ≡ some e) v.entries
+    pub once : (n : ℕ) → total (λ v. count n v.entries) views ≡ once_below n (length log)
+    pub sums : total (λ v. length v.entries) views ≡ length log
+    pub parts : total (λ v. v.parts) views ≡ 32 * seats
+    pub small : (id : ℕ) (v : View E X) → get_elem? views id ≡ some v → length v.entries ≤ v.parts * 2 ^ 53
+
+-- The rule of a hub, between any two steps: the entries drawn, in order of number, are an allowed list from a store that the opened shards project, and
+-- turns and draws are as they are to be.
+pub record HubRule {Store E X : Type 0} (m : Meaning Store E X) (opened : List X) (seats : ℕ) (s : State (Option X) (View E X)) : Type 0 where
+  pub store : Store
+  pub log : List E
+  pub wide : length s.words ≡ 65
+  pub long : length s.homes ≡ 64
+  pub few : seats ≤ 32
+  pub opens : (k : ℕ) (x : X) → get_elem? opened k ≡ some x → m.projects store k x
+  pub legal : Allowed m store log
+  pub turns : TurnRule m (store_after m store log) s.words s.homes s.views
+  pub draws : DrawRule seats log (slice_index s.words 0) s.views
+
+-- a turn is taken, with what its slot holds, where the word was 0; else nothing changes
+abbrev pub Took : {E X : Type 0} → Step (Option X) → Me (Option X) (View E X) → ℕ → Me (Option X) (View E X) → Type 0
+Took st a r b = (r ≡ 0 → (k : ℕ) × (x : _) × (st.word ≡ k + 1) × (b ≡ (view a.0.parts a.0.entries ((k, x) ∷ a.0.held) a.0.since, (k, Some x) ∷ a.1))) × (r ≢ 0 → b ≡ a)
+
+-- what is known of entries is forgotten with the last shard
+abbrev pub since_after : {E X : Type 0} → List (ℕ × X) → List E → List E
+since_after [] es = []
+since_after (p ∷ ps) es = es
+
+-- the view after the turn that was taken last is given back
+abbrev pub given_back : {E X : Type 0} → View E X → View E X
+given_back v = view v.parts v.entries (rest v.held) (since_after (rest v.held) v.since)
+
+-- a turn is given back
+abbrev pub Gave : {E X : Type 0} → Step (Option X) → Me (Option X) (View E X) → ℕ → Me (Option X) (View E X) → Type 0
+Gave st a r b = b ≡ (given_back a.0, rest a.1)
+
+-- the view after this entry is drawn with this number
+abbrev pub after_draw : {E X : Type 0} → View E X → ℕ → E → View E X
+after_draw v n e = view v.parts (v.entries ++ (n, e) ∷ []) v.held (since_after v.held (v.since ++ e ∷ []))
+
+-- the entry that was named is drawn, with the number found
+abbrev pub Drew : {E X : Type 0} → Option E → Step (Option X) → Me (Option X) (View E X) → ℕ → Me (Option X) (View E X) → Type 0
+Drew {E = E} named st a r b = (e : E) → named ≡ Some e → b ≡ (after_draw a.0 r e, a.1)
+
+-- the seat may draw this entry: it holds the turns of all shards that the entry touches, and the held shards, as its draws since made them, tell that it is allowed
+pub record MayDraw {Store E X : Type 0} (m : Meaning Store E X) (v : View E X) (e : E) : Type 0 where
+  pub room : length v.entries < v.parts * 2 ^ 53
+  pub within : (k : ℕ) → m.touched e k ≡ true → 0 < count k v.held
+  pub before : List (ℕ × X)
+  pub follows : AllFollow m v.since v.held before
+  pub tells : m.tells before e
+
+-- a seat with 32 parts is cut off
+abbrev pub cut_left : {E X : Type 0} → View E X → View E X
+cut_left v = view (v.parts - 32) v.entries v.held v.since
+
+-- the seat that was cut off
+abbrev pub cut_right : {E X : Type 0} → View E X
+cut_right = view 32 [] [] []
+
+-- two seats are made one
+abbrev pub joined : {E X : Type 0} → View E X → View E X → View E X
+joined v w = view (v.parts + w.parts) (v.entries ++ w.entries) [] []
+
+-- a seat that was joined to another has nothing left
+abbrev pub spent : {E X : Type 0} → View E X
+spent = view 0 [] [] []
+
+-- a seat comes that has nothing
+abbrev pub Entered : {E X : Type 0} → Step (Option X) → Me (Option X) (View E X) → ℕ → Me (Option X) (View E X) → Type 0
+Entered st a r b = b ≡ (spent, [])
+
+-- the slots of these shards are out, and empty
+abbrev pub emptied : {X : Type 0} → List (ℕ × X) → List (ℕ × Option X)
+emptied [] = []
+emptied (p ∷ ps) = (p.0, None) ∷ emptied ps
+
+-- all numbers are below the bound
+abbrev pub below : {X : Type 0} → ℕ → List (ℕ × X) → Bool
+below n [] = true
+below n (p ∷ ps) = nat_lt p.0 n && below n ps
+
+-- each number is above those that follow
+abbrev pub descends : {X : Type 0} → List (ℕ × X) → Bool
+descends [] = true
+descends (p ∷ ps) = below p.0 ps && descends ps
+
+-- what is in hand: each shard of the list, as these entries may have made it, and no other
+abbrev pub Carries : {Store E X : Type 0} → Meaning Store E X → List E → List (ℕ × X) → (ℕ → Option X) → Type 0
+Carries m since held in_hand = Each (λ k x. (y : _) × (in_hand k ≡ Some y) × Follows m since k x y) held × ((k : ℕ) → count k held ≡ 0 → in_hand k ≡ None)
+
+-- the numbered entries are those of a list that ran, each at its number and each number once
+abbrev pub RanBy : {Store E X : Type 0} → Meaning Store E X → List X → List (ℕ × E) → List X → Type 0
+RanBy {E = E} m opened entries closed =
+    (log : List E) × Ran m opened log closed × (length entries ≡ length log) × Each (λ n e. slice_get log n ≡ Some e) entries × ((n : ℕ) → count n entries ≡ once_below n (length log))

@@ -1,0 +1,22 @@
+//! A hub: turns of 64 shards, and one sequence of entries, for up to 32 seats that work side by side.
+#![tactic(auto)]
+
+mod close;
+mod hub;
+mod order;
+mod rule;
+mod scene;
+mod seat;
+mod state;
+mod steps;
+#[cfg(test)]
+mod tests;
+mod view;
+
+pub use crate::close::Closed;
+pub use crate::hub::{Hub, Pool};
+pub use crate::rule::{Opened, Rule};
+pub use crate::scene::Scene;
+pub use crate::seat::Seat;
+pub use crate::state::SeatState;
+pub use crate::view::View;

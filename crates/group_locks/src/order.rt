@@ -1,0 +1,48 @@
+//! Puts numbered things in their order.
+ghost use Rattle.std.specs.Prelude.{◌≡◌, ℕ, ◌+◌, ◌<◌, ◌≤◌, List, [], None, Some, Option, IsSome, length, map, replicate, IfOk, slice_get, vec_len, vec_capacity};
+ghost use Rattle.group_locks.specs.Counts.{count, once_below, placed, Each};
+
+use std::alloc::{AllocError, Global};
+
+/// As many empty places.
+pub fn empty_places<T: Drop>(alloc: Global, count: usize) -> Result<Vec<Option<T>>, AllocError>
+    ensures { IfOk result (λ v. v.items ≡ replicate count None) }
+{
+    let mut places = Vec::with_capacity(alloc, count)?;
+    for _ in 0..count {
+        places.push_reserved(None);
+    }
+    Ok(places)
+}
+
+// Puts each thing at its number.
+fn place_all<T: Drop>(mut places: Vec<Option<T>>, things: Vec<(u64, T)>) -> Vec<Option<T>>
+    requires { (n : ℕ) → length places.items ≤ n → count n things.items ≡ 0 }
+    ensures { result.items ≡ placed places.items things.items }
+{
+    for (number, thing) in things {
+        places[number as usize] = Some(thing);
+    }
+    places
+}
+
+fn unwrap_all<T: Drop>(places: Vec<Option<T>>, mut out: Vec<T>) -> Vec<T>
+    requires full { (k : ℕ) → k < length places.items → (x : T) × (slice_get places.items k ≡ Some (Some x)) }
+    requires room { (out.items ≡ []) × (length places.items ≤ vec_capacity out) }
+    ensures { map (λ x. Some x) result.items ≡ places.items }
+{
+    for place in places {
+        let Some(x) = place else { unreachable!() };
+        out.push_reserved(x);
+    }
+    out
+}
+
+/// The things in the order of their numbers, each of which stands once.
+pub fn in_order<T: Drop>(places: Vec<Option<T>>, things: Vec<(u64, T)>, out: Vec<T>) -> Vec<T>
+    requires once { (n : ℕ) → count n things.items ≡ once_below n (length places.items) }
+    requires room { (out.items ≡ []) × (length places.items ≤ vec_capacity out) }
+    ensures { (length result.items ≡ length places.items) × Each (λ n x. slice_get result.items n ≡ Some x) things.items }
+{
+    unwrap_all(place_all(places, things), out)
+}

@@ -1,0 +1,141 @@
+//! The steps of one seat: turns, and draws.
+ghost use Rattle.std.specs.Prelude.{◌≡◌, ℕ, true, ◌+◌, ◌<◌, [], ◌∷◌, None, Some};
+ghost use Rattle.std.specs.Int.{bit_at};
+ghost use Rattle.group_locks.specs.Counts.{count};
+ghost use Rattle.group_locks.specs.Rule.{view, emptied, below, descends, given_back, after_draw, Carries, MayDraw};
+ghost use Rattle.group_locks.specs.Meaning.{Follows};
+ghost use Rattle.atomic_table.specs.Table.{rest};
+
+use crate::rule::{Draw, Give, Naming, Opened, Rule, Take};
+use crate::scene::Scene;
+use crate::view::View;
+use atomic_table::Shared;
+use std::marker::Brand;
+use std::sync::Wait;
+
+pub type Token<S: Scene> = atomic_table::Seat<Option<S::Shard>, View<S::Entry, S::Shard>>;
+
+pub type Board<S: Scene> = Shared<
+    Option<S::Shard>,
+    View<S::Entry, S::Shard>,
+    Opened<S::Shard>,
+    Rule<S>,
+>;
+
+// Takes the turn of a shard, and the shard out of its slot.
+fn take_turn<S: Scene, R: Wait>(
+    rt: &R,
+    board: &Board<S>,
+    token: &mut Token<S>,
+    number: u32,
+) -> S::Shard
+    requires table { token.old.table_id ≡ board.now.table_id }
+    requires counts { (board.now.table_id.words ≡ 65) × (number < 64) }
+    requires fresh { (token.old.me.0.since ≡ []) × (0 < token.old.me.0.parts) }
+    ensures same { (token.new.table_id ≡ token.old.table_id) × (token.new.id ≡ token.old.id) }
+    ensures view { token.new.me.0 ≡ view token.old.me.0.parts token.old.me.0.entries ((number, result) ∷ token.old.me.0.held) token.old.me.0.since }
+    ensures out { token.new.me.1 ≡ (number, None) ∷ token.old.me.1 }
+{
+    let word = number as usize + 1;
+    for _ in rt.forever() {
+        if board.compare_exchange::<Take>(token, word, 0, 1) == 0 {
+            let Some(shard) = board.exchange(token, number as usize, None) else {
+                unreachable!()
+            };
+            return shard;
+        }
+        board.park(rt, word, 1);
+    }
+    unreachable!()
+}
+
+// Takes the turns of these shards, and moves the shards in hand.
+pub fn take_turns<S: Scene, R: Wait>(
+    rt: &R,
+    scene: &S,
+    board: &Board<S>,
+    token: &mut Token<S>,
+    held: &mut S::Held,
+    shards: u64,
+)
+    requires table { token.old.table_id ≡ board.now.table_id }
+    requires counts { board.now.table_id.words ≡ 65 }
+    requires part { 0 < token.old.me.0.parts }
+    requires fresh { (token.old.me.0.held ≡ []) × (token.old.me.0.since ≡ []) × (token.old.me.1 ≡ []) }
+    requires none { (k : ℕ) → S.in_hand held.old k ≡ None }
+    ensures same { (token.new.table_id ≡ token.old.table_id) × (token.new.id ≡ token.old.id) }
+    ensures view { token.new.me.0 ≡ view token.old.me.0.parts token.old.me.0.entries token.new.me.0.held [] }
+    ensures out { token.new.me.1 ≡ emptied token.new.me.0.held }
+    ensures falls { (below 64 token.new.me.0.held ≡ true) × (descends token.new.me.0.held ≡ true) }
+    ensures carries { Carries S.meaning [] token.new.me.0.held (S.in_hand held.new) }
+    ensures numbers { (k : ℕ) → k < 64 → count k token.new.me.0.held ≡ bit_at shards k }
+{
+    for number in 0..64u32 {
+        if (shards >> number) % 2 == 1 {
+            let shard = take_turn(rt, board, token, number);
+            scene.add(held, number, shard);
+        }
+    }
+}
+
+// Gives back the turn that was taken last, with this shard.
+fn give_turn<S: Scene>(board: &Board<S>, token: &mut Token<S>, number: u32, shard: S::Shard)
+    requires table { token.old.table_id ≡ board.now.table_id }
+    requires counts { board.now.table_id.words ≡ 65 }
+    requires number { number < 64 }
+    requires out { token.old.me.1 ≡ emptied token.old.me.0.held }
+    requires top { (found : S.Shard) × (token.old.me.0.held ≡ (number, found) ∷ rest token.old.me.0.held) × Follows S.meaning token.old.me.0.since number found shard }
+    ensures same { (token.new.table_id ≡ token.old.table_id) × (token.new.id ≡ token.old.id) }
+    ensures view { token.new.me.0 ≡ given_back token.old.me.0 }
+    ensures out { token.new.me.1 ≡ emptied token.new.me.0.held }
+{
+    board.exchange(token, number as usize, Some(shard));
+    board.store::<Give>(token, number as usize + 1, 0);
+    board.wake_one(number as usize + 1);
+}
+
+// Moves all shards in hand home, and gives their turns back.
+pub fn give_turns<S: Scene>(scene: &S, board: &Board<S>, token: &mut Token<S>, held: &mut S::Held)
+    requires table { (token.old.table_id ≡ board.now.table_id) × (board.now.table_id.words ≡ 65) }
+    requires since { token.old.me.0.held ≡ [] → token.old.me.0.since ≡ [] }
+    requires out { token.old.me.1 ≡ emptied token.old.me.0.held }
+    requires falls { (below 64 token.old.me.0.held ≡ true) × (descends token.old.me.0.held ≡ true) }
+    requires carries { Carries S.meaning token.old.me.0.since token.old.me.0.held (S.in_hand held.old) }
+    ensures same { (token.new.table_id ≡ token.old.table_id) × (token.new.id ≡ token.old.id) }
+    ensures view { token.new.me ≡ (view token.old.me.0.parts token.old.me.0.entries [] [], []) }
+    ensures none { (k : ℕ) → S.in_hand held.new k ≡ None }
+{
+    let mut number = 64u32;
+    while number > 0 {
+        number -= 1;
+        if let Some(shard) = scene.remove(held, number) {
+            give_turn(board, token, number, shard);
+        }
+    }
+}
+
+// Draws the entry that the proof names.
+fn draw_as<S: Scene, J: Naming<S::Entry>>(
+    board: &Board<S>,
+    token: &mut Token<S>,
+    entry: &S::Entry,
+) -> u64
+    requires table { (token.old.table_id ≡ board.now.table_id) × (board.now.table_id.words ≡ 65) }
+    requires named { J.entry ≡ Some entry.now }
+    requires may { MayDraw S.meaning token.old.me.0 entry.now }
+    ensures same { (token.new.table_id ≡ token.old.table_id) × (token.new.id ≡ token.old.id) }
+    ensures drawn { token.new.me ≡ (after_draw token.old.me.0 result entry.now, token.old.me.1) }
+{
+    let _ = entry;
+    board.fetch_add::<Draw<J>>(token, 0, 1)
+}
+
+// Draws the entry.
+pub fn draw<S: Scene>(board: &Board<S>, token: &mut Token<S>, entry: &S::Entry) -> u64
+    requires table { (token.old.table_id ≡ board.now.table_id) × (board.now.table_id.words ≡ 65) }
+    requires may { MayDraw S.meaning token.old.me.0 entry.now }
+    ensures same { (token.new.table_id ≡ token.old.table_id) × (token.new.id ≡ token.old.id) }
+    ensures drawn { token.new.me ≡ (after_draw token.old.me.0 result entry.now, token.old.me.1) }
+{
+    draw_as::<S, Brand>(board, token, entry)
+}
