@@ -1,0 +1,29 @@
+-- Ids under fresh digests.
+use Rattle.std.proofs.Common.{◌≤◌, ℕ, List, [], ◌∷◌, ◌++◌, sym, arith}
+use Rattle.std.specs.Prelude.{map as each, flat_map}
+use Rattle.calculus.specs.Rows.{Row}
+use Rattle.calculus.specs.Unfolding.{rows_of, digest}
+use Rattle.calculus.specs.Runs.{Work, work_things}
+use Rattle.events.specs.Events.{first_ids}
+use Rattle.events.specs.Laws.{IdsAreOfferedOnce}
+use Rattle.events.proofs.Counts.{ids, times, differ-distinct, distinct-differ, times-append}
+use Rattle.events.proofs.Standing.{digests, ids-times, rows-times}
+use Rattle.events.proofs.Following.{append_nothing}
+
+-- the rows that these works offer
+abbrev offered : List Work → List Row
+offered ws = flat_map (λ w. rows_of (work_things w)) ws
+
+offered-times : (x : List ℕ) (ws : List Work) → times x (ids (offered ws)) ≤ times x (digests ws)
+offered-times x [] = omega arith
+offered-times x (w ∷ ws) = omega (arith, ids-times x (rows_of (work_things w)) (offered ws), times-append x (each digest (work_things w)) (digests ws), rows-times x (work_things w), offered-times x ws)
+
+pub ids_are_offered_once : IdsAreOfferedOnce
+ids_are_offered_once p cap rows t source ss a l f =
+    distinct-differ (first_ids rows ++ ids (offered a.works)) (λ x. omega (
+      arith,
+      differ-distinct (first_ids rows ++ digests a.works) (f ss [] (sym (append_nothing ss)) a l) x,
+      times-append x (first_ids rows) (ids (offered a.works)),
+      times-append x (first_ids rows) (digests a.works),
+      offered-times x a.works,
+    ))

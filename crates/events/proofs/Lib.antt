@@ -1,0 +1,16 @@
+pub mod Counts
+pub mod Lookups
+pub mod Meetings
+pub mod Lasting
+pub mod Leaving
+pub mod Orders
+pub mod Legal
+pub mod Standing
+pub mod Following
+pub mod Changed
+pub mod Keeping
+pub mod Spent
+pub mod Making
+pub mod Fresh
+pub mod Computed
+pub mod Ending

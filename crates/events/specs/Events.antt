@@ -1,0 +1,84 @@
+-- Events of the core: a worker takes one pending operation, and either stores it or makes a step with it.
+use Rattle.std.specs.Prelude.{◌≡◌, ℕ, Bool, true, List, [], ◌∷◌, ◌++◌, map as each, Some, None, ◌⊎◌}
+use Rattle.calculus.specs.Tree.{Tree}
+use Rattle.calculus.specs.Outcome.{Prices}
+use Rattle.calculus.specs.Log.{Step}
+use Rattle.calculus.specs.Rows.{Row, stdout, stdout_ack}
+use Rattle.calculus.specs.Unfolding.{rows_of}
+use Rattle.calculus.specs.Steps.{Bag, Meeting, is_one_of, differ, meeting, bag_after}
+use Rattle.calculus.specs.Runs.{Work, work_things, body_work, Leads, made_digests}
+
+-- the rows that are stored, the operations that are pending, the steps made, and the work of the source and of each step's body, in order
+pub record Core : Type 0 where
+  pub store : List Row
+  pub pending : List Row
+  pub made : List Step
+  pub works : List Work
+
+-- the core before the first event: a checkpoint's rows, and what the source offers
+abbrev pub started : List Row → Work → Core
+started rows w = record { store = rows; pending = rows_of (work_things w); made = []; works = w ∷ [] }
+
+-- the bag of stored rows alone
+abbrev pub stored : List Row → Bag
+stored rows = record { kept = rows; offered = [] }
+
+-- the bag of stored rows and one operation
+abbrev pub with_operation : List Row → Row → Bag
+with_operation rows r = record { kept = rows; offered = r ∷ [] }
+
+-- whether a row is named by a step
+abbrev pub takes_part : Row → Step → Bool
+takes_part r s = is_one_of r.id (s.receiver ∷ s.data_ids)
+
+-- the core after an operation was stored
+abbrev pub after_put : Core → Row → List Row → List Row → Core
+after_put c r before after = record { store = c.store ++ r ∷ []; pending = before ++ after; made = c.made; works = c.works }
+
+-- an operation is stored: it is pending, and no step is allowed that it makes with stored rows and the built-in receivers
+pub record Puts (c d : Core) : Type 0 where
+  pub operation : Row
+  pub before : List Row
+  pub after : List Row
+  pub pending : c.pending ≡ before ++ operation ∷ after
+  pub alone : (s : Step) → takes_part operation s ≡ true → meeting (with_operation c.store operation) c.made s ≡ None
+  pub is : d ≡ after_put c operation before after
+
+-- the core after a step of an operation with stored rows: what leaves the bag is gone, the operation is pending still if it stays, and so is what the body offers
+abbrev pub stepped : Core → Row → List Row → List Row → Step → Meeting → Work → Core
+stepped c r before after s m w =
+    let b : Bag = bag_after (with_operation c.store r) m (rows_of (work_things w)) in
+    record { store = b.kept; pending = before ++ (b.offered ++ after); made = c.made ++ s ∷ []; works = c.works ++ w ∷ [] }
+
+-- an operation makes a step: it is pending, and with stored rows and the built-in receivers makes a step that is allowed
+pub record Meets (p : Prices) (cap : ℕ) (c d : Core) : Type 0 where
+  pub operation : Row
+  pub before : List Row
+  pub after : List Row
+  pub pending : c.pending ≡ before ++ operation ∷ after
+  pub step : Step
+  pub takes : takes_part operation step ≡ true
+  pub found : Meeting
+  pub allowed : meeting (with_operation c.store operation) c.made step ≡ Some found
+  pub room : ℕ
+  pub work : Work
+  pub works : body_work p cap room step found ≡ Some work
+  pub is : d ≡ stepped c operation before after step found work
+
+-- an event
+abbrev pub Event : Prices → ℕ → Core → Core → Type 0
+Event p cap c d = Puts c d ⊎ Meets p cap c d
+
+-- events lead from one core to another
+pub data Events (p : Prices) (cap : ℕ) (c : Core) : Core → Type 0 where
+  no_event : Events p cap c c
+  one_more : {d e : Core} → Events p cap c d → Event p cap d e → Events p cap c e
+
+-- the ids of what stands before the first step: of the checkpoint's rows and of the built-in receivers
+abbrev pub first_ids : List Row → List (List ℕ)
+first_ids rows = each (λ r. r.id) (rows ++ (stdout ∷ stdout_ack ∷ []))
+
+-- the digests that a deploy makes are fresh: wherever its first steps lead, no two of the ids that stood there before and the ids and names made so far are equal
+abbrev pub AreFresh : Prices → ℕ → List Row → Tree → List ℕ → List Step → Type 0
+AreFresh p cap rows t source ss = (first rest : List Step) → ss ≡ first ++ rest
+    → (a : _) → Leads p cap rows t source first a → differ (first_ids rows ++ made_digests a) ≡ true

@@ -1,0 +1,4 @@
+pub mod Events
+pub mod Found
+pub mod Laws
+pub mod Examples

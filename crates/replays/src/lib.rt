@@ -1,0 +1,6 @@
+//! Replays: the answer to a log, as a function of what it is replayed on. Each law of the definitions is the contract of
+//! a function that does nothing.
+#![tactic(auto)]
+
+pub mod examples;
+pub mod laws;
