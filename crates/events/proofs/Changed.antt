@@ -10,7 +10,8 @@ use Rattle.events.specs.Found.{leaving_rows, leaving_facts}
 use Rattle.events.proofs.Meetings.{Joined}
 use Rattle.events.specs.Found.{without}
 use Rattle.events.proofs.Leaving.{without-append}
-use Rattle.events.proofs.Orders.{Moved, moved_after, all_over}
+use Rattle.events.specs.Orders.{Moved}
+use Rattle.events.proofs.Orders.{moved_after, all_over}
 
 -- rows that leave are rows that met
 leaving-times : (x : List ℕ) (k : Kind) (qs : List Row) (ds : List Datum) → times x (ids (leaving_facts k qs ds)) ≤ times x (ids qs)

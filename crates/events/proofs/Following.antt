@@ -15,7 +15,8 @@ use Rattle.events.proofs.Counts.{ids, times, AreDistinct, differ-distinct, membe
 use Rattle.events.proofs.Meetings.{Joined, place_in, meeting_at, MadeBy, made_by, makes}
 use Rattle.events.specs.Found.{without, leaving_rows}
 use Rattle.events.proofs.Leaving.{places-leave}
-use Rattle.events.proofs.Orders.{Moved, moved_so, member-moved, times-moved}
+use Rattle.events.specs.Orders.{Moved}
+use Rattle.events.proofs.Orders.{moved_so, member-moved, times-moved}
 use Rattle.events.proofs.Standing.{built_ins, digests, ids-times, standing-times, member-split, member-left, member-right, no-more, each-there, left-there}
 
 pub append_nothing : {A : Type 0} (l : List A) → l ++ [] ≡ l

@@ -15,7 +15,8 @@ use Rattle.events.proofs.Counts.{ids, times, AreDistinct, member-times, one_of-t
 use Rattle.events.proofs.Meetings.{Joined, meeting_at, MadeBy, made_by, makes}
 use Rattle.events.specs.Found.{without, leaving_rows}
 use Rattle.events.proofs.Leaving.{without-append}
-use Rattle.events.proofs.Orders.{Moved, join, unmoved, moved_after, moved_before, over, times-moved, without-moved, permuted}
+use Rattle.events.specs.Orders.{Moved, join}
+use Rattle.events.proofs.Orders.{unmoved, moved_after, moved_before, over, times-moved, without-moved}
 use Rattle.events.proofs.Legal.{leads-none, leads-more}
 use Rattle.events.proofs.Changed.{all-leaving-times, among-times, rest-moved}
 use Rattle.events.proofs.Standing.{built_ins, digests, ids-times, standing-times, each-there, left-times, none-leaves, rows-times, digests-more}
@@ -193,4 +194,4 @@ module _ (p : Prices) (cap : â„•) (rows : List Row) (t : Tree) (source : List â„
 pub events_are_legal : EventsAreLegal
 events_are_legal p cap rows t source w c b es f =
     let k = kept-all p cap rows t source w c b es f in
-    record { state = k.state; leads = k.leads; works = k.works; same_rows = permuted k.rows_moved; quiet = k.quiet }
+    record { state = k.state; leads = k.leads; works = k.works; same_rows = k.rows_moved; quiet = k.quiet }

@@ -1,20 +1,12 @@
 -- Lists with the same members in another order.
 use Rattle.std.proofs.Common.{◌≡◌, ℕ, ◌+◌, Bool, true, false, cond, List, [], ◌∷◌, ◌++◌, refl, ap, sym, ◌∙◌, subst, arith, inl, inr}
 use Rattle.std.specs.Str.{bytes_eq}
-use Rattle.std.specs.List.Sorted.{IsPermutation}
-use Rattle.std.proofs.lemmas.List.Sorted.{IsPermutation-refl, IsPermutation-cons, IsPermutation-trans, IsPermutation-append_comm, IsPermutation-append_left}
 use Rattle.calculus.specs.Rows.{Row}
+use Rattle.events.specs.Orders.{Moved, empty, keep, exchange, join}
 use Rattle.calculus.specs.Steps.{is_one_of}
 use Rattle.calculus.proofs.Candidates.{Member}
 use Rattle.events.proofs.Counts.{ids, times, one_if}
 use Rattle.events.specs.Found.{without}
-
--- two lists are equal up to exchanges of neighbours
-pub data Moved {A : Type 0} : List A → List A → Type 0 where
-  empty : Moved [] []
-  keep : {xs ys : List A} (x : A) → Moved xs ys → Moved (x ∷ xs) (x ∷ ys)
-  exchange : (x y : A) (zs : List A) → Moved (x ∷ y ∷ zs) (y ∷ x ∷ zs)
-  join : {xs ys zs : List A} → Moved xs ys → Moved ys zs → Moved xs zs
 
 pub unmoved : {A : Type 0} (xs : List A) → Moved xs xs
 unmoved [] = empty
@@ -90,10 +82,3 @@ without-moved ns (exchange r q zs) = go (is_one_of r.id ns) (is_one_of q.id ns)
     go false true = unmoved (r ∷ without ns zs)
     go false false = exchange r q (without ns zs)
 without-moved ns (join h k) = join (without-moved ns h) (without-moved ns k)
-
--- as std says it
-pub permuted : {A : Type 0} {xs ys : List A} → Moved xs ys → IsPermutation xs ys
-permuted empty = IsPermutation-refl []
-permuted (keep {xs} {ys} x h) = IsPermutation-cons x xs ys (permuted h)
-permuted (exchange x y zs) = IsPermutation-append_left zs (x ∷ y ∷ []) (y ∷ x ∷ []) (IsPermutation-append_comm (x ∷ []) (y ∷ []))
-permuted (join {xs} {ys} {zs} h k) = IsPermutation-trans xs ys zs (permuted h) (permuted k)

@@ -1,6 +1,5 @@
 -- What a list of events comes to.
 use Rattle.std.specs.Prelude.{◌≡◌, ◌≢◌, ◌⊎◌, ℕ, true, false, List, [], ◌∷◌, ◌++◌, map, flat_map, Some, None}
-use Rattle.std.specs.List.Sorted.{IsPermutation}
 use Rattle.calculus.specs.Tree.{Tree}
 use Rattle.calculus.specs.Outcome.{Prices}
 use Rattle.calculus.specs.Log.{Step}
@@ -10,6 +9,7 @@ use Rattle.calculus.specs.Root.{root}
 use Rattle.calculus.specs.Unfolding.{rows_of, Unfolds}
 use Rattle.calculus.specs.Steps.{Meeting, differ, meeting, stored_rows}
 use Rattle.calculus.specs.Runs.{Work, work_things, State, body_work, Leads, done, verdict, IsRun}
+use Rattle.events.specs.Orders.{Moved}
 use Rattle.events.specs.Events.{Core, started, stored, after_put, Event, Events, first_ids, AreFresh}
 use Rattle.events.specs.Found.{met, Among, AreAtHand, is_lasting, after_meeting, step_of}
 
@@ -18,7 +18,7 @@ pub record Follows (p : Prices) (cap : ℕ) (rows : List Row) (t : Tree) (source
   pub state : State
   pub leads : Leads p cap rows t source c.made state
   pub works : state.works ≡ c.works
-  pub same_rows : IsPermutation (stored_rows state.bag) (c.store ++ c.pending)
+  pub same_rows : Moved (stored_rows state.bag) (c.store ++ c.pending)
   pub quiet : (s : Step) → meeting (stored c.store) c.made s ≡ None
 
 -- events begin at a checkpoint that allows no step, with what a process offers

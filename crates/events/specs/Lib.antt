@@ -1,3 +1,4 @@
+pub mod Orders
 pub mod Events
 pub mod Found
 pub mod Laws
