@@ -1,1 +1,4 @@
-mod Grown
+pub mod Grown
+pub mod Repeated
+pub mod Written
+pub mod Texts

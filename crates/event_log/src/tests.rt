@@ -2,7 +2,7 @@
 ghost use Rattle.std.specs.Prelude.{◌≤◌, length, IfOk};
 ghost use Rattle.event_log.specs.View.{IsWritable};
 
-use crate::{Log, LogHeader, LogStep, MOST_DATA, write_log};
+use crate::{Log, LogFault, LogHeader, LogStep, MOST_DATA, read_log, write_log};
 use calculus::Digest;
 use std::alloc::{AllocError, Global};
 use std::test::Fail;
@@ -124,5 +124,51 @@ fn logs_are_written_byte_for_byte(rt: HostRuntime) -> Result<(), Fail> {
     let data = [Digest(JOIN_LEFT), Digest(JOIN_RIGHT)];
     let join = log_of_one_step(alloc, JOIN_SOURCE, 1000, JOIN_CONT, &data)?;
     assert_eq!(rt; write_log(alloc, &join)?.as_slice(), JOIN_LOG.as_slice());
+    Ok(())
+}
+
+#[test]
+fn logs_are_read_again(rt: HostRuntime) -> Result<(), Fail> {
+    let alloc: Global = rt.alloc();
+    let first = log_of_one_step(alloc, FIRST_SOURCE, 22, FIRST_CONT, &[Digest(FIRST_DATUM)])?;
+    assert_eq!(rt; read_log(alloc, &FIRST_LOG)?, first);
+    let data = [Digest(JOIN_LEFT), Digest(JOIN_RIGHT)];
+    let join = log_of_one_step(alloc, JOIN_SOURCE, 1000, JOIN_CONT, &data)?;
+    assert_eq!(rt; read_log(alloc, &JOIN_LOG)?, join);
+    Ok(())
+}
+
+#[test]
+fn each_cut_of_a_log_is_short(rt: HostRuntime) -> Result<(), Fail> {
+    let alloc: Global = rt.alloc();
+    for at in 0..JOIN_LOG.len() {
+        let fault = read_log(alloc, &JOIN_LOG[..at]).err();
+        assert_eq!(rt; fault, Some(LogFault::Short { at }));
+    }
+    Ok(())
+}
+
+#[test]
+fn a_wrong_byte_is_named(rt: HostRuntime) -> Result<(), Fail> {
+    let alloc: Global = rt.alloc();
+    for (at, byte, expected) in [
+        (0, 0, LogFault::Bad { at: 0 }),
+        (6, 9, LogFault::Version { found: 9 }),
+        (
+            111,
+            1,
+            LogFault::TooLong {
+                entries: 16_777_217,
+            },
+        ),
+        (114, 2, LogFault::Short { at: 216 }),
+        (114, 0, LogFault::Bad { at: 115 }),
+        (147, 0, LogFault::Bad { at: 147 }),
+        (147, 17, LogFault::Bad { at: 147 }),
+    ] {
+        let mut log = JOIN_LOG;
+        log[at] = byte;
+        assert_eq!(rt; read_log(alloc, &log).err(), Some(expected));
+    }
     Ok(())
 }

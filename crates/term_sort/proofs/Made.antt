@@ -1,25 +1,26 @@
 -- What is arranged by codes, as trees.
-use Rattle.std.proofs.Common.{◌≡◌, ℕ, true, false, cond, List, [], ◌∷◌, map, refl, ap, sym, ◌∙◌, subst, All}
+use Rattle.std.proofs.Common.{◌≡◌, ℕ, ◌<◌, true, false, cond, List, [], ◌∷◌, ◌++◌, length, map, refl, ap, sym, ◌∙◌, subst, All, arith}
+use Rattle.std.proofs.lemmas.Simd.{map-map}
 use Rattle.std.specs.Prelude.{⊤, Vec}
 use Rattle.std.specs.declared.alloc.Global.{Global}
 use Rattle.calculus.specs.declared.plain.Ground.{Ground}
 use Rattle.calculus.specs.declared.plain.Ground.TheVariants as ground
-use Rattle.std.proofs.lemmas.List.Elements.{All-cons, All-nil}
+use Rattle.std.proofs.lemmas.List.Elements.{All-cons, All-nil, All-head, All-tail, All-push, All-same}
 use Rattle.calculus.specs.Tree.{Label, par, set, dict, Tree, node, trees}
 use Rattle.calculus.specs.Shape.{listed, many}
 use Rattle.calculus.specs.Order.{up_to, IsAscending}
 use Rattle.calculus.specs.Congruence.{is_bag}
 use Rattle.calculus.specs.Code.{code, codes}
-use Rattle.calculus.specs.Normal.{ascending, arranged_by, made_node}
+use Rattle.calculus.specs.Normal.{ascending, by_code, placed_by, arranged_by, made_node}
 use Rattle.calculus.proofs.Placing.{listed-trees, made-steady}
 use Rattle.rho_term.specs.Normal.{IsArranged, IsOrdered}
 use Rattle.rho_term.specs.Parts.{part_tree, pair_tree, ground_tree, term_tree}
 use Rattle.rho_term.specs.declared.term.Part.{Part}
 use Rattle.rho_term.specs.declared.term.Part.TheVariants as part
-use Rattle.term_sort.specs.Made.{reordered, made_process}
+use Rattle.term_sort.specs.Made.{reordered, made_process, with_code, part_with_code, pair_with_code}
 use Rattle.term_sort.proofs.Keys.{put_in, sort_in, Up, up-sort, arranged-sort}
 
-ascending-sort : (ts : List Tree) → ascending ts ≡ sort_in code ts
+pub ascending-sort : (ts : List Tree) → ascending ts ≡ sort_in code ts
 unfolding ascending
 ascending-sort ts = arranged-sort code ts
 
@@ -58,16 +59,32 @@ module _ {X : Type 0} (f : X → Tree) where
   pub map-arranged : (xs : List X) → map f (arranged_by (map (λ y. (code (f y), y)) xs)) ≡ ascending (map f xs)
   map-arranged xs = ap (map f) (arranged-sort (λ y. code (f y)) xs) ∙ map-sort xs ∙ sym (ascending-sort (map f xs))
 
--- the members of a set, and of a map, that were arranged by their codes
-pub set-made : (ms vs : List Tree) (ks : List (List ℕ × Tree)) → ks ≡ map (λ t. (code t, t)) ms → vs ≡ arranged_by ks → many set vs ≡ reordered (many set ms)
-unfolding ascending
-set-made ms vs ks e a = ap (many set) (a ∙ ap arranged_by e) ∙ ap (λ ts. many set (ascending ts)) (sym (listed-trees ms))
+-- one thing is in order
+pub ascending-few : (ts : List Tree) → length ts < 2 → ascending ts ≡ ts
+unfolding ascending by_code placed_by
+ascending-few [] h = refl
+ascending-few (t ∷ []) h = refl
+ascending-few (t ∷ u ∷ ts) h = absurd (omega arith)
 
-pub dict-made : (ps qs : List (Tree × Tree)) (ks : List (List ℕ × (Tree × Tree))) → ks ≡ map (λ q. (code (pair_tree q), q)) ps → qs ≡ arranged_by ks
-    → many dict (map pair_tree qs) ≡ reordered (many dict (map pair_tree ps))
-dict-made ps qs ks e a =
-    ap (λ xs. many dict (map pair_tree xs)) (a ∙ ap arranged_by e) ∙ ap (many dict) (map-arranged pair_tree ps)
-    ∙ ap (λ ts. many dict (ascending ts)) (sym (listed-trees (map pair_tree ps)))
+-- processes, and pairs, that were arranged by their codes
+pub terms-sorted : (ts vs : List Tree) (ks : List (List ℕ × Tree)) → ks ≡ map with_code ts → vs ≡ arranged_by ks → vs ≡ ascending ts
+unfolding ascending
+terms-sorted ts vs ks e a = a ∙ ap arranged_by e
+
+pub pairs-sorted : (ps qs : List (Tree × Tree)) (ks : List (List ℕ × (Tree × Tree))) → ks ≡ map pair_with_code ps → qs ≡ arranged_by ks
+    → map pair_tree qs ≡ ascending (map pair_tree ps)
+pairs-sorted ps qs ks e a = ap (map pair_tree) (a ∙ ap arranged_by e) ∙ map-arranged pair_tree ps
+
+pub parts-sorted : (ps vs : List Part) (ks : List (List ℕ × Part)) → ks ≡ map part_with_code ps → vs ≡ arranged_by ks
+    → map part_tree vs ≡ ascending (map part_tree ps)
+parts-sorted ps vs ks e a = ap (map part_tree) (a ∙ ap arranged_by e) ∙ map-arranged part_tree ps
+
+-- the members of a set, and of a map, in order
+pub set-made : (ms vs : List Tree) → vs ≡ ascending ms → many set vs ≡ reordered (many set ms)
+set-made ms vs a = ap (many set) a ∙ ap (λ ts. many set (ascending ts)) (sym (listed-trees ms))
+
+pub dict-made : (ps qs : List (Tree × Tree)) → map pair_tree qs ≡ ascending (map pair_tree ps) → many dict (map pair_tree qs) ≡ reordered (many dict (map pair_tree ps))
+dict-made ps qs a = ap (many dict) a ∙ ap (λ ts. many dict (ascending ts)) (sym (listed-trees (map pair_tree ps)))
 
 ground-steady : (v : Ground) → reordered (ground_tree v) ≡ ground_tree v
 ground-steady (ground.Bool b) = refl
@@ -114,6 +131,30 @@ each-all : {X : Type 0} (P : X → Type 0) (xs : List X) → Each P xs → All P
 each-all P [] r = All-nil P
 each-all P (x ∷ xs) r = All-cons P x xs r.0 (each-all P xs r.1)
 
+all-each : {X : Type 0} (P : X → Type 0) (xs : List X) → All P xs → Each P xs
+all-each P [] r = tt
+all-each P (x ∷ xs) r = (All-head P x xs r, all-each P xs (All-tail P x xs r))
+
+-- what holds of all holds of the last one
+pub all-split : {X : Type 0} (P : X → Type 0) (xs : List X) (x : X) → All P (xs ++ x ∷ []) → All P xs × P x
+all-split P [] x h = (All-nil P, All-head P x [] h)
+all-split P (y ∷ ys) x h =
+    let r = all-split P ys x (All-tail P y (ys ++ x ∷ []) h) in
+    (All-cons P y ys (All-head P y (ys ++ x ∷ []) h) r.0, r.1)
+
+-- one more thing that is in order
+pub push-ordered : {X : Type 0} (f : X → Tree) (xs ys : List X) (x : X) → ys ≡ xs ++ x ∷ [] → All (λ p. IsOrdered (f p)) xs → IsOrdered (f x) → All (λ p. IsOrdered (f p)) ys
+push-ordered f xs ys x e h o = All-same (λ p. IsOrdered (f p)) ys (xs ++ x ∷ []) e (All-push (λ p. IsOrdered (f p)) xs x h o)
+
+-- what holds of parts holds of them in any order
+pub parts-kept : (ps vs : List Part) (ks : List (List ℕ × Part)) → ks ≡ map part_with_code ps → vs ≡ arranged_by ks → All (λ p. IsOrdered (part_tree p)) ps
+    → All (λ p. IsOrdered (part_tree p)) vs
+parts-kept ps vs ks e a h =
+    let P = λ (p : Part). IsOrdered (part_tree p) in
+    let k = λ (p : Part). code (part_tree p) in
+    let s : vs ≡ sort_in k ps = a ∙ ap arranged_by e ∙ arranged-sort k ps in
+    subst (All P) (sym s) (each-all P (sort_in k ps) (each-sort k P ps (all-each P ps h)))
+
 each-from : (qs : List Part) (ps : List Part) → map part_tree qs ≡ map (λ p. reordered (part_tree p)) ps → Each (λ q. IsOrdered (part_tree q)) qs
 each-from [] ps e = tt
 each-from (q ∷ qs) [] e = cc
@@ -122,38 +163,15 @@ each-from (q ∷ qs) (p ∷ ps) e =
     let r : map part_tree qs ≡ map (λ x. reordered (part_tree x)) ps = cc in
     (subst IsOrdered (sym h) (ordered-reordered (part_tree p)), each-from qs ps r)
 
-map-map : {A B C : Type 0} (f : A → B) (g : B → C) (xs : List A) → map g (map f xs) ≡ map (λ x. g (f x)) xs
-map-map f g [] = refl
-map-map f g (x ∷ xs) = ap (λ ys. g (f x) ∷ ys) (map-map f g xs)
+-- parts whose own members were put in order
+pub members-ordered : (qs ps : List Part) → map part_tree qs ≡ map (λ p. reordered (part_tree p)) ps → All (λ q. IsOrdered (part_tree q)) qs
+members-ordered qs ps e = each-all (λ q. IsOrdered (part_tree q)) qs (each-from qs ps e)
 
-keyed-parts : {W : Type 0} (b : W → List ℕ) (ks : List (W × Part)) → map (λ p. b p.0) ks ≡ map (λ p. code (part_tree p.1)) ks
-    → map {B = List ℕ × Part} (λ p. (b p.0, p.1)) ks ≡ map {B = List ℕ × Part} (λ q. (code (part_tree q), q)) (map (λ p. p.1) ks)
-keyed-parts b [] e = refl
-keyed-parts b (p ∷ ks) e =
-    let h : b p.0 ≡ code (part_tree p.1) = cc in
-    let r : map (λ q. b q.0) ks ≡ map (λ q. code (part_tree q.1)) ks = cc in
-    let t = keyed-parts b ks r in
-    cc
+-- parts in order make a process in order
+pub sorted-ordered : (vs : List Part) (ts : List Tree) → map part_tree vs ≡ ascending ts → IsOrdered (term_tree vs)
+sorted-ordered vs ts e = subst (λ us. IsOrdered (many par us)) (sym e) (ordered-made par ts)
 
--- parts whose own members are in order, arranged by the codes beside them
-module _ {W : Type 0} (b : W → List ℕ) (ps : List Part) (ks : List (W × Part)) (vs : List Part) (codes_are : map (λ p. b p.0) ks ≡ map (λ p. code (part_tree p.1)) ks)
-    (own : map (λ p. part_tree p.1) ks ≡ map (λ p. reordered (part_tree p)) ps) (is : vs ≡ arranged_by (map {B = List ℕ × Part} (λ p. (b p.0, p.1)) ks)) where
-  owned : map part_tree (map (λ p. p.1) ks) ≡ map (λ p. reordered (part_tree p)) ps
-  owned = map-map (λ p. p.1) part_tree ks ∙ own
-
-  sorted : vs ≡ sort_in (λ q. code (part_tree q)) (map (λ p. p.1) ks)
-  sorted = is ∙ ap arranged_by (keyed-parts b ks codes_are) ∙ arranged-sort (λ q. code (part_tree q)) (map (λ p. p.1) ks)
-
-  pub process-made : term_tree vs ≡ made_process (map part_tree ps)
-  process-made =
-      ap (λ xs. many par (map part_tree xs)) sorted ∙ ap (many par) (map-sort part_tree (map (λ p. p.1) ks))
-      ∙ ap (λ ts. many par (sort_in code ts)) (owned ∙ sym (map-map part_tree reordered ps))
-      ∙ ap (many par) (sym (ascending-sort (map reordered (map part_tree ps))))
-
-  pub process-ordered : IsOrdered (term_tree vs)
-  process-ordered = subst IsOrdered (sym process-made) (ordered-made par (map reordered (map part_tree ps)))
-
-  pub parts-ordered : All (λ p. IsOrdered (part_tree p)) vs
-  parts-ordered =
-      let P = λ (p : Part). IsOrdered (part_tree p) in
-      subst (All P) (sym sorted) (each-all P (sort_in (λ q. code (part_tree q)) (map (λ p. p.1) ks)) (each-sort (λ q. code (part_tree q)) P (map (λ p. p.1) ks) (each-from (map (λ p. p.1) ks) ps owned)))
+-- parts whose own members were put in order, in order
+pub process-made : (ps qs vs : List Part) → map part_tree qs ≡ map (λ p. reordered (part_tree p)) ps → map part_tree vs ≡ ascending (map part_tree qs) → term_tree vs ≡ made_process (map part_tree ps)
+process-made ps qs vs own e =
+    ap (many par) (e ∙ ap ascending (own ∙ sym (map-map reordered part_tree ps)))

@@ -1,1 +1,4 @@
 pub mod Made
+pub mod Bound
+pub mod Filled
+pub mod Extent

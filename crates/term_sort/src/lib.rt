@@ -1,8 +1,14 @@
-//! Normal terms of parts in any order.
+//! Normal terms of parts in any order, and of processes with values put in.
 #![tactic(auto)]
 
+mod bound;
 pub mod make;
+mod order;
+pub mod size;
+pub mod substitution;
 #[cfg(test)]
 mod tests;
 
 pub use make::make_par;
+pub use size::put_size;
+pub use substitution::substitute;

@@ -4,15 +4,11 @@ use Rattle.term_sort.specs.Made.{reordered}
 use Rattle.term_sort.proofs.Made.{set-made, dict-made, as-made}
 use Rattle.term_sort.proofs.make.with_order.Goals as goal
 
-pub returns-in_ok-in_order-in-Set : goal.returns-in_ok-in_order-in-Set
-returns-in_ok-in_order-in-Set c =
-    set-made c.in-Set.members.items c.in_ok-in_order-in-Set.field-0.items _ c.in_ok-keyed-in-Set.ensures c.in_ok-in_order-in-Set.ensures
-    ∙ ap (λ p. reordered (part_tree p)) (sym c.in-Set.is)
+pub returns-in_ok-sorted_terms-in-Set : goal.returns-in_ok-sorted_terms-in-Set
+returns-in_ok-sorted_terms-in-Set c = set-made _ _ c.in_ok-sorted_terms-in-Set.ensures ∙ ap (λ p. reordered (part_tree p)) (sym c.in-Set.is)
 
-pub returns-in_ok-in_order-in-Map : goal.returns-in_ok-in_order-in-Map
-returns-in_ok-in_order-in-Map c =
-    dict-made c.in-Map.pairs.items c.in_ok-in_order-in-Map.field-0.items _ c.in_ok-keyed-in-Map.ensures c.in_ok-in_order-in-Map.ensures
-    ∙ ap (λ p. reordered (part_tree p)) (sym c.in-Map.is)
+pub returns-in_ok-sorted_pairs-in-Map : goal.returns-in_ok-sorted_pairs-in-Map
+returns-in_ok-sorted_pairs-in-Map c = dict-made _ _ c.in_ok-sorted_pairs-in-Map.ensures ∙ ap (λ p. reordered (part_tree p)) (sym c.in-Map.is)
 
 pub returns-in_default : goal.returns-in_default
 returns-in_default c = as-made c.args.part c.in_default.not-Set c.in_default.not-Map
