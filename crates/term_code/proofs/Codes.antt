@@ -1,12 +1,11 @@
 -- Codes of forms that hold lists, as the encoder writes them.
-use Rattle.std.proofs.Common.{◌≡◌, ℕ, suc, ◌+◌, true, false, List, [], ◌∷◌, ◌++◌, map, length, refl, ap, arith}
+use Rattle.std.proofs.Common.{◌≡◌, ℕ, suc, true, false, List, [], ◌∷◌, ◌++◌, map, length, refl, ap, arith}
 use Rattle.calculus.specs.Bytes.{joined}
 use Rattle.calculus.specs.Order.{sorted, placed, IsAscending}
 use Rattle.calculus.specs.Tree.{Label, Tree, trees}
 use Rattle.calculus.specs.Shape.{count, many}
 use Rattle.calculus.specs.Congruence.{is_bag}
 use Rattle.calculus.specs.Code.{code, codes, head}
-use Rattle.rho_term.specs.Normal.{IsOrdered}
 
 -- what ascends is sorted already
 pub sorted-ascending : (cs : List (List ℕ)) → IsAscending cs → sorted cs ≡ cs

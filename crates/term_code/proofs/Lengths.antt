@@ -1,5 +1,5 @@
 -- The length of a code is what is counted form by form.
-use Rattle.std.proofs.Common.{◌≡◌, ℕ, ◌+◌, ◌++◌, List, length, refl, arith, length-append}
+use Rattle.std.proofs.Common.{◌≡◌, ℕ, ◌+◌, List, length, refl, arith, length-append}
 use Rattle.std.specs.Prelude.{map as each, ◌+ℤ◌, ◌^◌, pos, nat_abs}
 use Rattle.calculus.specs.Bytes.{be32, joined}
 use Rattle.calculus.specs.Kinds.{origin_number}

@@ -1,2 +1,6 @@
 pub mod Sizes
 pub mod Keys
+pub mod Scopes
+pub mod Texts
+pub mod Reading
+pub mod Wide

@@ -1,8 +1,8 @@
-use Rattle.std.proofs.Common.{rules, arith, ap, map, subst, sym, refl, ◌<◌, ◌≤◌, ◌≡◌, false, true}
+use Rattle.std.proofs.Common.{arith, ap, map, subst, refl, ◌≤◌}
 use Rattle.std.proofs.lemmas.Grind.{common_steps}
 use Rattle.calculus.specs.Code.{code}
 use Rattle.calculus.specs.Tree.{weight, weights, trees, row, list, tuple, set, dict, pattern, par}
-use Rattle.rho_term.specs.Parts.{part_tree, pat_part_tree, term_tree, pat_tree, pair_tree, bind_tree, case_tree}
+use Rattle.rho_term.specs.Parts.{part_tree, pat_part_tree, pair_tree, bind_tree, case_tree}
 use Rattle.rho_term.specs.Normal.{IsNormal, IsOrdered}
 use Rattle.rho_term.proofs.Trees.{weight-at, tree-at, ordered-at}
 use Rattle.term_code.proofs.Codes.{code-many, code-bag, code-trees, code-bag_trees}

@@ -1,8 +1,6 @@
-use Rattle.std.proofs.Common.{◌≡◌, arith, ap, map, length}
+use Rattle.std.proofs.Common.{arith, map}
 use Rattle.std.proofs.lemmas.Grind.{common_steps}
-use Rattle.sha2.specs.Sha256.{sha256}
 use Rattle.calculus.specs.Code.{code}
-use Rattle.calculus.specs.Root.{group_code}
 use Rattle.term_code.proofs.Codes.{sorted-ascending, length-map}
 use Rattle.term_code.proofs.keys.group_key.Goals as goal
 

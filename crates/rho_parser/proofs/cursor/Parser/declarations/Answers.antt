@@ -1,0 +1,34 @@
+use Rattle.calculus.specs.Tree.{int}
+use Rattle.grammar.specs.declared.dialect.Dialect.TheVariants.{Tutorial}
+use Rattle.grammar.specs.declared.mark.Mark.TheVariants.{Comma, Ellipsis, False, Minus, Open, True, Underscore}
+use Rattle.grammar.specs.Grammar.{rule}
+use Rattle.grammar.specs.Productions.{Prod}
+use Rattle.grammar.specs.Rules.{Sort, last}
+use Rattle.grammar.specs.Terminals.{a_byte_array, a_string, a_uri, sees}
+use Rattle.grammar.specs.Choice.{sees_text}
+use Rattle.rho_parser.proofs.Fronts.{no_bytes}
+use Rattle.std.specs.Prelude.{option_map, string_bytes}
+use Rattle.rho_parser.specs.Meaning.{view}
+use Rattle.std.proofs.Common.{◌≡◌, ℕ, ◌+◌, max, map, length, refl, ap, sym, subst, ◌∙◌, arith, rules, List, [], ◌∷◌, ◌++◌, inl, inr, Ok, Err, true, false, Bool}
+use Rattle.calculus.specs.Meaning.{declared, name_pat_written, pat_written, proc_written}
+use Rattle.grammar.specs.declared.fault.Fault.TheVariants.{NoMemory}
+use Rattle.grammar.specs.Descent.{runs_done, runs_sign, no_sign, runs_opens, no_opens, runs_text, runs_integer, no_integer, runs_at, no_at, runs_under, no_under, runs_last, no_memory}
+use Rattle.grammar.specs.Values.{drop_of, ground_of, no_rest, patterns, processes, same_of, seq_of}
+use Rattle.rho_parser.specs.Reading.{of_ground, of_left, of_name, of_name_pat, of_pat, of_proc, of_rest, of_sequence}
+use Rattle.rho_parser.proofs.Steps.{built, built_as, carry, declares, ends, exit, lacks, leave, left_closed, names_as, pairs_closed, sequence_closed, reads_as, rest_next, rows}
+use Rattle.rho_parser.proofs.cursor.Parser.declarations.Goals as goal
+
+pub returns-in_err-names-clause-reads : goal.returns-in_err-names-clause-reads
+returns-in_err-names-clause-reads c = λ free. leave (λ ds. rule Tutorial (Prod.decl_body (map declared ds.items))) _ _ c.from_residual.ensures.1 (runs_last (names_as c.no_names-none.ensures (c.in_err-names.ensures.reads free)))
+
+pub returns-in_err-names-2-clause-reads : goal.returns-in_err-names-2-clause-reads
+returns-in_err-names-2-clause-reads c = λ free. leave (λ ds. rule Tutorial (Prod.decl_body (map declared ds.items))) _ _ c.from_residual-in_err-names-2.ensures.1 (c.loop-self.invariant.turns free _ (runs_last (let b : sees Comma (view c.loop-self.self.rest.now) ≡ true = sym c.sees.ensures ∙ c.loop-self-test.true in rw b (c.in_err-names-2.ensures.reads free))))
+
+pub loop-self-init : goal.loop-self-init
+loop-self-init c = record { turns = λ free out h. runs_last (names_as c.no_names-none.ensures (c.in_ok-names.ensures.reads free out h)); shorter = omega (arith, c.in_ok-names.ensures.shorter) }
+
+pub loop-self-preserved : goal.loop-self-preserved
+loop-self-preserved c = record { turns = λ free out h. c.loop-self.invariant.turns free _ (runs_last (let b : sees Comma (view c.loop-self.self.rest.now) ≡ true = sym c.sees.ensures ∙ c.loop-self-test.true in rw b (c.in_ok-names-2.ensures.reads free out h))); shorter = omega (arith, c.in_ok-names-2.ensures.shorter) }
+
+pub returns-clause-reads : goal.returns-clause-reads
+returns-clause-reads c = λ free out h. c.loop-self.invariant.turns free _ (runs_last (let b : sees Comma (view c.loop-self.self.rest.now) ≡ false = sym c.sees.ensures ∙ c.loop-self-test.false in rw b h))

@@ -1,0 +1,2 @@
+pub mod ExamplesScope
+pub mod Normalizing

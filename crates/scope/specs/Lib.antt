@@ -1,0 +1,5 @@
+pub mod Binding
+pub mod Rules
+pub mod NormalForm
+pub mod ExamplesScope
+pub mod ScopeLaws

@@ -1,0 +1,283 @@
+// Reading of codes: one method for each sort of constituent.
+ghost use Rattle.std.specs.Prelude.{◌≡◌, ◌∷◌, ◌++◌, ◌≤◌, ◌+◌, length, map, IfOk, replicate, ℕ};
+ghost use Rattle.calculus.specs.Code.{code};
+ghost use Rattle.calculus.specs.Form.{IsClosed, term, part, a_bind, a_case, pat, row_of, pair_of};
+ghost use Rattle.calculus.specs.Shape.{many};
+ghost use Rattle.calculus.specs.Size.{height};
+ghost use Rattle.calculus.specs.Tree.{row};
+ghost use Rattle.calculus.specs.Variables.{bound};
+ghost use Rattle.rho_term.specs.Normal.{IsOrdered};
+ghost use Rattle.rho_term.specs.Parts.{part_tree, pair_tree, bind_tree, case_tree};
+ghost use Rattle.term_code.specs.Scopes.{scope_of, senses_of};
+ghost use Rattle.term_code.specs.Reading.{Reads, ReadsBag};
+ghost use Rattle.term_code.specs.declared.reader.Sense.TheVariants.{Name};
+ghost use Rattle.term_code.specs.declared.fault.CodeFault.TheVariants.{Short};
+
+use crate::fault::CodeFault;
+use crate::reader::{Reader, Sense, check_order, is_form};
+use crate::text::TextKind;
+use rho_term::{Part, Term, TermBind, TermCase};
+use std::alloc::{AllocError, Global};
+
+/// The closed process, of height at most 400, whose code is exactly these bytes.
+///
+/// `Short` tells of bytes that end before such a code does, with their length. `NotCanonical` and
+/// `TooDeep` tell of the first place where no code goes on so, or where a part that is no leaf stands
+/// under 400 forms.
+pub fn decode_term(alloc: Global, bytes: &[u8]) -> Result<Term, CodeFault>
+    ensures code { IfOk result (λ t. code t ≡ bytes.now) }
+    ensures closed { IfOk result (λ t. IsClosed t) }
+    ensures height { IfOk result (λ t. height t ≤ 400) }
+    ensures short { (at : ℕ) → result ≡ Err (Short at) → at ≡ length bytes.now }
+{
+    let mut reader = Reader {
+        alloc,
+        input: bytes,
+        whole: bytes.len(),
+    };
+    let scope = Vec::new(alloc);
+    let term = match reader.term(&scope, 400) {
+        Ok(term) => term,
+        Err(CodeFault::Short { .. }) => return Err(CodeFault::Short { at: bytes.len() }),
+        Err(fault) => return Err(fault),
+    };
+    if !reader.input.is_empty() {
+        return Err(CodeFault::NotCanonical { at: reader.place() });
+    }
+    Ok(term)
+}
+
+impl<'a> Reader<'a> {
+    #[cycle(read)]
+    pub(crate) fn term(&mut self, scope: &Vec<Sense>, room: u32) -> Result<Term, CodeFault>
+        ensures { IfOk result (λ t. Reads term (scope_of scope.now.items) room t self.old.input.now self.new.input.now) }
+    {
+        let count = self.number(0, u32::MAX)?;
+        let mut parts = Vec::new(self.alloc);
+        let mut last: &'a [u8] = &[];
+        for _i in 0..count {
+            let start = self.input;
+            let at = self.place();
+            let tag = self.byte()?;
+            if room == 0 && is_form(tag) {
+                return Err(CodeFault::TooDeep { at });
+            }
+            check_order(last, start, at)?;
+            let part = self.part(tag, at, scope, room)?;
+            last = self.read_since(start, last, at)?;
+            parts.push(part)?;
+        }
+        Ok(Term::from_sorted(parts))
+    }
+
+    // The part that goes on so after its tag, which stands at this place.
+    #[cycle(read)]
+    pub(crate) fn part(
+        &mut self,
+        tag: u8,
+        at: usize,
+        scope: &Vec<Sense>,
+        room: u32,
+    ) -> Result<Part, CodeFault>
+        ensures reads { IfOk result (λ p. Reads part (scope_of scope.now.items) room (part_tree p) (tag ∷ self.old.input.now) self.new.input.now) }
+        ensures ordered { IfOk result (λ p. IsOrdered (part_tree p)) }
+    {
+        match tag {
+            0x15 => Ok(Part::Fresh(self.digest()?)),
+            0x16 => Ok(Part::Var(self.variable(at, scope, Sense::Process)?)),
+            0x17 => Ok(Part::NameVar(self.variable(at, scope, Sense::Name)?)),
+            _ => {
+                if is_form(tag) {
+                    if room == 0 {
+                        return Err(CodeFault::TooDeep { at });
+                    }
+                    self.form(tag, at, scope, room - 1)
+                } else {
+                    Ok(Part::Ground(self.ground(tag, at)?))
+                }
+            }
+        }
+    }
+
+    #[cycle(read)]
+    fn form(&mut self, tag: u8, at: usize, scope: &Vec<Sense>, room: u32) -> Result<Part, CodeFault>
+        ensures reads { IfOk result (λ p. Reads part (scope_of scope.now.items) (room + 1) (part_tree p) (tag ∷ self.old.input.now) self.new.input.now) }
+        ensures ordered { IfOk result (λ p. IsOrdered (part_tree p)) }
+    {
+        match tag {
+            0x20 => Ok(Part::List(self.terms(0, scope, room)?)),
+            0x21 => Ok(Part::Tuple(self.terms(1, scope, room)?)),
+            0x22 => Ok(Part::Set(self.members(scope, room)?)),
+            0x23 => Ok(Part::Map(self.pairs(scope, room)?)),
+            0x30 => {
+                let persistent = self.boolean()?;
+                let channel = self.term(scope, room)?;
+                let args = self.terms(0, scope, room)?;
+                Ok(Part::Send {
+                    channel,
+                    args,
+                    persistent,
+                })
+            }
+            0x31 => {
+                let kind = self.kind()?;
+                let mut inner = copy_of(self.alloc, scope)?;
+                let binds = self.binds(scope, &mut inner, room)?;
+                let body = self.term(&inner, room)?;
+                Ok(Part::Receive { kind, binds, body })
+            }
+            0x32 => {
+                let names = self.origins()?;
+                let inner = under_names(self.alloc, scope, names.len())?;
+                let body = self.term(&inner, room)?;
+                Ok(Part::New { names, body })
+            }
+            0x33 => {
+                let target = self.term(scope, room)?;
+                let cases = self.cases(scope, room)?;
+                Ok(Part::Match { target, cases })
+            }
+            0x34 => {
+                let rights = self.rights()?;
+                let body = self.term(scope, room)?;
+                Ok(Part::Bundle { rights, body })
+            }
+            0x40 => {
+                let op = self.unary_op()?;
+                let arg = self.term(scope, room)?;
+                Ok(Part::Unary { op, arg })
+            }
+            0x41 => {
+                let op = self.binary_op()?;
+                let left = self.term(scope, room)?;
+                let right = self.term(scope, room)?;
+                Ok(Part::Binary { op, left, right })
+            }
+            0x42 => {
+                let name = self.text(TextKind::Word)?;
+                let target = self.term(scope, room)?;
+                let args = self.terms(0, scope, room)?;
+                Ok(Part::Method { name, target, args })
+            }
+            _ => Err(CodeFault::NotCanonical { at }),
+        }
+    }
+}
+
+impl<'a> Reader<'a> {
+    // At least so many processes.
+    #[cycle(read)]
+    fn terms(&mut self, least: u32, scope: &Vec<Sense>, room: u32) -> Result<Vec<Term>, CodeFault>
+        ensures reads { IfOk result (λ ts. Reads (row_of term) (scope_of scope.now.items) room (many row ts.items) self.old.input.now self.new.input.now) }
+        ensures least { IfOk result (λ ts. least ≤ length ts.items) }
+    {
+        let count = self.number(least, u32::MAX)?;
+        let mut terms = Vec::new(self.alloc);
+        for _i in 0..count {
+            let term = self.term(scope, room)?;
+            terms.push(term)?;
+        }
+        Ok(terms)
+    }
+
+    // Processes whose codes ascend.
+    #[cycle(read)]
+    fn members(&mut self, scope: &Vec<Sense>, room: u32) -> Result<Vec<Term>, CodeFault>
+        ensures { IfOk result (λ ts. ReadsBag term (scope_of scope.now.items) room ts.items self.old.input.now self.new.input.now) }
+    {
+        let count = self.number(0, u32::MAX)?;
+        let mut terms = Vec::new(self.alloc);
+        let mut last: &'a [u8] = &[];
+        for _i in 0..count {
+            let start = self.input;
+            let at = self.place();
+            check_order(last, start, at)?;
+            let term = self.term(scope, room)?;
+            last = self.read_since(start, last, at)?;
+            terms.push(term)?;
+        }
+        Ok(terms)
+    }
+
+    // Pairs whose codes ascend.
+    #[cycle(read)]
+    fn pairs(&mut self, scope: &Vec<Sense>, room: u32) -> Result<Vec<(Term, Term)>, CodeFault>
+        ensures { IfOk result (λ ps. ReadsBag (pair_of term) (scope_of scope.now.items) room (map pair_tree ps.items) self.old.input.now self.new.input.now) }
+    {
+        let count = self.number(0, u32::MAX)?;
+        let mut pairs = Vec::new(self.alloc);
+        let mut last: &'a [u8] = &[];
+        for _i in 0..count {
+            let start = self.input;
+            let at = self.place();
+            check_order(last, start, at)?;
+            let key = self.term(scope, room)?;
+            let value = self.term(scope, room)?;
+            last = self.read_since(start, last, at)?;
+            pairs.push((key, value))?;
+        }
+        Ok(pairs)
+    }
+
+    // 1 to 16 binds. What their patterns bind is added to `found`.
+    #[cycle(read)]
+    fn binds(
+        &mut self,
+        scope: &Vec<Sense>,
+        found: &mut Vec<Sense>,
+        room: u32,
+    ) -> Result<Vec<TermBind>, CodeFault>
+        ensures reads { IfOk result (λ bs. Reads (row_of a_bind) (scope_of scope.now.items) room (many row (map bind_tree bs.items)) self.old.input.now self.new.input.now) }
+        ensures bound { IfOk result (λ bs. senses_of found.new.items ≡ senses_of found.old.items ++ bound (many row (map bind_tree bs.items))) }
+        ensures some { IfOk result (λ bs. 1 ≤ length bs.items) }
+        ensures few { IfOk result (λ bs. length bs.items ≤ 16) }
+    {
+        let count = self.number(1, 16)?;
+        let mut binds = Vec::new(self.alloc);
+        for _i in 0..count {
+            let channel = self.term(scope, room)?;
+            let pats = self.name_pats(scope, found, room)?;
+            let rest = self.bound_remainder(true, found)?;
+            binds.push(TermBind {
+                pats,
+                rest,
+                channel,
+            })?;
+        }
+        Ok(binds)
+    }
+
+    // At least one case.
+    #[cycle(read)]
+    fn cases(&mut self, scope: &Vec<Sense>, room: u32) -> Result<Vec<TermCase>, CodeFault>
+        ensures reads { IfOk result (λ cs. Reads (row_of a_case) (scope_of scope.now.items) room (many row (map case_tree cs.items)) self.old.input.now self.new.input.now) }
+        ensures some { IfOk result (λ cs. 1 ≤ length cs.items) }
+    {
+        let count = self.number(1, u32::MAX)?;
+        let mut cases = Vec::new(self.alloc);
+        for _i in 0..count {
+            let mut inner = copy_of(self.alloc, scope)?;
+            let pat = self.pat(true, scope, &mut inner, room)?;
+            let body = self.term(&inner, room)?;
+            cases.push(TermCase { pat, body })?;
+        }
+        Ok(cases)
+    }
+}
+
+fn copy_of(alloc: Global, scope: &Vec<Sense>) -> Result<Vec<Sense>, AllocError>
+    ensures { IfOk result (λ v. v.items ≡ scope.now.items) }
+{
+    Vec::from_slice(alloc, scope.as_slice())
+}
+
+// The scope of the body of a `new` of so many names.
+fn under_names(alloc: Global, scope: &Vec<Sense>, count: usize) -> Result<Vec<Sense>, AllocError>
+    ensures { IfOk result (λ v. v.items ≡ scope.now.items ++ replicate count Name) }
+{
+    let mut inner = copy_of(alloc, scope)?;
+    for _i in 0..count {
+        inner.push(Sense::Name)?;
+    }
+    Ok(inner)
+}

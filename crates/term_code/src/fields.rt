@@ -1,0 +1,286 @@
+// Fields of codes of one kind each.
+ghost use Rattle.std.specs.Prelude.{◌≡◌, ◌++◌, ◌∷◌, ◌+ℤ◌, pos, nat_abs, ◌^◌, IfOk, IsTrue, ◌≤◌, length, string_bytes, map};
+ghost use Rattle.calculus.specs.Bytes.{be32, be64};
+ghost use Rattle.calculus.specs.Code.{byte_of, code, text};
+ghost use Rattle.calculus.specs.Meaning.{ground_label};
+ghost use Rattle.calculus.specs.Tree.{none, rest};
+ghost use Rattle.calculus.specs.Shape.{leaf};
+ghost use Rattle.calculus.specs.Variables.{bound};
+ghost use Rattle.rho_term.specs.Parts.{ground_tree};
+ghost use Rattle.calculus.specs.Kinds.{rest_number, kind_number, rights_number, unary_op_number, binary_op_number, simple_number, origin_number};
+ghost use Rattle.calculus.specs.Form.{HasVariable, IsDigest, IsBytes, IsPlain, Sort, Scope};
+ghost use Rattle.term_code.specs.Scopes.{scope_of, sense_of, senses_of};
+ghost use Rattle.term_code.specs.Texts.{HasForm};
+
+use crate::fault::CodeFault;
+use crate::reader::{Reader, Sense, number_bounds};
+use crate::text::{TextKind, begins_text, is_text};
+use calculus::{BinaryOp, Digest, Ground, Kind, Origin, Rights, Simple, TermRest, UnaryOp};
+use std::str;
+
+impl<'a> Reader<'a> {
+    pub(crate) fn boolean(&mut self) -> Result<bool, CodeFault>
+        ensures { IfOk result (λ x. self.old.input.now ≡ byte_of x ∷ self.new.input.now) }
+    {
+        let byte = self.flag(1)?;
+        Ok(byte == 1)
+    }
+
+    pub(crate) fn kind(&mut self) -> Result<Kind, CodeFault>
+        ensures { IfOk result (λ x. self.old.input.now ≡ kind_number x ∷ self.new.input.now) }
+    {
+        match self.flag(2)? {
+            0 => Ok(Kind::Linear),
+            1 => Ok(Kind::Persistent),
+            _ => Ok(Kind::Peek),
+        }
+    }
+
+    pub(crate) fn rights(&mut self) -> Result<Rights, CodeFault>
+        ensures { IfOk result (λ x. self.old.input.now ≡ rights_number x ∷ self.new.input.now) }
+    {
+        match self.flag(3)? {
+            0 => Ok(Rights::Neither),
+            1 => Ok(Rights::Write),
+            2 => Ok(Rights::Read),
+            _ => Ok(Rights::Both),
+        }
+    }
+
+    pub(crate) fn unary_op(&mut self) -> Result<UnaryOp, CodeFault>
+        ensures { IfOk result (λ x. self.old.input.now ≡ unary_op_number x ∷ self.new.input.now) }
+    {
+        match self.flag(1)? {
+            0 => Ok(UnaryOp::Not),
+            _ => Ok(UnaryOp::Neg),
+        }
+    }
+
+    pub(crate) fn binary_op(&mut self) -> Result<BinaryOp, CodeFault>
+        ensures { IfOk result (λ x. self.old.input.now ≡ binary_op_number x ∷ self.new.input.now) }
+    {
+        match self.flag(14)? {
+            0 => Ok(BinaryOp::Or),
+            1 => Ok(BinaryOp::And),
+            2 => Ok(BinaryOp::Eq),
+            3 => Ok(BinaryOp::Ne),
+            4 => Ok(BinaryOp::Lt),
+            5 => Ok(BinaryOp::Le),
+            6 => Ok(BinaryOp::Gt),
+            7 => Ok(BinaryOp::Ge),
+            8 => Ok(BinaryOp::Add),
+            9 => Ok(BinaryOp::Sub),
+            10 => Ok(BinaryOp::Append),
+            11 => Ok(BinaryOp::Minus),
+            12 => Ok(BinaryOp::Mul),
+            13 => Ok(BinaryOp::Div),
+            _ => Ok(BinaryOp::Rem),
+        }
+    }
+
+    pub(crate) fn simple(&mut self) -> Result<Simple, CodeFault>
+        ensures { IfOk result (λ x. self.old.input.now ≡ simple_number x ∷ self.new.input.now) }
+    {
+        match self.flag(4)? {
+            0 => Ok(Simple::Bool),
+            1 => Ok(Simple::Int),
+            2 => Ok(Simple::Str),
+            3 => Ok(Simple::Uri),
+            _ => Ok(Simple::Bytes),
+        }
+    }
+
+    // A remainder, which is a variable only where one may be bound.
+    pub(crate) fn remainder(&mut self, binds: bool) -> Result<TermRest, CodeFault>
+        ensures is { IfOk result (λ x. self.old.input.now ≡ rest_number x ∷ self.new.input.now) }
+    {
+        let at = self.place();
+        match self.flag(2)? {
+            0 => Ok(TermRest::No),
+            1 => {
+                if binds {
+                    Ok(TermRest::Var)
+                } else {
+                    Err(CodeFault::NotCanonical { at })
+                }
+            }
+            _ => Ok(TermRest::Wild),
+        }
+    }
+
+    // A remainder; where it is a variable, that is added to `found`.
+    pub(crate) fn bound_remainder(
+        &mut self,
+        binds: bool,
+        found: &mut Vec<Sense>,
+    ) -> Result<TermRest, CodeFault>
+        ensures is { IfOk result (λ x. self.old.input.now ≡ rest_number x ∷ self.new.input.now) }
+        ensures bound { IfOk result (λ x. senses_of found.new.items ≡ senses_of found.old.items ++ bound (leaf (rest x))) }
+    {
+        let rest = self.remainder(binds)?;
+        match rest {
+            TermRest::No => Ok(TermRest::No),
+            TermRest::Wild => Ok(TermRest::Wild),
+            TermRest::Var => {
+                found.push(Sense::Process)?;
+                Ok(TermRest::Var)
+            }
+        }
+    }
+
+    fn origin(&mut self) -> Result<Origin, CodeFault>
+        ensures { IfOk result (λ x. self.old.input.now ≡ origin_number x ∷ self.new.input.now) }
+    {
+        match self.flag(2)? {
+            0 => Ok(Origin::Plain),
+            1 => Ok(Origin::Stdout),
+            _ => Ok(Origin::StdoutAck),
+        }
+    }
+}
+
+impl<'a> Reader<'a> {
+    // At least one origin.
+    pub(crate) fn origins(&mut self) -> Result<Vec<Origin>, CodeFault>
+        ensures is { IfOk result (λ v. self.old.input.now ≡ be32 (length v.items) ++ map origin_number v.items ++ self.new.input.now) }
+        ensures some { IfOk result (λ v. 1 ≤ length v.items) }
+    {
+        let count = self.number(1, u32::MAX)?;
+        let mut origins = Vec::new(self.alloc);
+        for _i in 0..count {
+            origins.push(self.origin()?)?;
+        }
+        Ok(origins)
+    }
+
+    // The ground value that goes on so after its tag.
+    pub(crate) fn ground(&mut self, tag: u8, at: usize) -> Result<Ground, CodeFault>
+        ensures is { IfOk result (λ g. tag ∷ self.old.input.now ≡ code (ground_tree g) ++ self.new.input.now) }
+        ensures plain { IfOk result (λ g. (s : Sort) (v : Scope) → IsPlain s v (ground_label g) none) }
+    {
+        match tag {
+            0x10 => Ok(Ground::Bool(self.boolean()?)),
+            0x11 => Ok(Ground::Int(self.int()?)),
+            0x12 => Ok(Ground::Str(self.text(TextKind::Str)?)),
+            0x13 => Ok(Ground::Uri(self.text(TextKind::Uri)?)),
+            0x14 => Ok(Ground::Bytes(self.bytes()?)),
+            _ => Err(CodeFault::NotCanonical { at }),
+        }
+    }
+
+    pub(crate) fn digest(&mut self) -> Result<Digest, CodeFault>
+        ensures is { IfOk result (λ d. self.old.input.now ≡ d.0 ++ self.new.input.now) }
+        ensures digest { IfOk result (λ d. IsDigest d.0) }
+    {
+        let taken = self.take(32)?;
+        Ok(Digest(array_of(taken)))
+    }
+
+    pub(crate) fn int(&mut self) -> Result<i64, CodeFault>
+        ensures { IfOk result (λ z. self.old.input.now ≡ be64 (nat_abs (z +ℤ pos (2 ^ 63))) ++ self.new.input.now) }
+    {
+        match self.input {
+            [a, b, c, d, e, f, g, h, others @ ..] => {
+                let n = u64::from_be_bytes([*a, *b, *c, *d, *e, *f, *g, *h]);
+                self.input = others;
+                Ok(from_least(n))
+            }
+            _ => Err(CodeFault::Short { at: self.whole }),
+        }
+    }
+
+    pub(crate) fn bytes(&mut self) -> Result<Vec<u8>, CodeFault>
+        ensures is { IfOk result (λ v. self.old.input.now ≡ text v.items ++ self.new.input.now) }
+        ensures bytes { IfOk result (λ v. IsBytes v.items) }
+    {
+        let len = self.number(0, u32::MAX)? as usize;
+        let taken = self.take(len)?;
+        Ok(Vec::from_slice(self.alloc, taken)?)
+    }
+
+    // A text is blamed on the first byte after its length.
+    pub(crate) fn text(&mut self, kind: TextKind) -> Result<String, CodeFault>
+        ensures is { IfOk result (λ s. self.old.input.now ≡ text (string_bytes s) ++ self.new.input.now) }
+        ensures form { IfOk result (λ s. HasForm kind (string_bytes s)) }
+        ensures bytes { IfOk result (λ s. IsBytes (string_bytes s)) }
+    {
+        let len = self.number(0, u32::MAX)? as usize;
+        let at = self.place();
+        if self.input.len() < len && !begins_text(kind, self.input, len) {
+            return Err(CodeFault::NotCanonical { at });
+        }
+        let taken = self.take(len)?;
+        if !is_text(kind, taken) {
+            return Err(CodeFault::NotCanonical { at });
+        }
+        match str::from_utf8(taken) {
+            Ok(text) => Ok(String::from_str(self.alloc, text)?),
+            Err(_) => Err(CodeFault::NotCanonical { at }),
+        }
+    }
+
+    // The index of a variable of this sense. `at` is the place of its tag, which is blamed where none
+    // is in scope.
+    pub(crate) fn variable(
+        &mut self,
+        at: usize,
+        scope: &Vec<Sense>,
+        sense: Sense,
+    ) -> Result<u32, CodeFault>
+        ensures is { IfOk result (λ i. self.old.input.now ≡ be32 i ++ self.new.input.now) }
+        ensures has { IfOk result (λ i. HasVariable (scope_of scope.now.items) i (sense_of sense)) }
+    {
+        let place = self.place();
+        if self.input.len() >= 4 {
+            let index = self.number(0, u32::MAX)?;
+            if has_variable(scope, index, sense) {
+                return Ok(index);
+            }
+        } else if begins_index(scope, sense, self.input) {
+            return Err(CodeFault::Short { at: self.whole });
+        }
+        if scope.contains(&sense) {
+            Err(CodeFault::NotCanonical { at: place })
+        } else {
+            Err(CodeFault::NotCanonical { at })
+        }
+    }
+}
+
+fn array_of(bytes: &[u8]) -> [u8; 32]
+    requires { length bytes.now ≡ 32 }
+    ensures is { result ≡ bytes.now }
+    ensures digest { IsDigest result }
+{
+    let mut array = [0; 32];
+    array.copy_from_slice(bytes);
+    array
+}
+
+// The number that stands so far above the least `i64`.
+fn from_least(n: u64) -> i64
+    ensures { n ≡ nat_abs (result +ℤ pos (2 ^ 63)) }
+{
+    (n as i128 - 0x8000_0000_0000_0000) as i64
+}
+
+fn has_variable(scope: &Vec<Sense>, index: u32, sense: Sense) -> bool
+    ensures { IsTrue result → HasVariable (scope_of scope.now.items) index (sense_of sense) }
+{
+    let index = index as usize;
+    index < scope.len() && scope[scope.len() - 1 - index] == sense
+}
+
+// Whether these bytes begin the index of a variable of this sense.
+fn begins_index(scope: &Vec<Sense>, sense: Sense, bytes: &[u8]) -> bool {
+    let (low, high) = number_bounds(bytes);
+    for index in low..=high {
+        if scope.len() <= index as usize {
+            return false;
+        }
+        if has_variable(scope, index, sense) {
+            return true;
+        }
+    }
+    false
+}

@@ -1,0 +1,281 @@
+// Reading of patterns in codes.
+ghost use Rattle.std.specs.Prelude.{◌≡◌, ◌∷◌, ◌++◌, ◌≤◌, ◌+◌, ◌<◌, [], cond, length, map, IfOk};
+ghost use Rattle.calculus.specs.Form.{pat, name_pat, pat_part, row_of, pair_of};
+ghost use Rattle.calculus.specs.Shape.{many};
+ghost use Rattle.calculus.specs.Tree.{row};
+ghost use Rattle.calculus.specs.Variables.{bound};
+ghost use Rattle.rho_term.specs.Normal.{IsOrdered};
+ghost use Rattle.rho_term.specs.Parts.{pat_part_tree, pair_tree};
+ghost use Rattle.term_code.specs.Scopes.{scope_of, senses_of};
+ghost use Rattle.term_code.specs.Reading.{Reads};
+ghost use Rattle.term_code.specs.Wide.{is_wide_tag};
+
+use crate::fault::CodeFault;
+use crate::reader::{Reader, Sense};
+use rho_term::{PatPart, TermPat};
+
+// Whether the byte is the tag of a part of a pattern that is no leaf.
+fn is_pat_form(tag: u8) -> bool {
+    matches!(tag, 0x20..=0x23 | 0x30..=0x34 | 0x53..=0x56)
+}
+
+// The number of wide parts with one more part of this tag, after i parts. At most one part is wide,
+// and at most 8 are not.
+fn more_wide(wide: u32, i: u32, tag: u8, at: usize) -> Result<u32, CodeFault>
+    requires { i < 9 }
+    ensures is { IfOk result (λ n. n ≡ wide + cond (is_wide_tag tag) 1 0) }
+    ensures one { IfOk result (λ n. n ≤ 1) }
+    ensures thin { IfOk result (λ n. i + 1 ≤ 8 + n) }
+{
+    if 0x50 <= tag && tag <= 0x56 {
+        if 0 < wide {
+            return Err(CodeFault::NotCanonical { at });
+        }
+        return Ok(1);
+    }
+    if wide > 1 || 8 + wide <= i {
+        return Err(CodeFault::NotCanonical { at });
+    }
+    Ok(wide)
+}
+
+impl<'a> Reader<'a> {
+    // A pattern of processes. Where `binds` is false it may bind no variable; what it binds is added
+    // to `found`.
+    #[cycle(read)]
+    pub(crate) fn pat(
+        &mut self,
+        binds: bool,
+        scope: &Vec<Sense>,
+        found: &mut Vec<Sense>,
+        room: u32,
+    ) -> Result<TermPat, CodeFault>
+        ensures reads { IfOk result (λ t. Reads pat (scope_of scope.now.items) room t self.old.input.now self.new.input.now) }
+        ensures bound { IfOk result (λ t. senses_of found.new.items ≡ senses_of found.old.items ++ bound t) }
+    {
+        let count = self.number(0, 9)?;
+        let mut parts = Vec::new(self.alloc);
+        let mut wide: u32 = 0;
+        for i in 0..count {
+            let at = self.place();
+            let tag = self.byte()?;
+            if room == 0 && is_pat_form(tag) {
+                return Err(CodeFault::TooDeep { at });
+            }
+            wide = more_wide(wide, i, tag, at)?;
+            let part = self.pat_part(tag, at, binds, scope, found, room)?;
+            parts.push(part)?;
+        }
+        Ok(TermPat::new(parts))
+    }
+
+    // A pattern of names: that of the process that it quotes, or a name variable alone.
+    #[cycle(read)]
+    pub(crate) fn name_pat(
+        &mut self,
+        binds: bool,
+        scope: &Vec<Sense>,
+        found: &mut Vec<Sense>,
+        room: u32,
+    ) -> Result<TermPat, CodeFault>
+        ensures reads { IfOk result (λ t. Reads name_pat (scope_of scope.now.items) room t self.old.input.now self.new.input.now) }
+        ensures bound { IfOk result (λ t. senses_of found.new.items ≡ senses_of found.old.items ++ bound t) }
+    {
+        if binds && let [0, 0, 0, 1, 0x51, others @ ..] = self.input {
+            self.input = others;
+            found.push(Sense::Name)?;
+            let mut parts = Vec::new(self.alloc);
+            parts.push(PatPart::NameVar)?;
+            return Ok(TermPat::new(parts));
+        }
+        self.pat(binds, scope, found, room)
+    }
+
+    // The part of a pattern that goes on so after its tag, which stands at this place.
+    #[cycle(read)]
+    fn pat_part(
+        &mut self,
+        tag: u8,
+        at: usize,
+        binds: bool,
+        scope: &Vec<Sense>,
+        found: &mut Vec<Sense>,
+        room: u32,
+    ) -> Result<PatPart, CodeFault>
+        ensures reads { IfOk result (λ p. Reads pat_part (scope_of scope.now.items) room (pat_part_tree p) (tag ∷ self.old.input.now) self.new.input.now) }
+        ensures ordered { IfOk result (λ p. IsOrdered (pat_part_tree p)) }
+        ensures bound { IfOk result (λ p. senses_of found.new.items ≡ senses_of found.old.items ++ bound (pat_part_tree p)) }
+    {
+        match tag {
+            0x50 => {
+                if !binds {
+                    return Err(CodeFault::NotCanonical { at });
+                }
+                found.push(Sense::Process)?;
+                Ok(PatPart::Var)
+            }
+            0x52 => Ok(PatPart::Wild),
+            0x57 => Ok(PatPart::Simple(self.simple()?)),
+            0x31..=0x33 => {
+                let outside = Vec::new(self.alloc);
+                Ok(PatPart::Closed(self.part(tag, at, &outside, room)?))
+            }
+            _ => {
+                if is_pat_form(tag) {
+                    if room == 0 {
+                        return Err(CodeFault::TooDeep { at });
+                    }
+                    self.pat_form(tag, at, binds, scope, found, room - 1)
+                } else {
+                    Ok(PatPart::Ground(self.ground(tag, at)?))
+                }
+            }
+        }
+    }
+}
+
+impl<'a> Reader<'a> {
+    #[cycle(read)]
+    fn pat_form(
+        &mut self,
+        tag: u8,
+        at: usize,
+        binds: bool,
+        scope: &Vec<Sense>,
+        found: &mut Vec<Sense>,
+        room: u32,
+    ) -> Result<PatPart, CodeFault>
+        ensures reads { IfOk result (λ p. Reads pat_part (scope_of scope.now.items) (room + 1) (pat_part_tree p) (tag ∷ self.old.input.now) self.new.input.now) }
+        ensures ordered { IfOk result (λ p. IsOrdered (pat_part_tree p)) }
+        ensures bound { IfOk result (λ p. senses_of found.new.items ≡ senses_of found.old.items ++ bound (pat_part_tree p)) }
+    {
+        match tag {
+            0x20 => {
+                let members = self.pats(0, u32::MAX, binds, scope, found, room)?;
+                let rest = self.bound_remainder(binds, found)?;
+                Ok(PatPart::List(members, rest))
+            }
+            0x21 => Ok(PatPart::Tuple(self.pats(1, u32::MAX, binds, scope, found, room)?)),
+            0x22 => {
+                let members = self.pats(0, 8, binds, scope, found, room)?;
+                let rest = self.bound_remainder(binds, found)?;
+                Ok(PatPart::Set(members, rest))
+            }
+            0x23 => {
+                let pairs = self.pat_pairs(binds, scope, found, room)?;
+                let rest = self.bound_remainder(binds, found)?;
+                Ok(PatPart::Map(pairs, rest))
+            }
+            0x30 => {
+                let persistent = self.boolean()?;
+                let channel = self.name_pat(binds, scope, found, room)?;
+                let args = self.pats(0, u32::MAX, binds, scope, found, room)?;
+                Ok(PatPart::Send {
+                    channel,
+                    args,
+                    persistent,
+                })
+            }
+            0x34 => {
+                let rights = self.rights()?;
+                let body = self.free_pat(scope, room)?;
+                Ok(PatPart::Bundle { rights, body })
+            }
+            0x53 => Ok(PatPart::Same(self.term(scope, room)?)),
+            0x54 => {
+                let left = self.pat(binds, scope, found, room)?;
+                let right = self.pat(binds, scope, found, room)?;
+                Ok(PatPart::Both(left, right))
+            }
+            0x55 => {
+                let left = self.free_pat(scope, room)?;
+                let right = self.free_pat(scope, room)?;
+                Ok(PatPart::Either(left, right))
+            }
+            0x56 => Ok(PatPart::Not(self.free_pat(scope, room)?)),
+            _ => Err(CodeFault::NotCanonical { at }),
+        }
+    }
+
+    // A pattern that binds no variable.
+    #[cycle(read)]
+    fn free_pat(&mut self, scope: &Vec<Sense>, room: u32) -> Result<TermPat, CodeFault>
+        ensures reads { IfOk result (λ t. Reads pat (scope_of scope.now.items) room t self.old.input.now self.new.input.now) }
+        ensures bound { IfOk result (λ t. bound t ≡ []) }
+    {
+        let at = self.place();
+        let mut found = Vec::new(self.alloc);
+        let pat = self.pat(false, scope, &mut found, room)?;
+        if !found.is_empty() {
+            return Err(CodeFault::NotCanonical { at });
+        }
+        Ok(pat)
+    }
+
+    // From `least` to `most` patterns.
+    #[cycle(read)]
+    fn pats(
+        &mut self,
+        least: u32,
+        most: u32,
+        binds: bool,
+        scope: &Vec<Sense>,
+        found: &mut Vec<Sense>,
+        room: u32,
+    ) -> Result<Vec<TermPat>, CodeFault>
+        ensures reads { IfOk result (λ ts. Reads (row_of pat) (scope_of scope.now.items) room (many row ts.items) self.old.input.now self.new.input.now) }
+        ensures bound { IfOk result (λ ts. senses_of found.new.items ≡ senses_of found.old.items ++ bound (many row ts.items)) }
+        ensures least { IfOk result (λ ts. least ≤ length ts.items) }
+        ensures most { IfOk result (λ ts. length ts.items ≤ most) }
+    {
+        let count = self.number(least, most)?;
+        let mut pats = Vec::new(self.alloc);
+        for _i in 0..count {
+            let pat = self.pat(binds, scope, found, room)?;
+            pats.push(pat)?;
+        }
+        Ok(pats)
+    }
+
+    #[cycle(read)]
+    pub(crate) fn name_pats(
+        &mut self,
+        scope: &Vec<Sense>,
+        found: &mut Vec<Sense>,
+        room: u32,
+    ) -> Result<Vec<TermPat>, CodeFault>
+        ensures reads { IfOk result (λ ts. Reads (row_of name_pat) (scope_of scope.now.items) room (many row ts.items) self.old.input.now self.new.input.now) }
+        ensures bound { IfOk result (λ ts. senses_of found.new.items ≡ senses_of found.old.items ++ bound (many row ts.items)) }
+    {
+        let count = self.number(0, u32::MAX)?;
+        let mut pats = Vec::new(self.alloc);
+        for _i in 0..count {
+            let pat = self.name_pat(true, scope, found, room)?;
+            pats.push(pat)?;
+        }
+        Ok(pats)
+    }
+
+    // At most 8 pairs of patterns.
+    #[cycle(read)]
+    fn pat_pairs(
+        &mut self,
+        binds: bool,
+        scope: &Vec<Sense>,
+        found: &mut Vec<Sense>,
+        room: u32,
+    ) -> Result<Vec<(TermPat, TermPat)>, CodeFault>
+        ensures reads { IfOk result (λ ps. Reads (row_of (pair_of pat)) (scope_of scope.now.items) room (many row (map pair_tree ps.items)) self.old.input.now self.new.input.now) }
+        ensures bound { IfOk result (λ ps. senses_of found.new.items ≡ senses_of found.old.items ++ bound (many row (map pair_tree ps.items))) }
+        ensures few { IfOk result (λ ps. length ps.items ≤ 8) }
+    {
+        let count = self.number(0, 8)?;
+        let mut pairs = Vec::new(self.alloc);
+        for _i in 0..count {
+            let key = self.pat(binds, scope, found, room)?;
+            let value = self.pat(binds, scope, found, room)?;
+            pairs.push((key, value))?;
+        }
+        Ok(pairs)
+    }
+}

@@ -1,0 +1,160 @@
+// What stands in codes beside processes: bytes, flags, numbers, texts and variables.
+ghost use Rattle.std.specs.Prelude.{◌≡◌, ◌++◌, ◌∷◌, ◌≤◌, ℕ, List, length, true, IfOk, take};
+ghost use Rattle.calculus.specs.Bytes.{be32};
+ghost use Rattle.calculus.specs.Order.{up_to};
+ghost use Rattle.calculus.specs.Form.{IsBytes};
+
+use crate::fault::CodeFault;
+use std::alloc::Global;
+use std::cmp::Ordering;
+
+/// What a variable stands for: a process or a name.
+#[derive(Clone, Copy, Debug, PartialEq, Eq)]
+pub enum Sense {
+    Process,
+    Name,
+}
+
+/// A reader of codes: the bytes that are left, and how many there were.
+#[derive(Drop)]
+pub(crate) struct Reader<'a> {
+    pub(crate) alloc: Global,
+    pub(crate) input: &'a [u8],
+    pub(crate) whole: usize,
+}
+
+impl<'a> Reader<'a> {
+    // The place of the next byte.
+    pub(crate) fn place(&self) -> usize {
+        self.whole.saturating_sub(self.input.len())
+    }
+
+    pub(crate) fn byte(&mut self) -> Result<u8, CodeFault>
+        ensures { IfOk result (λ b. self.old.input.now ≡ b ∷ self.new.input.now) }
+    {
+        match self.input {
+            [first, others @ ..] => {
+                self.input = others;
+                Ok(*first)
+            }
+            [] => Err(CodeFault::Short { at: self.whole }),
+        }
+    }
+
+    // The next n bytes.
+    pub(crate) fn take(&mut self, n: usize) -> Result<&'a [u8], CodeFault>
+        ensures is { IfOk result (λ s. self.old.input.now ≡ s.now ++ self.new.input.now) }
+        ensures long { IfOk result (λ s. length s.now ≡ n) }
+        ensures bytes { IfOk result (λ s. IsBytes s.now) }
+    {
+        if self.input.len() < n {
+            return Err(CodeFault::Short { at: self.whole });
+        }
+        let taken = front(self.input, n);
+        self.input = &self.input[n..];
+        Ok(taken)
+    }
+
+    // The code that was read since these bytes were left, which is no less than the one before it.
+    pub(crate) fn read_since(
+        &self,
+        start: &'a [u8],
+        last: &[u8],
+        at: usize,
+    ) -> Result<&'a [u8], CodeFault>
+        ensures code { IfOk result (λ c. (d : List ℕ) → start.now ≡ d ++ self.now.input.now → c.now ≡ d) }
+        ensures up { IfOk result (λ c. up_to last.now c.now ≡ true) }
+    {
+        let code = &start[..start.len().saturating_sub(self.input.len())];
+        if last.cmp(code) == Ordering::Greater {
+            return Err(CodeFault::NotCanonical { at });
+        }
+        Ok(code)
+    }
+
+    // A byte of at most this number.
+    pub(crate) fn flag(&mut self, most: u8) -> Result<u8, CodeFault>
+        ensures is { IfOk result (λ b. self.old.input.now ≡ b ∷ self.new.input.now) }
+        ensures few { IfOk result (λ b. b ≤ most) }
+    {
+        let at = self.place();
+        let byte = self.byte()?;
+        if byte > most {
+            return Err(CodeFault::NotCanonical { at });
+        }
+        Ok(byte)
+    }
+
+    // A number from `least` to `most`. Where it is cut, its bytes begin that of some such number.
+    pub(crate) fn number(&mut self, least: u32, most: u32) -> Result<u32, CodeFault>
+        ensures is { IfOk result (λ n. self.old.input.now ≡ be32 n ++ self.new.input.now) }
+        ensures least { IfOk result (λ n. least ≤ n) }
+        ensures most { IfOk result (λ n. n ≤ most) }
+    {
+        let at = self.place();
+        let (low, high) = number_bounds(self.input);
+        if low > most || high < least {
+            return Err(CodeFault::NotCanonical { at });
+        }
+        match self.input {
+            [a, b, c, d, others @ ..] => {
+                let n = u32::from_be_bytes([*a, *b, *c, *d]);
+                if n < least || most < n {
+                    return Err(CodeFault::NotCanonical { at });
+                }
+                self.input = others;
+                Ok(n)
+            }
+            _ => Err(CodeFault::Short { at: self.whole }),
+        }
+    }
+}
+
+// Bytes that fall below the code before them are no code there, whatever follows the byte that does.
+pub(crate) fn check_order(last: &[u8], bytes: &[u8], at: usize) -> Result<(), CodeFault> {
+    for (old, new) in last.iter().zip(bytes) {
+        if *new < *old {
+            return Err(CodeFault::NotCanonical { at });
+        }
+        if *old < *new {
+            return Ok(());
+        }
+    }
+    Ok(())
+}
+
+// Whether the byte is the tag of a part of a process that is no leaf.
+pub(crate) fn is_form(tag: u8) -> bool {
+    matches!(tag, 0x20..=0x23 | 0x30..=0x34 | 0x40..=0x42)
+}
+
+fn front(bytes: &[u8], n: usize) -> &[u8]
+    requires { n ≤ length bytes.now }
+    ensures is { result.now ≡ take n bytes.now }
+    ensures bytes { IsBytes result.now }
+{
+    &bytes[..n]
+}
+
+// The least and the greatest number whose four bytes begin with these, or are the first four.
+pub(crate) fn number_bounds(bytes: &[u8]) -> (u32, u32) {
+    match bytes {
+        [] => (0, u32::MAX),
+        [a] => (
+            u32::from_be_bytes([*a, 0, 0, 0]),
+            u32::from_be_bytes([*a, 255, 255, 255]),
+        ),
+        [a, b] => (
+            u32::from_be_bytes([*a, *b, 0, 0]),
+            u32::from_be_bytes([*a, *b, 255, 255]),
+        ),
+        [a, b, c] => (
+            u32::from_be_bytes([*a, *b, *c, 0]),
+            u32::from_be_bytes([*a, *b, *c, 255]),
+        ),
+        [a, b, c, d, ..] => {
+            let n = u32::from_be_bytes([*a, *b, *c, *d]);
+            (n, n)
+        }
+    }
+}
