@@ -20,12 +20,12 @@ use Rattle.events.proofs.Following.{Kept, operation-distinct, operation-there, b
 use Rattle.events.proofs.Keeping.{kept-all}
 use Rattle.events.proofs.Spent.{every-at, row-of-id, all-past, not-made}
 
-among : (r : Row) (qs : List Row) → Member r qs → Among r qs
+pub among : (r : Row) (qs : List Row) → Member r qs → Among r qs
 among r [] m = m
 among r (q ∷ qs) (inl e) = inl e
 among r (q ∷ qs) (inr m) = inr (among r qs m)
 
-member : (r : Row) (qs : List Row) → Among r qs → Member r qs
+pub member : (r : Row) (qs : List Row) → Among r qs → Member r qs
 member r [] m = m
 member r (q ∷ qs) (inl e) = inl e
 member r (q ∷ qs) (inr m) = inr (member r qs m)

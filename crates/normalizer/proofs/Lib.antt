@@ -1,5 +1,9 @@
-pub mod Scopes
-pub mod Insides
-pub mod Narrow
-pub mod Meanings
-pub mod Walking
+pub mod InScope
+pub mod BindsNone
+pub mod Binding
+pub mod Forms
+pub mod Flat
+pub mod PatternForms
+pub mod Levels
+pub mod FromParts
+pub mod Calls

@@ -1,5 +1,2 @@
-pub mod Senses
-pub mod Bound
-pub mod Pairs
-pub mod Faults
-pub mod Walks
+pub mod InScope
+pub mod Made

@@ -1,15 +1,12 @@
-//! Normal terms of written processes, and the rules of scope that a process may break.
+//! Normal terms of written processes.
 #![tactic(auto)]
 
-mod check;
-mod declared;
-pub mod fault;
-mod open;
-pub mod scoped;
-#[cfg(test)]
-mod tests;
-mod variables;
-mod wide;
+mod bind;
+mod ground;
+mod make;
+mod names;
+pub mod normal;
+mod parts;
 
-pub use fault::ScopeFault;
-pub use scoped::check_scope;
+pub use normal::normalize;
+pub use scope_check::ScopeFault;

@@ -1,3 +1,4 @@
 pub mod ReadingWords
 pub mod Leaving
+pub mod Sourcing
 pub mod ReadingNumbers

@@ -2,6 +2,7 @@ pub mod Words
 pub mod Message
 pub mod Price
 pub mod Inputs
+pub mod Runnable
 pub mod Refused
 pub mod Report
 pub mod Ends

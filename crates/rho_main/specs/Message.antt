@@ -1,5 +1,13 @@
 -- The exit status and the message of a status.
-use Rattle.std.specs.Prelude.{ℕ, List, [], ◌++◌, codes, decimal}
+use Rattle.std.specs.Prelude.{ℕ, List, [], ◌++◌, codes, decimal, string_bytes}
+use Rattle.rho_lexer.specs.declared.token.LexFault.{LexFault}
+use Rattle.rho_lexer.specs.declared.token.LexFault.TheVariants as lexical
+use Rattle.rho_parser.specs.declared.parse_fault.ParseFault.{ParseFault}
+use Rattle.rho_parser.specs.declared.parse_fault.ParseFault.TheVariants as grammatical
+use Rattle.scope_check.specs.declared.fault.ScopeFault.{ScopeFault}
+use Rattle.scope_check.specs.declared.fault.ScopeFault.TheVariants as scopes
+use Rattle.sources.specs.declared.fault.SourceFault.{SourceFault}
+use Rattle.sources.specs.declared.fault.SourceFault.TheVariants as source
 use Rattle.rho_main.specs.declared.words.Usage.{Usage}
 use Rattle.rho_main.specs.declared.words.Usage.TheVariants as usage
 use Rattle.rho_main.specs.declared.status.Input.{Input}
@@ -13,6 +21,7 @@ code_of status.Done = 0
 code_of (status.Usage u) = 2
 code_of (status.ReadFault i) = 3
 code_of status.WriteFault = 4
+code_of (status.Source f) = 6
 code_of (status.Limit n m) = 7
 code_of status.Exhausted = 10
 code_of status.Faulted = 11
@@ -31,12 +40,45 @@ abbrev pub usage_name : Usage → List ℕ
 usage_name usage.BadWords = codes "BadWords"
 usage_name usage.NoMemory = codes "NoMemory"
 
+-- the name and the fields of a fault of the lexer
+abbrev pub lex_text : LexFault → List ℕ
+lex_text (lexical.BadByte at) = codes "BadByte at=" ++ decimal at
+lex_text (lexical.OpenString at) = codes "OpenString at=" ++ decimal at
+lex_text (lexical.OpenComment at) = codes "OpenComment at=" ++ decimal at
+lex_text (lexical.LiteralTooLarge at) = codes "LiteralTooLarge at=" ++ decimal at
+lex_text lexical.NoMemory = codes "NoMemory"
+
+-- the same of a fault of the parser
+abbrev pub parse_text : ParseFault → List ℕ
+parse_text (grammatical.Syntax at) = codes "Syntax at=" ++ decimal at
+parse_text (grammatical.TooDeep at) = codes "TooDeep at=" ++ decimal at
+parse_text grammatical.NoMemory = codes "NoMemory"
+
+-- the same of a broken rule of scope
+abbrev pub scope_text : ScopeFault → List ℕ
+scope_text (scopes.Unbound name) = codes "Unbound name=" ++ string_bytes name
+scope_text (scopes.WantsName name) = codes "WantsName name=" ++ string_bytes name
+scope_text (scopes.WantsProcess name) = codes "WantsProcess name=" ++ string_bytes name
+scope_text (scopes.Repeated name) = codes "Repeated name=" ++ string_bytes name
+scope_text scopes.PatternBinder = codes "PatternBinder"
+scope_text scopes.PatternWide = codes "PatternWide"
+scope_text (scopes.UnderNegation name) = codes "UnderNegation name=" ++ string_bytes name
+scope_text (scopes.UnknownUri uri) = codes "UnknownUri uri=" ++ string_bytes uri
+scope_text scopes.NoMemory = codes "NoMemory"
+
+-- the same of what a source is refused for
+abbrev pub source_text : SourceFault → List ℕ
+source_text (source.Lex fault) = lex_text fault
+source_text (source.Parse fault) = parse_text fault
+source_text (source.Scope fault) = scope_text fault
+
 -- the line that is written for a status, without its end: the group, the name and each field
 abbrev pub message_of : Status → List ℕ
 message_of status.Done = []
 message_of (status.Usage u) = codes "rho: usage: " ++ usage_name u
 message_of (status.ReadFault i) = codes "rho: read: ReadFault input=" ++ input_name i
 message_of status.WriteFault = codes "rho: write: WriteFault"
+message_of (status.Source f) = codes "rho: source: " ++ source_text f
 message_of (status.Limit n m) = codes "rho: prices: Limit limit=" ++ (decimal n ++ (codes " most=" ++ decimal m))
 message_of (status.Unbuilt i) = codes "rho: unbuilt: Unbuilt input=" ++ input_name i
 message_of status.Exhausted = []

@@ -1,17 +1,25 @@
-ghost use Rattle.std.specs.Prelude.{◌≡◌, ℕ, ◌≤◌, Ok, Err, IsOk, IfOk, IfErr, MatchResult, length};
+ghost use Rattle.std.specs.Prelude.{◌≡◌, ℕ, ◌≤◌, Ok, Err, IsOk, IfOk, IfErr, MatchResult, length, true};
+ghost use Rattle.sources.specs.Faults.{refusal_of};
+ghost use Rattle.unfold.specs.Linear.{is_linear};
 ghost use Rattle.rho_outside.specs.Causes.{Rose};
 ghost use Rattle.rho_outside.specs.FileMap.{Gives};
 ghost use Rattle.rho_outside.specs.Told.{Told};
 ghost use Rattle.rho_main.specs.Words.{names_of};
 ghost use Rattle.rho_main.specs.Inputs.{Refusal, accepted_state, accepted_prices, accepted_limit, accepted};
-ghost use Rattle.rho_main.specs.Refused.{InputCause, RefusedFor, Says};
+ghost use Rattle.rho_main.specs.Refused.{InputCause, RefusedFor, Says, SourceCause, SaysOf, IsFree, StatusOf};
+ghost use Rattle.sources.specs.Sources.{IsSourceOf};
 
 use crate::prices::{PRICE_TEXT, PRICES, most_limit};
-use crate::small::{Small, SmallFault, read_small};
 use crate::status::{Input, Status};
 use crate::words::Command;
+use rho_lexer::LexFault;
 use rho_outside::{FetchFault, Shelf};
+use rho_parser::ParseFault;
+use rho_term::Term;
+use scope_check::ScopeFault;
+use sources::{SourceFault, read_source};
 use std::alloc::Global;
+use unfold::is_linear;
 
 /// The greatest number of bytes of a state, of a price text and of a source.
 const STATE_MAX: u64 = 268_435_456;
@@ -145,11 +153,43 @@ fn accept_source<S: Shelf>(
     )
 }
 
-/// What a deploy was given: the source's bytes and the process that they spell.
+/// The status of what a source is refused for, or that memory is wanted.
+fn status_of_fault(fault: SourceFault) -> Status
+    ensures { StatusOf fault (refusal_of fault) result }
+{
+    match fault {
+        SourceFault::Lex(LexFault::NoMemory) => Status::NoMemory,
+        SourceFault::Parse(ParseFault::NoMemory) => Status::NoMemory,
+        SourceFault::Scope(ScopeFault::NoMemory) => Status::NoMemory,
+        fault => Status::Source(fault),
+    }
+}
+
+/// The process of a source, where its forms are those that are run so far.
+fn accept_term(alloc: Global, source: &[u8]) -> Result<Term, Status>
+    ensures term { IfOk result (IsSourceOf source.now) }
+    ensures linear { IfOk result (λ t. is_linear t ≡ true) }
+    ensures cause { IfErr result (SourceCause source.now) }
+    ensures exact { MatchResult result (λ _. IsFree source.now) (SaysOf source.now) }
+{
+    let term = match read_source(alloc, source) {
+        Ok(term) => term,
+        Err(fault) => return Err(status_of_fault(fault)),
+    };
+    if is_linear(&term) {
+        Ok(term)
+    } else {
+        Err(Status::Unbuilt {
+            input: Input::Source,
+        })
+    }
+}
+
+/// What a deploy was given: the source's bytes, and the normal term of the process that they spell.
 #[derive(Drop)]
 pub(crate) struct Inputs {
     pub(crate) source: Vec<u8>,
-    pub(crate) process: Small,
+    pub(crate) term: Term,
 }
 
 /// Fetches and checks what a deploy needs, each input just before it is checked.
@@ -161,17 +201,21 @@ pub(crate) fn accept<S: Shelf>(
     ensures files { S.files shelf.new ≡ S.files shelf.old }
     ensures keep_faults { S.keep_faults shelf.new ≡ S.keep_faults shelf.old }
     ensures accepted { IfOk result (λ i. Told (S.files shelf.old) (λ files. accepted (names_of command.now) files ≡ Ok i.source.items)) }
+    ensures term { IfOk result (λ i. IsSourceOf i.source.items i.term) }
+    ensures linear { IfOk result (λ i. is_linear i.term ≡ true) }
     ensures in_range { IfOk result (λ _. command.now.limit ≤ 10485760) }
     ensures refused { IfErr result (RefusedFor (S.files shelf.old) (names_of command.now) (S.fetch_faults shelf.old) (S.fetch_faults shelf.new)) }
     ensures exact { Told (S.files shelf.old) (λ files. (r : Refusal) → accepted (names_of command.now) files ≡ Err r
         → ¬ (Rose (S.fetch_faults shelf.old) (S.fetch_faults shelf.new)) → MatchResult result (λ _. ⊥) (Says r)) }
+    ensures source_exact { Told (S.files shelf.old) (λ files. IfOk (accepted (names_of command.now) files) (λ source.
+        ¬ (Rose (S.fetch_faults shelf.old) (S.fetch_faults shelf.new)) → MatchResult result (λ _. IsFree source) (SaysOf source))) }
 {
-    let source = accept_source(alloc, shelf, command)?;
-    match read_small(alloc, source.as_slice()) {
-        Ok(process) => Ok(Inputs { source, process }),
-        Err(SmallFault::NotSmall) => Err(Status::Unbuilt {
-            input: Input::Source,
-        }),
-        Err(SmallFault::NoMemory) => Err(Status::NoMemory),
+    let source = match accept_source(alloc, shelf, command) {
+        Ok(source) => source,
+        Err(status) => return Err(status),
+    };
+    match accept_term(alloc, source.as_slice()) {
+        Ok(term) => Ok(Inputs { source, term }),
+        Err(status) => Err(status),
     }
 }

@@ -1,11 +1,12 @@
-ghost use Rattle.std.specs.Prelude.{◌≡◌, ◌≤◌, ◌⊎◌, ◌∷◌, [], None, Err, IsOk, IfOk, OnOk, OnErr, IsErrOf, string_bytes};
+ghost use Rattle.std.specs.Prelude.{◌≡◌, ◌≤◌, ◌⊎◌, ◌∷◌, [], None, Err, IsOkAnd, IfOk, OnOk, OnErr, IsErrOf, string_bytes};
 ghost use Rattle.rho_outside.specs.Causes.{Rose};
 ghost use Rattle.rho_outside.specs.Put.{GrewBy, GrewByPart};
 ghost use Rattle.rho_outside.specs.Kept.{with_files, PartSet};
 ghost use Rattle.rho_outside.specs.Told.{Told};
 ghost use Rattle.rho_main.specs.Words.{names_of};
 ghost use Rattle.rho_main.specs.Inputs.{Refusal, accepted, empty_state};
-ghost use Rattle.rho_main.specs.Refused.{RefusedFor, Says};
+ghost use Rattle.rho_main.specs.Refused.{RefusedFor, Says, SaysOf};
+ghost use Rattle.rho_main.specs.Runnable.{IsRunnable};
 ghost use Rattle.rho_main.specs.Report.{status_of};
 ghost use Rattle.rho_main.specs.Ends.{OnUsage, OnRefusal, OnFileRefusal, OnHalt, OnVerdict, Leaves, LeavesInPart};
 ghost use Rattle.rho_main.specs.Plan.{IsPlan};
@@ -13,9 +14,9 @@ ghost use Rattle.rho_main.specs.Plan.{IsPlan};
 use crate::accept::{EMPTY_STATE, Inputs, accept};
 use crate::finish::{Halt, keep_both, put_bytes};
 use crate::outcome::Verdict;
+use crate::plain::play;
 use crate::prices::PRICES;
 use crate::report::report;
-use crate::small::play;
 use crate::status::Status;
 use crate::words::Command;
 use calculus::Digest;
@@ -42,7 +43,7 @@ fn make_plan(alloc: Global, inputs: &Inputs, limit: u64) -> Result<Plan, AllocEr
     ensures { IfOk result (IsPlan limit inputs.now.source.items) }
 {
     let source = bytes_digest(inputs.source.as_slice());
-    let outcome = play(alloc, &inputs.process, &EMPTY_ROOT, &source, &PRICES, limit)?;
+    let outcome = play(alloc, &inputs.term, &EMPTY_ROOT, &source, &PRICES, limit)?;
     let steps = outcome.steps.len() as u32;
     let line = report(alloc, outcome.verdict, outcome.cost, &outcome.root, steps)?;
     let header = LogHeader {
@@ -115,10 +116,13 @@ pub(crate) fn deploy<S: Shelf, O: Sink>(
     ensures refused { OnFileRefusal result (RefusedFor (S.files shelf.old) (names_of command.now) (S.fetch_faults shelf.old) (S.fetch_faults shelf.new) result) }
     ensures exact { Told (S.files shelf.old) (λ files. (r : Refusal) → accepted (names_of command.now) files ≡ Err r
         → ¬ (Rose (S.fetch_faults shelf.old) (S.fetch_faults shelf.new)) → Says r result) }
+    ensures source_exact { Told (S.files shelf.old) (λ files. IfOk (accepted (names_of command.now) files) (λ source.
+        ¬ (Rose (S.fetch_faults shelf.old) (S.fetch_faults shelf.new)) → SaysOf source result)) }
     ensures files_stay { OnRefusal result (S.files shelf.new ≡ S.files shelf.old) }
     ensures bytes_stay { OnRefusal result (O.written out.new ≡ O.written out.old) }
     ensures write_fault { result ≡ Status.WriteFault → Rose (S.keep_faults shelf.old) (S.keep_faults shelf.new) ⊎ Rose (O.faults out.old) (O.faults out.new) }
-    ensures write_fault_late { result ≡ Status.WriteFault → Told (S.files shelf.old) (λ files. IsOk (accepted (names_of command.now) files)) }
+    ensures write_fault_late { result ≡ Status.WriteFault → Told (S.files shelf.old) (λ files. IsOkAnd (accepted (names_of command.now) files) IsRunnable) }
+    ensures runnable { OnVerdict result (Told (S.files shelf.old) (λ files. IsOkAnd (accepted (names_of command.now) files) IsRunnable)) }
     ensures verdict { OnVerdict result (Leaves result (names_of command.now) (S.files shelf.old) (S.files shelf.new) (O.written out.old) (O.written out.new)) }
     ensures part { OnHalt result (LeavesInPart (names_of command.now) (S.files shelf.old) (S.files shelf.new) (O.written out.old) (O.written out.new)) }
 {

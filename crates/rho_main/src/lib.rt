@@ -5,11 +5,12 @@ pub mod accept;
 pub mod deploy;
 pub mod finish;
 pub mod outcome;
+pub mod plain;
 pub mod prices;
 pub mod report;
-pub mod small;
 pub mod status;
 pub mod top;
+mod wording;
 pub mod words;
 
 pub use outcome::Verdict;

@@ -1,7 +1,9 @@
 ghost use Rattle.std.specs.Prelude.{◌≡◌, IfOk, string_bytes};
 ghost use Rattle.rho_main.specs.Message.{code_of, message_of};
 
+use crate::wording::source_text;
 use crate::words::Usage;
+use sources::SourceFault;
 use std::alloc::{AllocError, Global};
 use std::fmt;
 
@@ -14,7 +16,7 @@ pub enum Input {
 }
 
 /// How a call of `run` ended.
-#[derive(Clone, Copy, Debug, PartialEq, Eq)]
+#[derive(Debug, Drop, PartialEq, Eq)]
 pub enum Status {
     /// The verdict is Done.
     Done,
@@ -24,6 +26,8 @@ pub enum Status {
     ReadFault { input: Input },
     /// A file could not be kept, or the report not be put.
     WriteFault,
+    /// The source is refused. Want of memory is no such fault.
+    Source(SourceFault),
     /// The limit is 0 or above the greatest one, `most`.
     Limit { limit: u64, most: u64 },
     /// An input has a form that is not built yet.
@@ -63,6 +67,7 @@ impl Status {
             Status::Usage(_) => 2,
             Status::ReadFault { .. } => 3,
             Status::WriteFault => 4,
+            Status::Source(_) => 6,
             Status::Limit { .. } => 7,
             Status::Exhausted => 10,
             Status::Faulted => 11,
@@ -87,6 +92,10 @@ impl Status {
             Status::Usage(usage) => format!(in alloc; "rho: usage: {usage}"),
             Status::ReadFault { input } => format!(in alloc; "rho: read: ReadFault input={input}"),
             Status::WriteFault => String::from_str(alloc, "rho: write: WriteFault"),
+            Status::Source(fault) => {
+                let fault = source_text(alloc, fault)?;
+                format!(in alloc; "rho: source: {fault}")
+            }
             Status::Limit { limit, most } => {
                 format!(in alloc; "rho: prices: Limit limit={limit} most={most}")
             }

@@ -185,22 +185,22 @@ fn failed_keep_leaves_the_state_unkept(rt: HostRuntime) -> Result<(), Fail> {
     Ok(())
 }
 
-/// Texts of forms that are not built yet: persistent sends, unbound names, a name as a process, a comment,
-/// a key as a name, a height above 200.
+/// Processes of forms that are not built yet: persistent sends and receives, peeks, joins, several arguments,
+/// operators, collections, methods, cases and declared URIs.
 #[test]
-fn other_texts_are_unbuilt(rt: HostRuntime) -> Result<(), Fail> {
+fn other_forms_are_unbuilt(rt: HostRuntime) -> Result<(), Fail> {
     let alloc: Global = rt.alloc();
     let texts: [&[u8]; 10] = [
         b"@1!!(0)",
-        b"@1!(y)",
-        b"new c in { c!(c) }",
-        b"for (@x <- @1) { x!(1) }",
-        b"Nil // done",
-        b"new in in { Nil }",
-        b"@1!(9223372036854775808)",
-        b"@1!(\"\\n\")",
-        b"Nil |",
-        b"1",
+        b"for (@x <= @1) { Nil }",
+        b"for (@x <<- @1) { Nil }",
+        b"for (@x <- @1; @y <- @2) { Nil }",
+        b"@1!(2, 3)",
+        b"@1!(1 + 1)",
+        b"[1]",
+        b"\"a\".length()",
+        b"match 1 { _ => Nil }",
+        b"new c(`rho:io:stdout`) in { Nil }",
     ];
     let unbuilt = Status::Unbuilt {
         input: Input::Source,
@@ -211,6 +211,93 @@ fn other_texts_are_unbuilt(rt: HostRuntime) -> Result<(), Fail> {
         assert!(rt; place.lacks(alloc, "l"));
         assert_eq!(rt; place.out.bytes.len(), 0);
     }
+    Ok(())
+}
+
+/// The message of a source that is refused.
+fn message_of<R: Threads + Wait + Sync + Abort>(
+    rt: &R,
+    alloc: Global,
+    text: &[u8],
+) -> Result<Vec<u8>, AllocError> {
+    let mut place = Place::new(rt, alloc, text);
+    let status = place.run(rt, alloc, "1000")?;
+    assert_eq!(rt; status.code(), 6);
+    assert!(rt; place.lacks(alloc, "l"));
+    assert_eq!(rt; place.out.bytes.len(), 0);
+    status.message(alloc)
+}
+
+/// What sources are refused for: bytes, tokens, the grammar, and the rules of scope.
+#[test]
+fn sources_are_refused_with_their_places(rt: HostRuntime) -> Result<(), Fail> {
+    let alloc: Global = rt.alloc();
+    let rows: [(&[u8], &[u8]); 11] = [
+        (b"a ? b", b"rho: source: BadByte at=2"),
+        (b"\"ab", b"rho: source: OpenString at=0"),
+        (b"1 /* x", b"rho: source: OpenComment at=2"),
+        (b"9223372036854775809", b"rho: source: LiteralTooLarge at=0"),
+        (b"1 | | 2", b"rho: source: Syntax at=4"),
+        (b"9223372036854775808", b"rho: source: Syntax at=0"),
+        (b"for (@x <- @1) { @2!(y) }", b"rho: source: Unbound name=y"),
+        (b"for (x <- @1) { x }", b"rho: source: WantsProcess name=x"),
+        (
+            b"for (@x <- @1) { x!(1) }",
+            b"rho: source: WantsName name=x",
+        ),
+        (
+            b"for (@x, @x <- @1) { Nil }",
+            b"rho: source: Repeated name=x",
+        ),
+        (
+            b"new a(`rho:io:stdin`) in Nil",
+            b"rho: source: UnknownUri uri=rho:io:stdin",
+        ),
+    ];
+    for (text, message) in rows {
+        assert_eq!(rt; message_of(&rt, alloc, text)?.as_slice(), message);
+    }
+    Ok(())
+}
+
+/// So many braces around `Nil`.
+fn braces(alloc: Global, count: usize) -> Result<Vec<u8>, AllocError> {
+    let mut text = Vec::new(alloc);
+    for _ in 0..count {
+        text.push(b'{')?;
+    }
+    text.extend_from_slice(b"Nil")?;
+    for _ in 0..count {
+        text.push(b'}')?;
+    }
+    Ok(text)
+}
+
+#[test]
+fn a_source_has_at_most_height_200(rt: HostRuntime) -> Result<(), Fail> {
+    let alloc: Global = rt.alloc();
+    let mut place = Place::new(&rt, alloc, braces(alloc, 200)?.as_slice());
+    assert_eq!(rt; place.run(&rt, alloc, "1000")?, Status::Done);
+    let message = message_of(&rt, alloc, braces(alloc, 201)?.as_slice())?;
+    assert_eq!(rt;
+        message.as_slice(),
+        b"rho: source: TooDeep at=200".as_slice()
+    );
+    Ok(())
+}
+
+/// A name that is quoted in two ways is one channel.
+#[test]
+fn two_spellings_of_a_name_meet(rt: HostRuntime) -> Result<(), Fail> {
+    let alloc: Global = rt.alloc();
+    let source = b"@{1 | 2}!(9) | for (@x <- @{2 | 1}) { Nil }";
+    let mut place = Place::new(&rt, alloc, source);
+    assert_eq!(rt; place.run(&rt, alloc, "1000")?, Status::Done);
+    assert_eq!(rt; place.get(&rt, alloc, "n").as_slice(), EMPTY);
+    assert_eq!(rt;
+        place.out.bytes.as_slice(),
+        b"{\"cost\":17,\"root\":\"0000000000000000000000000000000000000000000000000000000000000000\",\"steps\":1,\"verdict\":\"done\"}\n".as_slice()
+    );
     Ok(())
 }
 

@@ -1,9 +1,10 @@
-ghost use Rattle.std.specs.Prelude.{◌≡◌, ◌⊎◌, None, Err, IsOk, map, string_bytes};
+ghost use Rattle.std.specs.Prelude.{◌≡◌, ◌⊎◌, None, Err, IsOkAnd, IfOk, map, string_bytes};
 ghost use Rattle.rho_outside.specs.Causes.{Rose};
 ghost use Rattle.rho_outside.specs.Told.{Told};
 ghost use Rattle.rho_main.specs.Words.{names_in};
 ghost use Rattle.rho_main.specs.Inputs.{Refusal, accepted};
-ghost use Rattle.rho_main.specs.Refused.{RefusedFor, Says};
+ghost use Rattle.rho_main.specs.Refused.{RefusedFor, Says, SaysOf};
+ghost use Rattle.rho_main.specs.Runnable.{IsRunnable};
 ghost use Rattle.rho_main.specs.Ends.{Named, OnUsage, OnRefusal, OnFileRefusal, OnHalt, OnVerdict, Leaves, LeavesInPart};
 
 use crate::deploy::deploy;
@@ -30,18 +31,22 @@ pub fn run<R: Threads + Wait + Sync, S: Shelf, O: Sink, G: Gate + Sync>(
     ensures usage { OnUsage result (names_in (map string_bytes words.now) ≡ None) }
     ensures usage_exact { names_in (map string_bytes words.now) ≡ None → (result ≡ Status.Usage Usage.BadWords) ⊎ (result ≡ Status.NoMemory) }
 
-    // The files and the limit.
+    // The files, the limit and the source.
     ensures refused { Named (map string_bytes words.now) (λ names. OnFileRefusal result
         (RefusedFor (S.files shelf.old) names (S.fetch_faults shelf.old) (S.fetch_faults shelf.new) result)) }
     ensures exact { Named (map string_bytes words.now) (λ names. Told (S.files shelf.old) (λ files. (r : Refusal) → accepted names files ≡ Err r
         → ¬ (Rose (S.fetch_faults shelf.old) (S.fetch_faults shelf.new)) → Says r result)) }
+    ensures source_exact { Named (map string_bytes words.now) (λ names. Told (S.files shelf.old) (λ files. IfOk (accepted names files) (λ source.
+        ¬ (Rose (S.fetch_faults shelf.old) (S.fetch_faults shelf.new)) → SaysOf source result))) }
     ensures files_stay { OnRefusal result (S.files shelf.new ≡ S.files shelf.old) }
     ensures bytes_stay { OnRefusal result (O.written out.new ≡ O.written out.old) }
 
     // What is left behind.
     ensures write_fault { result ≡ Status.WriteFault → Rose (S.keep_faults shelf.old) (S.keep_faults shelf.new) ⊎ Rose (O.faults out.old) (O.faults out.new) }
     ensures write_fault_late { result ≡ Status.WriteFault → Named (map string_bytes words.now)
-        (λ names. Told (S.files shelf.old) (λ files. IsOk (accepted names files))) }
+        (λ names. Told (S.files shelf.old) (λ files. IsOkAnd (accepted names files) IsRunnable)) }
+    ensures runnable { Named (map string_bytes words.now) (λ names. OnVerdict result
+        (Told (S.files shelf.old) (λ files. IsOkAnd (accepted names files) IsRunnable))) }
     ensures verdict { Named (map string_bytes words.now) (λ names. OnVerdict result
         (Leaves result names (S.files shelf.old) (S.files shelf.new) (O.written out.old) (O.written out.new))) }
     ensures part { Named (map string_bytes words.now) (λ names. OnHalt result

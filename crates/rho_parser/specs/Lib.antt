@@ -1,3 +1,4 @@
 pub mod Levels
 pub mod Meaning
+pub mod Parsed
 pub mod Reading

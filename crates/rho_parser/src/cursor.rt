@@ -4,7 +4,7 @@ ghost use Rattle.grammar.specs.Descent.{Stuck, Takes, TakesInteger, TakesOpening
 ghost use Rattle.grammar.specs.Grammar.{arrow_mark, bang, begins_operand, bundle_mark, is_no_minus, type_mark};
 ghost use Rattle.grammar.specs.Productions.{Prod};
 ghost use Rattle.grammar.specs.Rules.{Sort, closing, separator_mark};
-ghost use Rattle.grammar.specs.Values.{Spelt};
+ghost use Rattle.grammar.specs.Values.{Side, Spelt};
 ghost use Rattle.grammar.specs.Terminals.{a_string, a_uri, a_word, sees};
 ghost use Rattle.rho_parser.specs.Meaning.{Missing, Refused, sees_key_operand, sees_sign_operand, sees_text_operand, view};
 ghost use Rattle.rho_parser.specs.Reading.{bracket_of, sees_bind, sees_member, separator_of};
@@ -201,6 +201,7 @@ impl<'a> Parser<'a> {
     /// Opens the form of a prefix `-` at the token after it, which stays.
     pub fn opens_operand(&mut self, free: u32) -> Result<(), Fault>
         ensures reads { MatchResult result (λ _. (shows begins_operand (view self.old.rest.now) ≡ true) × (0 < free) × (self.new.rest.now ≡ self.old.rest.now)) (λ e. Refused (shows begins_operand (view self.old.rest.now)) 0 free (view self.old.rest.now) e (view self.new.rest.now)) }
+        ensures shorter { length self.new.rest.now ≤ length self.old.rest.now }
     {
         if !self.sees_operand() {
             return Err(Fault::Syntax);
@@ -214,6 +215,7 @@ impl<'a> Parser<'a> {
     /// The next token is there, and is no `-`.
     pub fn refuse_minus(&mut self) -> Result<(), Fault>
         ensures reads { MatchResult result (λ _. (shows is_no_minus (view self.old.rest.now) ≡ true) × (self.new.rest.now ≡ self.old.rest.now)) (λ e. Stuck (shows is_no_minus (view self.old.rest.now)) (view self.old.rest.now) e (view self.new.rest.now)) }
+        ensures shorter { length self.new.rest.now ≤ length self.old.rest.now }
     {
         if self.rest.is_empty() || self.sees(Mark::Minus) {
             return Err(Fault::Syntax);
@@ -333,6 +335,22 @@ impl<'a> Parser<'a> {
             return Kind::Peek;
         }
         Kind::Linear
+    }
+
+    /// The rights of a bundle that the next key says; where none is next, both.
+    pub fn rights(&self) -> Rights
+        ensures { (side : Side) → choose (Sort.Bundle side) (view self.now.rest.now) ≡ Prod.bundle side result }
+    {
+        if self.sees(Mark::BundleNeither) {
+            return Rights::Neither;
+        }
+        if self.sees(Mark::BundleWrite) {
+            return Rights::Write;
+        }
+        if self.sees(Mark::BundleRead) {
+            return Rights::Read;
+        }
+        Rights::Both
     }
 
     /// Takes the sign that closes this bracket.

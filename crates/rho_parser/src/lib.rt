@@ -2,11 +2,22 @@
 //! the grammar.
 #![tactic(auto)]
 
+mod atom;
 mod build;
 mod cursor;
 mod leaf;
+mod left;
 mod level;
 mod mark;
+mod operation;
+pub mod parse_fault;
 mod part;
+mod pattern;
+mod pattern_atom;
+mod process;
+mod receive;
+pub mod whole;
 
 pub use grammar::Dialect;
+pub use parse_fault::ParseFault;
+pub use whole::parse;

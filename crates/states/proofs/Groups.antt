@@ -13,10 +13,10 @@ use Rattle.events.specs.Orders.{Moved, empty, keep, exchange, join}
 use Rattle.events.proofs.Orders.{unmoved}
 use Rattle.states.specs.Laws.{RootIgnoresOrder, TextIgnoresOrder}
 
-same : (x y : List ℕ) → bytes_eq x y ≡ true → x ≡ y
+pub same : (x y : List ℕ) → bytes_eq x y ≡ true → x ≡ y
 same x y e = (bytes_eq-Decides x y).0 e
 
-equal : (x y : List ℕ) → x ≡ y → bytes_eq x y ≡ true
+pub equal : (x y : List ℕ) → x ≡ y → bytes_eq x y ≡ true
 equal x y e = (bytes_eq-Decides x y).1 e
 
 -- groups in another order, no two neighbours that are exchanged having one key, and the rows of each in another order
@@ -173,12 +173,12 @@ unfolding leaf_of
 digest-of-one zero g = refl
 digest-of-one (suc n) g = refl
 
-each-same : (f g : ℕ → List ℕ) → ((x : ℕ) → f x ≡ g x) → (xs : List ℕ) → each f xs ≡ each g xs
+pub each-same : (f g : ℕ → List ℕ) → ((x : ℕ) → f x ≡ g x) → (xs : List ℕ) → each f xs ≡ each g xs
 each-same f g h [] = refl
 each-same f g h (x ∷ xs) = cc (h x, each-same f g h xs)
 
 -- groups that are alike have one digest
-digest-alike : (n : ℕ) (gs hs : List Group) → Alike gs hs → digest_in n gs ≡ digest_in n hs
+pub digest-alike : (n : ℕ) (gs hs : List Group) → Alike gs hs → digest_in n gs ≡ digest_in n hs
 digest-alike n [] [] a = refl
 digest-alike n [] (h ∷ hs) a = absurd (nothing-longer hs h (length-alike a))
 digest-alike n (g ∷ gs) [] a = absurd (nothing-longer gs g (sym (length-alike a)))
@@ -200,7 +200,7 @@ pub root_ignores_order : RootIgnoresOrder
 unfolding root
 root_ignores_order rows others m = digest-alike 64 (groups rows) (groups others) (groups-alike m)
 
-each-moved : {A B : Type 0} (f : A → B) {xs ys : List A} → Moved xs ys → Moved (each f xs) (each f ys)
+pub each-moved : {A B : Type 0} (f : A → B) {xs ys : List A} → Moved xs ys → Moved (each f xs) (each f ys)
 each-moved f empty = empty
 each-moved f (keep x m) = keep (f x) (each-moved f m)
 each-moved f (exchange x y zs) = exchange (f x) (f y) (each f zs)

@@ -9,6 +9,6 @@ pub mod substitution;
 #[cfg(test)]
 mod tests;
 
-pub use make::make_par;
+pub use make::{make_par, with_order};
 pub use size::put_size;
 pub use substitution::substitute;

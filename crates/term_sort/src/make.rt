@@ -29,8 +29,11 @@ fn with_orders(alloc: Global, parts: Vec<Part>) -> Result<Vec<Part>, AllocError>
     Ok(ordered)
 }
 
-// The part, with the members of a set or a map that it is in order.
-fn with_order(alloc: Global, part: Part) -> Result<Part, AllocError>
+/// The part, with the members of a set or a map that it is in order. Members of equal codes keep their
+/// order.
+///
+/// Want of memory is the one error; the part is gone then.
+pub fn with_order(alloc: Global, part: Part) -> Result<Part, AllocError>
     ensures { IfOk result (λ p. part_tree p ≡ reordered (part_tree part)) }
 {
     match part {

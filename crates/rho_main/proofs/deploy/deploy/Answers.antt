@@ -2,7 +2,9 @@ use Rattle.std.proofs.Common.{inr}
 use Rattle.rho_main.specs.Words.{names_of}
 use Rattle.rho_main.specs.Inputs.{accepted}
 use Rattle.rho_main.specs.Ends.{Leaves, LeavesAll, LeavesSome}
+use Rattle.rho_main.specs.declared.status.Status.TheVariants.{WriteFault}
 use Rattle.rho_main.proofs.Leaving.{on_verdict, ok_and, leaves_all, leaves_some}
+use Rattle.rho_main.proofs.Sourcing.{run_free, late_free}
 use Rattle.rho_main.proofs.deploy.deploy.Goals as goal
 
 pub returns-in-Ok-write_plan-clause-verdict : goal.returns-in-Ok-write_plan-clause-verdict
@@ -39,3 +41,13 @@ returns-clause-part g c =
     let w = c.in-Err-NoMemory.ensures in
     λ files h. inr (ok_and (LeavesSome names old new before after) (accepted names files) c.in-Ok.inputs.source.items (c.in-Ok.ensures.accepted files h)
     (leaves_some names _ c.in-Ok-make_plan.plan old (g.S.Shelf.files c.accept.new.shelf) new before after c.in-Ok-make_plan.ensures c.in-Ok.ensures.files w.part w.put_part))
+
+pub returns-in-Ok-write_plan-clause-source_exact : goal.returns-in-Ok-write_plan-clause-source_exact
+returns-in-Ok-write_plan-clause-source_exact g c =
+    let i = c.in-Ok.inputs in
+    λ files h. late_free (names_of c.args.command.now) files _ _ i.source.items c.status_of.result (c.in-Ok.ensures.accepted files h) (run_free i.source.items i.term c.in-Ok.ensures.term c.in-Ok.ensures.linear)
+
+pub returns-in-Err-WriteFault-clause-source_exact : goal.returns-in-Err-WriteFault-clause-source_exact
+returns-in-Err-WriteFault-clause-source_exact g c =
+    let i = c.in-Ok.inputs in
+    λ files h. late_free (names_of c.args.command.now) files _ _ i.source.items WriteFault (c.in-Ok.ensures.accepted files h) (run_free i.source.items i.term c.in-Ok.ensures.term c.in-Ok.ensures.linear)

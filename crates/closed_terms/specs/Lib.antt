@@ -1,0 +1,4 @@
+pub mod WellFormed
+pub mod Texts
+pub mod Laws
+pub mod ExamplesClosed

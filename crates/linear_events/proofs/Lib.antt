@@ -1,0 +1,11 @@
+pub mod Parts
+pub mod Joining
+pub mod Meeting
+pub mod Stepping
+pub mod Lonely
+pub mod Coding
+pub mod Gone
+pub mod Printing
+pub mod Steps
+pub mod Bodies
+pub mod Computed

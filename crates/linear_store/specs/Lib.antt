@@ -1,0 +1,4 @@
+pub mod Channels
+pub mod Queues
+pub mod Meetings
+pub mod Laws

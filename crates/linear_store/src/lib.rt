@@ -1,0 +1,10 @@
+//! A store of linear sends and receives by channel: an operation meets a stored one of the other kind, or is stored.
+#![tactic(auto)]
+
+pub mod laws;
+mod queues;
+pub mod store;
+#[cfg(test)]
+mod tests;
+
+pub use store::{Met, Store};

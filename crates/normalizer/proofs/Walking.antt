@@ -1,5 +1,0 @@
--- The lemmas that the calls of the walk share.
-use Rattle.normalizer.proofs.Insides.{refusal-left, refusal-right, none-append, inside-append, inside-nil, judges-right, judges-end}
-use Rattle.normalizer.proofs.Meanings.{proc-pairs, pat-pairs, rest-uses}
-
-pub ruleset walking = (proc-pairs, pat-pairs, rest-uses, refusal-left, refusal-right, none-append, inside-append, inside-nil, judges-right, judges-end)

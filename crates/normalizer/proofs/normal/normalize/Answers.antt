@@ -1,0 +1,18 @@
+use Rattle.std.proofs.Common.{ap, sym, ◌∙◌, subst}
+use Rattle.std.specs.Prelude.{IsTrue}
+use Rattle.calculus.specs.Bare.{bare}
+use Rattle.calculus.specs.Congruence.{congruent}
+use Rattle.calculus.specs.Meaning.{proc_written}
+use Rattle.scope.proofs.Normalizing.{normal-congruent}
+use Rattle.normalizer.specs.Made.{normal_in}
+use Rattle.normalizer.proofs.normal.normalize.Goals as goal
+
+pub returns-clause-term : goal.returns-clause-term
+unfolding normal_in
+returns-clause-term c = c.in_ok-term.ensures ∙ ap (normal_in (proc_written c.args.p.now)) c.new-scope.ensures
+
+pub returns-clause-congruent : goal.returns-clause-congruent
+unfolding normal_in
+returns-clause-congruent c =
+    let e = c.in_ok-term.ensures ∙ ap (normal_in (proc_written c.args.p.now)) c.new-scope.ensures in
+    subst (λ t. IsTrue (congruent t (bare (proc_written c.args.p.now)))) (sym e) (normal-congruent (bare (proc_written c.args.p.now)))

@@ -1,0 +1,365 @@
+// Terms of processes in a scope, from the inside out.
+
+ghost use Rattle.std.specs.Prelude.{◌≡◌, ◌++◌, map, IfOk};
+ghost use Rattle.calculus.specs.Meaning.{proc_written, name_written, pat_written, name_pat_written, bind_written, case_written};
+ghost use Rattle.rho_term.specs.Parts.{part_tree, pat_part_tree, pair_tree, bind_tree, case_tree};
+ghost use Rattle.scope_check.specs.Pairs.{proc_pair, pat_pair};
+ghost use Rattle.normalizer.specs.Made.{normal_in, all_in, parts_in, pattern_parts_in, all_parts, all_pattern_parts};
+
+use crate::bind::{bind_binds, bind_declared, bind_pattern};
+use crate::ground::{copy_ground, origins, rest_of};
+use crate::names::Names;
+use crate::parts::{closed_parts, one_part, one_pat_part};
+use calculus::{Bind, Case, Name, NamePat, Pat, Proc};
+use rho_term::{Part, PatPart, Term, TermBind, TermCase, TermPat};
+use std::alloc::{AllocError, Global};
+use term_sort::make_par;
+
+/// The term of a process.
+#[cycle(make)]
+pub(crate) fn make_term(alloc: Global, scope: &Names, p: &Proc) -> Result<Term, AllocError>
+    ensures { IfOk result (λ t. t ≡ normal_in (proc_written p.now) scope.now) }
+{
+    let parts = parts_of(alloc, scope, p)?;
+    make_par(alloc, parts)
+}
+
+// The parts of a process, in written order.
+#[cycle(make)]
+fn parts_of(alloc: Global, scope: &Names, p: &Proc) -> Result<Vec<Part>, AllocError>
+    ensures { IfOk result (λ v. map part_tree v.items ≡ parts_in (proc_written p.now) scope.now) }
+{
+    match p {
+        Proc::Par(ps) => all_parts_of(alloc, scope, ps),
+        Proc::Ground(value) => one_part(alloc, Part::Ground(copy_ground(value)?)),
+        Proc::Var(name) => one_part(alloc, Part::Var(scope.index(name.as_str())?)),
+        Proc::Drop(n) => name_parts_of(alloc, scope, n),
+        Proc::List(ps) => one_part(alloc, Part::List(make_terms(alloc, scope, ps)?)),
+        Proc::Tuple(ps) => one_part(alloc, Part::Tuple(make_terms(alloc, scope, ps)?)),
+        Proc::Set(ps) => one_part(alloc, Part::Set(make_terms(alloc, scope, ps)?)),
+        Proc::Map(ps) => one_part(alloc, Part::Map(make_pairs(alloc, scope, ps)?)),
+        Proc::Send {
+            channel,
+            args,
+            persistent,
+        } => {
+            let channel = make_name(alloc, scope, channel)?;
+            let args = make_terms(alloc, scope, args)?;
+            let persistent = *persistent;
+            one_part(
+                alloc,
+                Part::Send {
+                    channel,
+                    args,
+                    persistent,
+                },
+            )
+        }
+        Proc::Receive { kind, binds, body } => {
+            let mut bound = Names::new(alloc);
+            bind_binds(&mut bound, binds)?;
+            let binds = make_binds(alloc, scope, binds)?;
+            let body = make_within(alloc, scope, bound, body)?;
+            let kind = *kind;
+            one_part(alloc, Part::Receive { kind, binds, body })
+        }
+        Proc::New { names, body } => {
+            let mut bound = Names::new(alloc);
+            bind_declared(&mut bound, names)?;
+            let names = origins(alloc, names)?;
+            let body = make_within(alloc, scope, bound, body)?;
+            one_part(alloc, Part::New { names, body })
+        }
+        Proc::Match { target, cases } => {
+            let target = make_term(alloc, scope, target)?;
+            let cases = make_cases(alloc, scope, cases)?;
+            one_part(alloc, Part::Match { target, cases })
+        }
+        Proc::Bundle { rights, body } => {
+            let rights = *rights;
+            let body = make_term(alloc, scope, body)?;
+            one_part(alloc, Part::Bundle { rights, body })
+        }
+        Proc::Unary { op, arg } => {
+            let op = *op;
+            let arg = make_term(alloc, scope, arg)?;
+            one_part(alloc, Part::Unary { op, arg })
+        }
+        Proc::Binary { op, left, right } => {
+            let op = *op;
+            let left = make_term(alloc, scope, left)?;
+            let right = make_term(alloc, scope, right)?;
+            one_part(alloc, Part::Binary { op, left, right })
+        }
+        Proc::Method { name, target, args } => {
+            let name = name.clone()?;
+            let target = make_term(alloc, scope, target)?;
+            let args = make_terms(alloc, scope, args)?;
+            one_part(alloc, Part::Method { name, target, args })
+        }
+    }
+}
+
+#[cycle(make)]
+fn all_parts_of(alloc: Global, scope: &Names, ps: &Vec<Proc>) -> Result<Vec<Part>, AllocError>
+    ensures { IfOk result (λ v. map part_tree v.items ≡ all_parts (map proc_written ps.now.items) scope.now) }
+{
+    let mut parts = Vec::new(alloc);
+    for p in ps {
+        let mut more = parts_of(alloc, scope, p)?;
+        parts.append(&mut more)?;
+    }
+    Ok(parts)
+}
+
+#[cycle(make)]
+fn make_terms(alloc: Global, scope: &Names, ps: &Vec<Proc>) -> Result<Vec<Term>, AllocError>
+    ensures { IfOk result (λ v. v.items ≡ all_in (map proc_written ps.now.items) scope.now) }
+{
+    let mut terms = Vec::new(alloc);
+    for p in ps {
+        terms.push(make_term(alloc, scope, p)?)?;
+    }
+    Ok(terms)
+}
+
+#[cycle(make)]
+fn make_pairs(
+    alloc: Global,
+    scope: &Names,
+    ps: &Vec<(Proc, Proc)>,
+) -> Result<Vec<(Term, Term)>, AllocError>
+    ensures { IfOk result (λ v. map pair_tree v.items ≡ all_in (map proc_pair ps.now.items) scope.now) }
+{
+    let mut pairs = Vec::new(alloc);
+    for p in ps {
+        let key = make_term(alloc, scope, &p.0)?;
+        let value = make_term(alloc, scope, &p.1)?;
+        pairs.push((key, value))?;
+    }
+    Ok(pairs)
+}
+
+// The term of the process that a name quotes.
+#[cycle(make)]
+fn make_name(alloc: Global, scope: &Names, n: &Name) -> Result<Term, AllocError>
+    ensures { IfOk result (λ t. t ≡ normal_in (name_written n.now) scope.now) }
+{
+    let parts = name_parts_of(alloc, scope, n)?;
+    make_par(alloc, parts)
+}
+
+// The parts of the process that a name quotes.
+#[cycle(make)]
+fn name_parts_of(alloc: Global, scope: &Names, n: &Name) -> Result<Vec<Part>, AllocError>
+    ensures { IfOk result (λ v. map part_tree v.items ≡ parts_in (name_written n.now) scope.now) }
+{
+    match n {
+        Name::Var(name) => one_part(alloc, Part::NameVar(scope.index(name.as_str())?)),
+        Name::Fresh(name) => one_part(alloc, Part::Fresh(*name)),
+        Name::Quote(p) => parts_of(alloc, scope, p),
+    }
+}
+
+// The term of a process in the scope of these names too.
+#[cycle(make)]
+fn make_within(alloc: Global, scope: &Names, bound: Names, p: &Proc) -> Result<Term, AllocError>
+    ensures { IfOk result (λ t. t ≡ normal_in (proc_written p.now) (bound ++ scope.now)) }
+{
+    let inner = scope.with(bound)?;
+    make_term(alloc, &inner, p)
+}
+
+#[cycle(make)]
+fn make_binds(alloc: Global, scope: &Names, binds: &Vec<Bind>) -> Result<Vec<TermBind>, AllocError>
+    ensures { IfOk result (λ v. map bind_tree v.items ≡ all_in (map bind_written binds.now.items) scope.now) }
+{
+    let mut made = Vec::new(alloc);
+    for b in binds {
+        made.push(make_bind(alloc, scope, b)?)?;
+    }
+    Ok(made)
+}
+
+#[cycle(make)]
+fn make_bind(alloc: Global, scope: &Names, b: &Bind) -> Result<TermBind, AllocError>
+    ensures { IfOk result (λ t. bind_tree t ≡ normal_in (bind_written b.now) scope.now) }
+{
+    let channel = make_name(alloc, scope, &b.channel)?;
+    let pats = make_name_pats(alloc, scope, &b.pats)?;
+    let rest = rest_of(&b.rest);
+    Ok(TermBind {
+        pats,
+        rest,
+        channel,
+    })
+}
+
+#[cycle(make)]
+fn make_cases(alloc: Global, scope: &Names, cases: &Vec<Case>) -> Result<Vec<TermCase>, AllocError>
+    ensures { IfOk result (λ v. map case_tree v.items ≡ all_in (map case_written cases.now.items) scope.now) }
+{
+    let mut made = Vec::new(alloc);
+    for case in cases {
+        made.push(make_case(alloc, scope, case)?)?;
+    }
+    Ok(made)
+}
+
+#[cycle(make)]
+fn make_case(alloc: Global, scope: &Names, case: &Case) -> Result<TermCase, AllocError>
+    ensures { IfOk result (λ t. case_tree t ≡ normal_in (case_written case.now) scope.now) }
+{
+    let mut bound = Names::new(alloc);
+    bind_pattern(&mut bound, &case.pat)?;
+    let pat = make_pat(alloc, scope, &case.pat)?;
+    let body = make_within(alloc, scope, bound, &case.body)?;
+    Ok(TermCase { pat, body })
+}
+
+#[cycle(make)]
+fn make_pat(alloc: Global, scope: &Names, p: &Pat) -> Result<TermPat, AllocError>
+    ensures { IfOk result (λ t. t ≡ normal_in (pat_written p.now) scope.now) }
+{
+    let parts = pat_parts_of(alloc, scope, p)?;
+    Ok(TermPat::new(parts))
+}
+
+// The parts of a pattern, in written order.
+#[cycle(make)]
+fn pat_parts_of(alloc: Global, scope: &Names, p: &Pat) -> Result<Vec<PatPart>, AllocError>
+    ensures { IfOk result (λ v. map pat_part_tree v.items ≡ pattern_parts_in (pat_written p.now) scope.now) }
+{
+    match p {
+        Pat::Par(ps) => all_pat_parts_of(alloc, scope, ps),
+        Pat::Wild => one_pat_part(alloc, PatPart::Wild),
+        Pat::Var(_) => one_pat_part(alloc, PatPart::Var),
+        Pat::Simple(kind) => one_pat_part(alloc, PatPart::Simple(*kind)),
+        Pat::Same(inner) => one_pat_part(alloc, PatPart::Same(make_term(alloc, scope, inner)?)),
+        Pat::Ground(value) => one_pat_part(alloc, PatPart::Ground(copy_ground(value)?)),
+        Pat::Both(a, b) => {
+            let a = make_pat(alloc, scope, a)?;
+            let b = make_pat(alloc, scope, b)?;
+            one_pat_part(alloc, PatPart::Both(a, b))
+        }
+        Pat::Either(a, b) => {
+            let a = make_pat(alloc, scope, a)?;
+            let b = make_pat(alloc, scope, b)?;
+            one_pat_part(alloc, PatPart::Either(a, b))
+        }
+        Pat::Not(a) => one_pat_part(alloc, PatPart::Not(make_pat(alloc, scope, a)?)),
+        Pat::List(ps, rest) => {
+            let members = make_pats(alloc, scope, ps)?;
+            one_pat_part(alloc, PatPart::List(members, rest_of(rest)))
+        }
+        Pat::Tuple(ps) => one_pat_part(alloc, PatPart::Tuple(make_pats(alloc, scope, ps)?)),
+        Pat::Set(ps, rest) => {
+            let members = make_pats(alloc, scope, ps)?;
+            one_pat_part(alloc, PatPart::Set(members, rest_of(rest)))
+        }
+        Pat::Map(ps, rest) => {
+            let pairs = make_pat_pairs(alloc, scope, ps)?;
+            one_pat_part(alloc, PatPart::Map(pairs, rest_of(rest)))
+        }
+        Pat::Send {
+            channel,
+            args,
+            persistent,
+        } => {
+            let channel = make_name_pat(alloc, scope, channel)?;
+            let args = make_pats(alloc, scope, args)?;
+            let persistent = *persistent;
+            one_pat_part(
+                alloc,
+                PatPart::Send {
+                    channel,
+                    args,
+                    persistent,
+                },
+            )
+        }
+        Pat::Bundle { rights, body } => {
+            let rights = *rights;
+            let body = make_pat(alloc, scope, body)?;
+            one_pat_part(alloc, PatPart::Bundle { rights, body })
+        }
+        Pat::Closed(inner) => {
+            let parts = parts_of(alloc, scope, inner)?;
+            closed_parts(alloc, parts)
+        }
+    }
+}
+
+#[cycle(make)]
+fn all_pat_parts_of(alloc: Global, scope: &Names, ps: &Vec<Pat>) -> Result<Vec<PatPart>, AllocError>
+    ensures { IfOk result (λ v. map pat_part_tree v.items ≡ all_pattern_parts (map pat_written ps.now.items) scope.now) }
+{
+    let mut parts = Vec::new(alloc);
+    for p in ps {
+        let mut more = pat_parts_of(alloc, scope, p)?;
+        parts.append(&mut more)?;
+    }
+    Ok(parts)
+}
+
+#[cycle(make)]
+fn make_pats(alloc: Global, scope: &Names, ps: &Vec<Pat>) -> Result<Vec<TermPat>, AllocError>
+    ensures { IfOk result (λ v. v.items ≡ all_in (map pat_written ps.now.items) scope.now) }
+{
+    let mut pats = Vec::new(alloc);
+    for p in ps {
+        pats.push(make_pat(alloc, scope, p)?)?;
+    }
+    Ok(pats)
+}
+
+#[cycle(make)]
+fn make_pat_pairs(
+    alloc: Global,
+    scope: &Names,
+    ps: &Vec<(Pat, Pat)>,
+) -> Result<Vec<(TermPat, TermPat)>, AllocError>
+    ensures { IfOk result (λ v. map pair_tree v.items ≡ all_in (map pat_pair ps.now.items) scope.now) }
+{
+    let mut pairs = Vec::new(alloc);
+    for p in ps {
+        let key = make_pat(alloc, scope, &p.0)?;
+        let value = make_pat(alloc, scope, &p.1)?;
+        pairs.push((key, value))?;
+    }
+    Ok(pairs)
+}
+
+#[cycle(make)]
+fn make_name_pats(
+    alloc: Global,
+    scope: &Names,
+    ps: &Vec<NamePat>,
+) -> Result<Vec<TermPat>, AllocError>
+    ensures { IfOk result (λ v. v.items ≡ all_in (map name_pat_written ps.now.items) scope.now) }
+{
+    let mut pats = Vec::new(alloc);
+    for p in ps {
+        pats.push(make_name_pat(alloc, scope, p)?)?;
+    }
+    Ok(pats)
+}
+
+#[cycle(make)]
+fn make_name_pat(alloc: Global, scope: &Names, p: &NamePat) -> Result<TermPat, AllocError>
+    ensures { IfOk result (λ t. t ≡ normal_in (name_pat_written p.now) scope.now) }
+{
+    let parts = name_pat_parts_of(alloc, scope, p)?;
+    Ok(TermPat::new(parts))
+}
+
+#[cycle(make)]
+fn name_pat_parts_of(alloc: Global, scope: &Names, p: &NamePat) -> Result<Vec<PatPart>, AllocError>
+    ensures { IfOk result (λ v. map pat_part_tree v.items ≡ pattern_parts_in (name_pat_written p.now) scope.now) }
+{
+    match p {
+        NamePat::Wild => one_pat_part(alloc, PatPart::Wild),
+        NamePat::Var(_) => one_pat_part(alloc, PatPart::NameVar),
+        NamePat::Quote(inner) => pat_parts_of(alloc, scope, inner),
+    }
+}

@@ -1,0 +1,274 @@
+//! Processes in parallel, and the forms that end in a process, a row or a block.
+ghost use Rattle.calculus.specs.Meaning.{proc_written};
+ghost use Rattle.grammar.specs.Grammar.{rule};
+ghost use Rattle.grammar.specs.Productions.{Prod};
+ghost use Rattle.grammar.specs.Rules.{Sort, last};
+ghost use Rattle.grammar.specs.Values.{processes};
+ghost use Rattle.grammar.specs.declared.dialect.Dialect.TheVariants.{Tutorial};
+ghost use Rattle.rho_parser.specs.Meaning.{view};
+ghost use Rattle.rho_parser.specs.Reading.{Gives, Makes, Turns, of_name, of_proc};
+ghost use Rattle.std.specs.Prelude.{◌≡◌, ◌<◌, ◌≤◌, IfOk, MatchResult, length, map};
+
+use crate::build;
+use crate::cursor::Parser;
+use crate::level::Level;
+use crate::part::{Bracket, Part};
+use calculus::{Name, Proc};
+use grammar::{Fault, Mark};
+
+impl<'a> Parser<'a> {
+    /// Par ::= One { "|" One }
+    #[cycle(parse)]
+    pub fn par(&mut self, free: u32) -> Result<Part<Proc>, Fault>
+        ensures reads { Gives free (Sort.Par processes) of_proc (view self.old.rest.now) result (view self.new.rest.now) }
+        ensures room { IfOk result (λ p. p.height ≤ free) }
+        ensures shorter { length self.new.rest.now ≤ length self.old.rest.now }
+    {
+        let first = self.one(free)?;
+        let mut parts = build::start(self.alloc, first)?;
+        while self.sees(Mark::Bar) {
+            parts = self.next_part(parts, free)?;
+        }
+        Ok(build::composed(parts))
+    }
+
+    /// A bar and one more part.
+    #[cycle(parse)]
+    pub fn next_part(&mut self, parts: Part<Vec<Proc>>, free: u32) -> Result<Part<Vec<Proc>>, Fault>
+        requires { parts.height ≤ free }
+        ensures reads { Turns free (rule Tutorial (Prod.par_more processes (map proc_written parts.value.items) parts.height)) (λ p. last (Sort.ParTail processes (map proc_written p.value.items) p.height)) (view self.old.rest.now) result (view self.new.rest.now) }
+        ensures room { IfOk result (λ p. p.height ≤ free) }
+        ensures shorter { MatchResult result (λ _. length self.new.rest.now < length self.old.rest.now) (λ _. length self.new.rest.now ≤ length self.old.rest.now) }
+    {
+        self.expect(Mark::Bar)?;
+        let next = self.one(free)?;
+        build::push(parts, next)
+    }
+
+    /// One ::= New | If | Contract | Two
+    #[cycle(parse)]
+    pub fn one(&mut self, free: u32) -> Result<Part<Proc>, Fault>
+        ensures reads { Gives free Sort.One of_proc (view self.old.rest.now) result (view self.new.rest.now) }
+        ensures room { IfOk result (λ p. p.height ≤ free) }
+        ensures shorter { length self.new.rest.now ≤ length self.old.rest.now }
+    {
+        if self.sees(Mark::New) {
+            self.new_form(free)
+        } else if self.sees(Mark::If) {
+            self.if_form(free)
+        } else if self.sees(Mark::Contract) {
+            self.contract_form(free)
+        } else {
+            self.two(free)
+        }
+    }
+
+    /// New ::= "new" Decl { "," Decl } "in" One
+    #[cycle(parse)]
+    pub fn new_form(&mut self, free: u32) -> Result<Part<Proc>, Fault>
+        ensures reads { Gives free Sort.New of_proc (view self.old.rest.now) result (view self.new.rest.now) }
+        ensures room { IfOk result (λ p. p.height ≤ free) }
+        ensures shorter { length self.new.rest.now ≤ length self.old.rest.now }
+    {
+        self.opens(Mark::New, 0, free)?;
+        let names = self.declarations()?;
+        self.expect(Mark::In)?;
+        let body = self.one(free - 1)?;
+        build::new_process(self.alloc, names, body)
+    }
+
+    /// If ::= "if" "(" Par ")" Two [ "else" One ]
+    #[cycle(parse)]
+    pub fn if_form(&mut self, free: u32) -> Result<Part<Proc>, Fault>
+        ensures reads { Gives free Sort.If of_proc (view self.old.rest.now) result (view self.new.rest.now) }
+        ensures room { IfOk result (λ p. p.height ≤ free) }
+        ensures shorter { length self.new.rest.now ≤ length self.old.rest.now }
+    {
+        self.opens(Mark::If, 0, free)?;
+        self.expect(Mark::Open)?;
+        let condition = self.par(free - 1)?;
+        self.expect(Mark::Close)?;
+        let yes = self.two(free - 1)?;
+        self.if_tail(condition, yes, free)
+    }
+
+    /// What follows the first branch of an `if`.
+    #[cycle(parse)]
+    pub fn if_tail(
+        &mut self,
+        condition: Part<Proc>,
+        yes: Part<Proc>,
+        free: u32,
+    ) -> Result<Part<Proc>, Fault>
+        requires condition { condition.height < free }
+        requires yes { yes.height < free }
+        ensures reads { Gives free (Sort.IfTail (of_proc condition) (of_proc yes)) of_proc (view self.old.rest.now) result (view self.new.rest.now) }
+        ensures room { IfOk result (λ p. p.height ≤ free) }
+        ensures shorter { length self.new.rest.now ≤ length self.old.rest.now }
+    {
+        if self.sees(Mark::Else) {
+            self.if_else(condition, yes, free)
+        } else {
+            build::if_only(self.alloc, condition, yes)
+        }
+    }
+
+    /// The second branch of an `if`.
+    #[cycle(parse)]
+    pub fn if_else(
+        &mut self,
+        condition: Part<Proc>,
+        yes: Part<Proc>,
+        free: u32,
+    ) -> Result<Part<Proc>, Fault>
+        requires condition { condition.height < free }
+        requires yes { yes.height < free }
+        ensures reads { Makes free (rule Tutorial (Prod.if_else (of_proc condition) (of_proc yes))) of_proc (view self.old.rest.now) result (view self.new.rest.now) }
+        ensures room { IfOk result (λ p. p.height ≤ free) }
+        ensures shorter { length self.new.rest.now ≤ length self.old.rest.now }
+    {
+        self.expect(Mark::Else)?;
+        let no = self.one(free - 1)?;
+        build::choice(self.alloc, condition, yes, no)
+    }
+
+    /// Contract ::= "contract" Name "(" Left ")" "=" One
+    #[cycle(parse)]
+    pub fn contract_form(&mut self, free: u32) -> Result<Part<Proc>, Fault>
+        ensures reads { Gives free Sort.Contract of_proc (view self.old.rest.now) result (view self.new.rest.now) }
+        ensures room { IfOk result (λ p. p.height ≤ free) }
+        ensures shorter { length self.new.rest.now ≤ length self.old.rest.now }
+    {
+        self.opens(Mark::Contract, 0, free)?;
+        let name = self.name(free - 1)?;
+        self.expect(Mark::Open)?;
+        let left = self.left(free - 1)?;
+        self.expect(Mark::Close)?;
+        self.expect(Mark::Assign)?;
+        let body = self.one(free - 1)?;
+        build::contract(self.alloc, name, left, body)
+    }
+
+    /// Two ::= For | Match | Bundle | Name ( "!" | "!!" ) "(" [ Par { "," Par } ] ")" | Or
+    #[cycle(parse)]
+    pub fn two(&mut self, free: u32) -> Result<Part<Proc>, Fault>
+        ensures reads { Gives free Sort.Two of_proc (view self.old.rest.now) result (view self.new.rest.now) }
+        ensures room { IfOk result (λ p. p.height ≤ free) }
+        ensures shorter { length self.new.rest.now ≤ length self.old.rest.now }
+    {
+        if self.sees(Mark::For) {
+            self.for_form(free)
+        } else if self.sees(Mark::Match) {
+            self.match_form(free)
+        } else if self.sees_bundle() {
+            self.bundle(free)
+        } else if self.sees(Mark::At) {
+            self.two_quote(free)
+        } else if self.sees_send() {
+            self.two_word(free)
+        } else {
+            self.level(Level::Or, free)
+        }
+    }
+
+    /// A send on a variable.
+    #[cycle(parse)]
+    pub fn two_word(&mut self, free: u32) -> Result<Part<Proc>, Fault>
+        ensures reads { Makes free (rule Tutorial Prod.two_word) of_proc (view self.old.rest.now) result (view self.new.rest.now) }
+        ensures room { IfOk result (λ p. p.height ≤ free) }
+        ensures shorter { length self.new.rest.now ≤ length self.old.rest.now }
+    {
+        let name = self.word()?;
+        self.sent(build::channel(name), free)
+    }
+
+    /// What follows the variable of a send, which is opened here.
+    #[cycle(parse)]
+    pub fn sent(&mut self, channel: Part<Name>, free: u32) -> Result<Part<Proc>, Fault>
+        requires { channel.height ≡ 0 }
+        ensures reads { Gives free (Sort.Sent processes (of_name channel)) of_proc (view self.old.rest.now) result (view self.new.rest.now) }
+        ensures room { IfOk result (λ p. p.height ≤ free) }
+        ensures shorter { length self.new.rest.now ≤ length self.old.rest.now }
+    {
+        let persistent = self.sees(Mark::DoubleBang);
+        self.send(channel, persistent, free)
+    }
+
+    /// A mark of a send and its row.
+    #[cycle(parse)]
+    pub fn send(
+        &mut self,
+        channel: Part<Name>,
+        persistent: bool,
+        free: u32,
+    ) -> Result<Part<Proc>, Fault>
+        requires { channel.height ≡ 0 }
+        ensures reads { Makes free (rule Tutorial (Prod.sent processes (of_name channel) persistent)) of_proc (view self.old.rest.now) result (view self.new.rest.now) }
+        ensures room { IfOk result (λ p. p.height ≤ free) }
+        ensures shorter { length self.new.rest.now ≤ length self.old.rest.now }
+    {
+        self.opens_bang(persistent, free)?;
+        self.expect(Mark::Open)?;
+        let args = self.row(Bracket::Round, free - 1)?;
+        Ok(build::send(channel, args, persistent))
+    }
+
+    /// A send on a quoted process, which is opened at the `@`.
+    #[cycle(parse)]
+    pub fn two_quote(&mut self, free: u32) -> Result<Part<Proc>, Fault>
+        ensures reads { Makes free (rule Tutorial Prod.two_quote) of_proc (view self.old.rest.now) result (view self.new.rest.now) }
+        ensures room { IfOk result (λ p. p.height ≤ free) }
+        ensures shorter { length self.new.rest.now ≤ length self.old.rest.now }
+    {
+        self.opens(Mark::At, 0, free)?;
+        let quoted = self.drop_form(free - 1)?;
+        let channel = build::quote(self.alloc, quoted)?;
+        self.sent_tail(channel, free)
+    }
+
+    /// What follows the quoted process of a send.
+    #[cycle(parse)]
+    pub fn sent_tail(&mut self, channel: Part<Name>, free: u32) -> Result<Part<Proc>, Fault>
+        requires { channel.height < free }
+        ensures reads { Gives free (Sort.SentTail processes (of_name channel)) of_proc (view self.old.rest.now) result (view self.new.rest.now) }
+        ensures room { IfOk result (λ p. p.height ≤ free) }
+        ensures shorter { length self.new.rest.now ≤ length self.old.rest.now }
+    {
+        let persistent = self.sees(Mark::DoubleBang);
+        self.send_on(channel, persistent, free)
+    }
+
+    /// A mark of a send, and its row.
+    #[cycle(parse)]
+    pub fn send_on(
+        &mut self,
+        channel: Part<Name>,
+        persistent: bool,
+        free: u32,
+    ) -> Result<Part<Proc>, Fault>
+        requires { channel.height < free }
+        ensures reads { Makes free (rule Tutorial (Prod.sent_tail processes (of_name channel) persistent)) of_proc (view self.old.rest.now) result (view self.new.rest.now) }
+        ensures room { IfOk result (λ p. p.height ≤ free) }
+        ensures shorter { length self.new.rest.now ≤ length self.old.rest.now }
+    {
+        self.expect_bang(persistent)?;
+        self.expect(Mark::Open)?;
+        let args = self.row(Bracket::Round, free - 1)?;
+        Ok(build::send(channel, args, persistent))
+    }
+
+    /// Bundle ::= ( "bundle" | "bundle+" | "bundle-" | "bundle0" ) "{" Par "}"
+    #[cycle(parse)]
+    pub fn bundle(&mut self, free: u32) -> Result<Part<Proc>, Fault>
+        ensures reads { Gives free (Sort.Bundle processes) of_proc (view self.old.rest.now) result (view self.new.rest.now) }
+        ensures room { IfOk result (λ p. p.height ≤ free) }
+        ensures shorter { length self.new.rest.now ≤ length self.old.rest.now }
+    {
+        let rights = self.rights();
+        self.opens_bundle(rights, free)?;
+        self.expect(Mark::OpenBrace)?;
+        let body = self.par(free - 1)?;
+        self.expect(Mark::CloseBrace)?;
+        build::bundle(self.alloc, rights, body)
+    }
+}

@@ -1,0 +1,15 @@
+//! The rules of scope that a written process may break.
+#![tactic(auto)]
+
+mod check;
+mod declared;
+pub mod fault;
+mod open;
+pub mod scoped;
+#[cfg(test)]
+mod tests;
+mod variables;
+mod wide;
+
+pub use fault::ScopeFault;
+pub use scoped::check_scope;

@@ -1,0 +1,11 @@
+//! Sources: the normal term of the process that a text spells, or why it is refused.
+#![tactic(auto)]
+
+pub mod fault;
+pub mod laws;
+pub mod reading;
+#[cfg(test)]
+mod tests;
+
+pub use fault::SourceFault;
+pub use reading::read_source;
