@@ -41,7 +41,7 @@ leaves_all s names source p old mid new before after plan e same kept put =
     let log = log_text (header_of names.limit source) plan.left.steps in
     let files : new ≡ F log plan.left.next old = kept ∙ (ap (λ l. F l p.next.items mid) plan.log ∙ (ap (λ n. F log n mid) plan.next ∙ ap (λ m. F log plan.left.next m) same)) in
     let bytes = λ (l : List ℕ). GrewBy l before after in
-    (plan.left, (record { verdict = e ∙ ap status_of plan.verdict; old = λ n. plan.old (λ d. n (e ∙ ap status_of d)); steps = plan.steps }, (files, subst bytes plan.line put)))
+    (plan.left, (record { run = plan.run; verdict = e ∙ ap status_of plan.verdict; old = λ n. plan.old (λ d. n (e ∙ ap status_of d)); steps = plan.steps }, (files, subst bytes plan.line put)))
 
 -- a plan that was written in part is some of what a deploy leaves
 pub leaves_some : (names : Names) (source : List ℕ) (p : Plan) (old mid new : Option FileMap) (before after : Option (List ℕ))
@@ -53,4 +53,4 @@ leaves_some names source p old mid new before after plan same part put =
     let log = log_text (header_of names.limit source) plan.left.steps in
     let files = subst (λ m. F log plan.left.next m) same (subst (λ n. F log n mid) plan.next (subst (λ l. F l p.next.items mid) plan.log part)) in
     let bytes = λ (l : List ℕ). GrewByPart l before after in
-    (plan.left, (files, subst bytes plan.line put))
+    (plan.left, (plan.run, (files, subst bytes plan.line put)))

@@ -13,6 +13,7 @@ use Rattle.unfold.specs.Linear.{is_linear}
 use Rattle.rho_main.specs.Words.{Names}
 use Rattle.rho_main.specs.Inputs.{Refusal, missing, too_large, unbuilt, bad_limit, name_of, size_limit, within, given, ◌>>=◌, only, empty_state, price_text, in_range, accepted_state, accepted_prices, accepted_limit, accepted}
 use Rattle.rho_main.specs.Runnable.{IsRunnable, IsUnbuilt}
+use Rattle.rho_main.specs.Ends.{HasEnded}
 use Rattle.rho_main.specs.Refused.{IsFaultOf, SourceCause, StatusOf, SaysOf, IsFree, RefusedFor}
 use Rattle.rho_main.specs.declared.status.Input.{Input}
 use Rattle.rho_main.specs.declared.status.Input.TheVariants.{State, Prices, Source}
@@ -128,3 +129,42 @@ late_free names files before now bytes s e f =
     let P = λ (source : List ℕ). ¬ (Rose before now) → SaysOf source s in
     let Q = λ (r : Result _ Refusal). IfOk r P in
     subst Q (sym e) (λ n. free_says bytes s f)
+
+-- what is runnable is not refused, and not of another form
+runs_alone : (source : List ℕ) → IsRunnable source → IsFree source
+runs_alone source r = run_free source r.0 r.1.0 r.1.1
+
+-- where files are accepted, the source is runnable and no fetch failed, a deploy refuses nothing but want of memory
+late_end : (names : Names) (files : FileMap) (before now : ℕ) (source : List ℕ) (s : Status) → accepted names files ≡ Ok source → IsFree source → ¬ (Rose before now)
+    → RefusedFor (Some files) names before now s → HasEnded s
+late_end names files before now source (status.ReadFault input) h f n r = absurd (late_missing names files before now source input h n r.0)
+late_end names files before now source (status.TooLarge input seen max) h f n r = let e : accepted names files ≡ Err (too_large input) = r.1.1.1 files refl in absurd (ok_err (accepted names files) source (too_large input) h e)
+late_end names files before now source (status.Unbuilt State) h f n r = absurd (ok_err (accepted names files) source (unbuilt State) h (r files refl))
+late_end names files before now source (status.Unbuilt Prices) h f n r = absurd (ok_err (accepted names files) source (unbuilt Prices) h (r files refl))
+late_end names files before now source (status.Unbuilt Source) h f n r = absurd (f.unbuilt (ok_holds IsUnbuilt (accepted names files) source h (r files refl)))
+late_end names files before now source (status.Source e) h f n r =
+    let k = ok_holds (IsFaultOf e) (accepted names files) source h (r files refl) in
+    absurd (f.refused k.0 k.1.1)
+late_end names files before now source (status.Limit limit most) h f n r = absurd (ok_err (accepted names files) source bad_limit h (r.1.1 files refl))
+late_end names files before now source status.NoMemory h f n r = tt
+late_end names files before now source (status.Usage u) h f n r = absurd r
+late_end names files before now source status.WriteFault h f n r = absurd r
+late_end names files before now source status.Done h f n r = tt
+late_end names files before now source status.Exhausted h f n r = tt
+late_end names files before now source status.Faulted h f n r = tt
+
+-- the same of told files, whatever else failed
+pub early_end : (names : Names) (told : Option FileMap) (before now : ℕ) (s : Status) (P Q : Type 0) → RefusedFor told names before now s
+    → (files : FileMap) → told ≡ Some files → IfOk (accepted names files) (λ source. IsRunnable source → ¬ (Rose before now) → P → Q → HasEnded s)
+early_end names told before now s P Q r files e =
+    let q : RefusedFor (Some files) names before now s = subst (λ t. RefusedFor t names before now s) e r in
+    if_ok (λ source. IsRunnable source → ¬ (Rose before now) → P → Q → HasEnded s) (accepted names files) (λ source h u n p x. late_end names files before now source s h (runs_alone source u) n q)
+
+-- a result that holds of any source
+pub whole_end : (names : Names) (files : FileMap) (P : List ℕ → Type 0) → ((source : List ℕ) → P source) → IfOk (accepted names files) P
+whole_end names files P p = if_ok P (accepted names files) (λ source e. p source)
+
+-- a failed keep or put is none where neither count rose
+pub write_end : (P A B : Type 0) → A ⊎ B → ¬ A → ¬ B → P
+write_end P A B (inl a) n m = absurd (n a)
+write_end P A B (inr b) n m = absurd (m b)

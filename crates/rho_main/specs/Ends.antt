@@ -1,15 +1,16 @@
 -- How a deploy ends, and what it leaves.
 use Rattle.std.specs.Prelude.{◌≡◌, ◌≢◌, ◌⊎◌, ℕ, List, [], ◌∷◌, length, replicate, IsOkAnd, IfSome, Option, ⊤}
 use Rattle.sha2.specs.Sha256.{sha256}
-use Rattle.calculus.specs.Log.{Step, Header, log_text}
+use Rattle.calculus.specs.Log.{Header, log_text}
 use Rattle.rho_outside.specs.FileMap.{FileMap}
 use Rattle.rho_outside.specs.Put.{GrewBy, GrewByPart}
 use Rattle.rho_outside.specs.Told.{Told}
 use Rattle.rho_outside.specs.Kept.{with_files, PartSet}
 use Rattle.rho_main.specs.Words.{Names, names_in}
-use Rattle.rho_main.specs.Price.{price_digest, the_prices}
+use Rattle.replays.specs.Replays.{price_digest}
 use Rattle.rho_main.specs.Inputs.{accepted, empty_state}
-use Rattle.rho_main.specs.Report.{Report, report_line, status_of}
+use Rattle.rho_main.specs.Report.{report_line, status_of}
+use Rattle.rho_main.specs.Runs.{the_prices, Left, IsLeftBySource}
 use Rattle.rho_main.specs.declared.status.Status.{Status}
 use Rattle.rho_main.specs.declared.status.Status.TheVariants.{Done, Usage, ReadFault, WriteFault, Source, Limit, Unbuilt, Exhausted, Faulted, NoMemory, TooLarge}
 
@@ -50,11 +51,13 @@ OnVerdict Exhausted P = P
 OnVerdict Faulted P = P
 OnVerdict _ P = ⊤
 
--- what a run leaves: the steps of its log, the next state's bytes and a report
-pub record Left : Type 0 where
-  pub steps : List Step
-  pub next : List ℕ
-  pub report : Report
+-- the run ended with a verdict, or memory is wanted
+abbrev pub HasEnded : Status → Type 0
+HasEnded Done = ⊤
+HasEnded Exhausted = ⊤
+HasEnded Faulted = ⊤
+HasEnded NoMemory = ⊤
+HasEnded _ = ⊥
 
 -- what the log of a deploy under this limit of this source names: the empty state's root, the digests of the source and the prices, and the limit
 abbrev pub header_of : ℕ → List ℕ → Header
@@ -64,8 +67,9 @@ header_of limit source = record { base = replicate 32 0; source = sha256 source;
 abbrev pub entries_of : Names → List ℕ → Left → List (List ℕ × List ℕ)
 entries_of names source left = (names.log, log_text (header_of names.limit source) left.steps) ∷ (names.next, left.next) ∷ []
 
--- a status says the verdict of what was left, with another verdict than Done the next state is the old one, and the report counts the log's steps
-pub record IsLeftBy (status : Status) (left : Left) : Type 0 where
+-- what was left is what a run of this source leaves under this limit; a status says its verdict, with another verdict than Done the next state is the old one, and the report counts the log's steps
+pub record IsLeftBy (limit : ℕ) (source : List ℕ) (status : Status) (left : Left) : Type 0 where
+  pub run : IsLeftBySource limit source left
   pub verdict : status ≡ status_of left.report.verdict
   pub old : status ≢ Done → left.next ≡ empty_state
   pub steps : left.report.steps ≡ length left.steps
@@ -73,12 +77,12 @@ pub record IsLeftBy (status : Status) (left : Left) : Type 0 where
 -- the files and bytes are those that a deploy of this source leaves which ended with this status
 abbrev pub LeavesAll : Status → Names → Option FileMap → Option FileMap → Option (List ℕ) → Option (List ℕ) → List ℕ → Type 0
 LeavesAll status names old new before after source = (left : Left)
-    × (IsLeftBy status left × ((new ≡ with_files (entries_of names source left) old) × GrewBy (report_line left.report) before after))
+    × (IsLeftBy names.limit source status left × ((new ≡ with_files (entries_of names source left) old) × GrewBy (report_line left.report) before after))
 
 -- the files and bytes are those that a deploy of this source leaves which stopped on its way
 abbrev pub LeavesSome : Names → Option FileMap → Option FileMap → Option (List ℕ) → Option (List ℕ) → List ℕ → Type 0
 LeavesSome names old new before after source = (left : Left)
-    × (PartSet (entries_of names source left) old new × GrewByPart (report_line left.report) before after)
+    × (IsLeftBySource names.limit source left × (PartSet (entries_of names source left) old new × GrewByPart (report_line left.report) before after))
 
 -- where files are told, they are accepted, and what is left is all that a deploy leaves
 abbrev pub Leaves : Status → Names → Option FileMap → Option FileMap → Option (List ℕ) → Option (List ℕ) → Type 0

@@ -5,7 +5,7 @@ use Rattle.rho_outside.specs.FileMap.{FileMap}
 use Rattle.rho_main.specs.declared.status.Input.{Input}
 use Rattle.rho_main.specs.declared.status.Input.TheVariants.{State, Prices, Source}
 use Rattle.rho_main.specs.Words.{Names}
-use Rattle.rho_main.specs.Price.{the_prices}
+use Rattle.rho_main.specs.Runs.{the_prices}
 
 -- the greatest number of bytes of an input
 abbrev pub size_limit : Input → ℕ

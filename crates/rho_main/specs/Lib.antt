@@ -1,6 +1,6 @@
 pub mod Words
 pub mod Message
-pub mod Price
+pub mod Runs
 pub mod Inputs
 pub mod Runnable
 pub mod Refused
@@ -8,4 +8,3 @@ pub mod Report
 pub mod Ends
 pub mod Halts
 pub mod Plan
-pub mod Steps

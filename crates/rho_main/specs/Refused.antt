@@ -7,7 +7,7 @@ use Rattle.rho_outside.specs.FileMap.{FileMap, Lacks, GivesAtLeast}
 use Rattle.rho_outside.specs.Causes.{Rose}
 use Rattle.rho_outside.specs.Told.{Told}
 use Rattle.rho_main.specs.Words.{Names}
-use Rattle.rho_main.specs.Runnable.{IsRunnable, IsUnbuilt}
+use Rattle.rho_main.specs.Runnable.{IsUnbuilt}
 use Rattle.rho_main.specs.Inputs.{Refusal, missing, too_large, unbuilt, bad_limit, name_of, size_limit, most_limit, accepted_state, accepted_limit, accepted}
 use Rattle.rho_main.specs.declared.status.Input.{Input}
 use Rattle.rho_main.specs.declared.status.Input.TheVariants.{State, Prices, Source}

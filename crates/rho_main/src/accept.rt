@@ -1,5 +1,6 @@
 ghost use Rattle.std.specs.Prelude.{◌≡◌, ℕ, ◌≤◌, Ok, Err, IsOk, IfOk, IfErr, MatchResult, length, true};
 ghost use Rattle.sources.specs.Faults.{refusal_of};
+ghost use Rattle.calculus.specs.Form.{IsClosed};
 ghost use Rattle.unfold.specs.Linear.{is_linear};
 ghost use Rattle.rho_outside.specs.Causes.{Rose};
 ghost use Rattle.rho_outside.specs.FileMap.{Gives};
@@ -9,9 +10,10 @@ ghost use Rattle.rho_main.specs.Inputs.{Refusal, accepted_state, accepted_prices
 ghost use Rattle.rho_main.specs.Refused.{InputCause, RefusedFor, Says, SourceCause, SaysOf, IsFree, StatusOf};
 ghost use Rattle.sources.specs.Sources.{IsSourceOf};
 
-use crate::prices::{PRICE_TEXT, PRICES, most_limit};
+use crate::prices::PRICE_TEXT;
 use crate::status::{Input, Status};
 use crate::words::Command;
+use phlo_meter::{Prices, most_limit};
 use rho_lexer::LexFault;
 use rho_outside::{FetchFault, Shelf};
 use rho_parser::ParseFault;
@@ -121,7 +123,7 @@ fn accept_limit<S: Shelf>(alloc: Global, shelf: &mut S, command: &Command) -> Re
 {
     accept_prices(alloc, shelf, command)?;
     let limit = command.limit;
-    let most = most_limit(&PRICES);
+    let most = most_limit(&Prices::standard());
     if limit == 0 || limit > most {
         return Err(Status::Limit { limit, most });
     }
@@ -169,6 +171,7 @@ fn status_of_fault(fault: SourceFault) -> Status
 fn accept_term(alloc: Global, source: &[u8]) -> Result<Term, Status>
     ensures term { IfOk result (IsSourceOf source.now) }
     ensures linear { IfOk result (λ t. is_linear t ≡ true) }
+    ensures closed { IfOk result IsClosed }
     ensures cause { IfErr result (SourceCause source.now) }
     ensures exact { MatchResult result (λ _. IsFree source.now) (SaysOf source.now) }
 {
@@ -203,6 +206,7 @@ pub(crate) fn accept<S: Shelf>(
     ensures accepted { IfOk result (λ i. Told (S.files shelf.old) (λ files. accepted (names_of command.now) files ≡ Ok i.source.items)) }
     ensures term { IfOk result (λ i. IsSourceOf i.source.items i.term) }
     ensures linear { IfOk result (λ i. is_linear i.term ≡ true) }
+    ensures closed { IfOk result (λ i. IsClosed i.term) }
     ensures in_range { IfOk result (λ _. command.now.limit ≤ 10485760) }
     ensures refused { IfErr result (RefusedFor (S.files shelf.old) (names_of command.now) (S.fetch_faults shelf.old) (S.fetch_faults shelf.new)) }
     ensures exact { Told (S.files shelf.old) (λ files. (r : Refusal) → accepted (names_of command.now) files ≡ Err r

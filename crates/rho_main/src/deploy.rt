@@ -1,28 +1,32 @@
-ghost use Rattle.std.specs.Prelude.{◌≡◌, ◌≤◌, ◌⊎◌, ◌∷◌, [], None, Err, IsOkAnd, IfOk, OnOk, OnErr, IsErrOf, string_bytes};
+ghost use Rattle.std.specs.Prelude.{◌≡◌, ◌≤◌, ◌⊎◌, ◌∷◌, [], None, Err, true, IsOkAnd, IfOk, OnOk, OnErr, IsErrOf, string_bytes};
+ghost use Rattle.calculus.specs.Form.{IsClosed};
+ghost use Rattle.sources.specs.Sources.{IsSourceOf};
+ghost use Rattle.unfold.specs.Linear.{is_linear};
 ghost use Rattle.rho_outside.specs.Causes.{Rose};
 ghost use Rattle.rho_outside.specs.Put.{GrewBy, GrewByPart};
 ghost use Rattle.rho_outside.specs.Kept.{with_files, PartSet};
 ghost use Rattle.rho_outside.specs.Told.{Told};
 ghost use Rattle.rho_main.specs.Words.{names_of};
-ghost use Rattle.rho_main.specs.Inputs.{Refusal, accepted, empty_state};
+ghost use Rattle.rho_main.specs.Inputs.{Refusal, accepted};
 ghost use Rattle.rho_main.specs.Refused.{RefusedFor, Says, SaysOf};
 ghost use Rattle.rho_main.specs.Runnable.{IsRunnable};
 ghost use Rattle.rho_main.specs.Report.{status_of};
-ghost use Rattle.rho_main.specs.Ends.{OnUsage, OnRefusal, OnFileRefusal, OnHalt, OnVerdict, Leaves, LeavesInPart};
+ghost use Rattle.rho_main.specs.Ends.{OnUsage, OnRefusal, OnFileRefusal, OnHalt, OnVerdict, HasEnded, Leaves, LeavesInPart};
 ghost use Rattle.rho_main.specs.Plan.{IsPlan};
 
-use crate::accept::{EMPTY_STATE, Inputs, accept};
+use crate::accept::{Inputs, accept};
 use crate::finish::{Halt, keep_both, put_bytes};
-use crate::outcome::Verdict;
-use crate::plain::play;
-use crate::prices::PRICES;
 use crate::report::report;
 use crate::status::Status;
 use crate::words::Command;
 use calculus::Digest;
 use event_log::{Log, LogHeader, write_log};
+use linear_play::{Played, Verdict, play};
 use name_seed::bytes_digest;
+use phlo_meter::Prices;
 use rho_outside::{Shelf, Sink};
+use space_row::stored_rows;
+use state_writer::write_rows;
 use std::alloc::{AllocError, Global};
 
 /// The root of the empty state.
@@ -39,39 +43,36 @@ pub(crate) struct Plan {
 
 /// Runs the source from the empty state, and makes all bytes that are to be written.
 fn make_plan(alloc: Global, inputs: &Inputs, limit: u64) -> Result<Plan, AllocError>
-    requires { limit ≤ 10485760 }
+    requires limit { limit ≤ 10485760 }
+    requires source { IsSourceOf inputs.now.source.items inputs.now.term }
+    requires linear { is_linear inputs.now.term ≡ true }
+    requires closed { IsClosed inputs.now.term }
     ensures { IfOk result (IsPlan limit inputs.now.source.items) }
 {
     let source = bytes_digest(inputs.source.as_slice());
-    let outcome = play(alloc, &inputs.term, &EMPTY_ROOT, &source, &PRICES, limit)?;
-    let steps = outcome.steps.len() as u32;
-    let line = report(alloc, outcome.verdict, outcome.cost, &outcome.root, steps)?;
+    let prices = Prices::standard();
+    let Played {
+        verdict,
+        cost,
+        steps,
+        rows,
+    } = play(alloc, &inputs.term, &source, &prices, limit)?;
+    let (root, next) = write_rows(alloc, stored_rows(alloc, rows)?)?;
+    let count = steps.len() as u32;
+    let line = report(alloc, verdict, cost, &root, count)?;
     let header = LogHeader {
         base: EMPTY_ROOT,
         source,
-        prices: PRICES.digest(),
+        prices: prices.digest(),
         limit,
     };
-    let log = Log {
-        header,
-        steps: outcome.steps,
-    };
+    let log = write_log(alloc, &Log { header, steps })?;
     Ok(Plan {
-        log: write_log(alloc, &log)?,
-        next: next_state(alloc, outcome.next)?,
+        log,
+        next,
         line,
-        verdict: outcome.verdict,
+        verdict,
     })
-}
-
-/// The bytes of the next state, which is the old one where a run made none.
-fn next_state(alloc: Global, next: Option<Vec<u8>>) -> Result<Vec<u8>, AllocError>
-    ensures { IfOk result (λ bytes. next ≡ None → bytes.items ≡ empty_state) }
-{
-    match next {
-        Some(next) => Ok(next),
-        None => EMPTY_STATE.to_vec(alloc),
-    }
 }
 
 /// Keeps the log and then the next state, and then puts the report.
@@ -123,6 +124,9 @@ pub(crate) fn deploy<S: Shelf, O: Sink>(
     ensures write_fault { result ≡ Status.WriteFault → Rose (S.keep_faults shelf.old) (S.keep_faults shelf.new) ⊎ Rose (O.faults out.old) (O.faults out.new) }
     ensures write_fault_late { result ≡ Status.WriteFault → Told (S.files shelf.old) (λ files. IsOkAnd (accepted (names_of command.now) files) IsRunnable) }
     ensures runnable { OnVerdict result (Told (S.files shelf.old) (λ files. IsOkAnd (accepted (names_of command.now) files) IsRunnable)) }
+    ensures complete { Told (S.files shelf.old) (λ files. IfOk (accepted (names_of command.now) files) (λ source. IsRunnable source
+        → ¬ (Rose (S.fetch_faults shelf.old) (S.fetch_faults shelf.new)) → ¬ (Rose (S.keep_faults shelf.old) (S.keep_faults shelf.new))
+        → ¬ (Rose (O.faults out.old) (O.faults out.new)) → HasEnded result)) }
     ensures verdict { OnVerdict result (Leaves result (names_of command.now) (S.files shelf.old) (S.files shelf.new) (O.written out.old) (O.written out.new)) }
     ensures part { OnHalt result (LeavesInPart (names_of command.now) (S.files shelf.old) (S.files shelf.new) (O.written out.old) (O.written out.new)) }
 {

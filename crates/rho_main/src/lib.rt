@@ -4,17 +4,15 @@
 pub mod accept;
 pub mod deploy;
 pub mod finish;
-pub mod outcome;
-pub mod plain;
-pub mod prices;
+mod prices;
 pub mod report;
 pub mod status;
 pub mod top;
 mod wording;
 pub mod words;
 
-pub use outcome::Verdict;
-pub use prices::Prices;
+pub use linear_play::Verdict;
+pub use phlo_meter::Prices;
 pub use status::{Input, Status};
 pub use top::run;
 pub use words::{Command, Usage};

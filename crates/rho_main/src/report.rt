@@ -5,8 +5,8 @@ ghost use Rattle.serde_json.specs.View.{view};
 ghost use Rattle.calculus.specs.Faults.{fault_name};
 ghost use Rattle.rho_main.specs.Report.{Report, plain_members, faulted_members, report_members, report_line, step_data};
 
-use crate::outcome::Verdict;
 use calculus::{Digest, FaultKind};
+use linear_play::Verdict;
 use serde_json::{Value, json};
 use std::alloc::{AllocError, Global};
 

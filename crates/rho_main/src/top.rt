@@ -5,7 +5,7 @@ ghost use Rattle.rho_main.specs.Words.{names_in};
 ghost use Rattle.rho_main.specs.Inputs.{Refusal, accepted};
 ghost use Rattle.rho_main.specs.Refused.{RefusedFor, Says, SaysOf};
 ghost use Rattle.rho_main.specs.Runnable.{IsRunnable};
-ghost use Rattle.rho_main.specs.Ends.{Named, OnUsage, OnRefusal, OnFileRefusal, OnHalt, OnVerdict, Leaves, LeavesInPart};
+ghost use Rattle.rho_main.specs.Ends.{Named, OnUsage, OnRefusal, OnFileRefusal, OnHalt, OnVerdict, HasEnded, Leaves, LeavesInPart};
 
 use crate::deploy::deploy;
 use crate::status::Status;
@@ -47,6 +47,9 @@ pub fn run<R: Threads + Wait + Sync, S: Shelf, O: Sink, G: Gate + Sync>(
         (λ names. Told (S.files shelf.old) (λ files. IsOkAnd (accepted names files) IsRunnable)) }
     ensures runnable { Named (map string_bytes words.now) (λ names. OnVerdict result
         (Told (S.files shelf.old) (λ files. IsOkAnd (accepted names files) IsRunnable))) }
+    ensures complete { Named (map string_bytes words.now) (λ names. Told (S.files shelf.old) (λ files. IfOk (accepted names files) (λ source. IsRunnable source
+        → ¬ (Rose (S.fetch_faults shelf.old) (S.fetch_faults shelf.new)) → ¬ (Rose (S.keep_faults shelf.old) (S.keep_faults shelf.new))
+        → ¬ (Rose (O.faults out.old) (O.faults out.new)) → HasEnded result))) }
     ensures verdict { Named (map string_bytes words.now) (λ names. OnVerdict result
         (Leaves result names (S.files shelf.old) (S.files shelf.new) (O.written out.old) (O.written out.new))) }
     ensures part { Named (map string_bytes words.now) (λ names. OnHalt result

@@ -1,10 +1,14 @@
-use Rattle.std.proofs.Common.{inr}
+use Rattle.std.proofs.Common.{inr, ◌⊎◌, rules}
+use Rattle.std.specs.Result.{IsOkAnd}
+use Rattle.rho_outside.specs.Told.{Told}
+use Rattle.rho_main.specs.Runnable.{IsRunnable}
 use Rattle.rho_main.specs.Words.{names_of}
 use Rattle.rho_main.specs.Inputs.{accepted}
-use Rattle.rho_main.specs.Ends.{Leaves, LeavesAll, LeavesSome}
+use Rattle.rho_outside.specs.Causes.{Rose}
+use Rattle.rho_main.specs.Ends.{HasEnded, Leaves, LeavesAll, LeavesSome}
 use Rattle.rho_main.specs.declared.status.Status.TheVariants.{WriteFault}
 use Rattle.rho_main.proofs.Leaving.{on_verdict, ok_and, leaves_all, leaves_some}
-use Rattle.rho_main.proofs.Sourcing.{run_free, late_free}
+use Rattle.rho_main.proofs.Sourcing.{run_free, late_free, early_end, whole_end, write_end}
 use Rattle.rho_main.proofs.deploy.deploy.Goals as goal
 
 pub returns-in-Ok-write_plan-clause-verdict : goal.returns-in-Ok-write_plan-clause-verdict
@@ -42,6 +46,14 @@ returns-clause-part g c =
     λ files h. inr (ok_and (LeavesSome names old new before after) (accepted names files) c.in-Ok.inputs.source.items (c.in-Ok.ensures.accepted files h)
     (leaves_some names _ c.in-Ok-make_plan.plan old (g.S.Shelf.files c.accept.new.shelf) new before after c.in-Ok-make_plan.ensures c.in-Ok.ensures.files w.part w.put_part))
 
+pub returns-in-Ok-write_plan-clause-runnable : goal.returns-in-Ok-write_plan-clause-runnable
+returns-in-Ok-write_plan-clause-runnable g c =
+    let names = names_of c.args.command.now in
+    let s = c.status_of.result in
+    let i = c.in-Ok.inputs in
+    let old = g.S.Shelf.files c.args.shelf.now in
+    on_verdict s (Told old (λ files. IsOkAnd (accepted names files) IsRunnable)) (λ files h. ok_and IsRunnable (accepted names files) i.source.items (c.in-Ok.ensures.accepted files h) (i.term, (c.in-Ok.ensures.term, c.in-Ok.ensures.linear)))
+
 pub returns-in-Ok-write_plan-clause-source_exact : goal.returns-in-Ok-write_plan-clause-source_exact
 returns-in-Ok-write_plan-clause-source_exact g c =
     let i = c.in-Ok.inputs in
@@ -51,3 +63,11 @@ pub returns-in-Err-WriteFault-clause-source_exact : goal.returns-in-Err-WriteFau
 returns-in-Err-WriteFault-clause-source_exact g c =
     let i = c.in-Ok.inputs in
     λ files h. late_free (names_of c.args.command.now) files _ _ i.source.items WriteFault (c.in-Ok.ensures.accepted files h) (run_free i.source.items i.term c.in-Ok.ensures.term c.in-Ok.ensures.linear)
+
+pub returns-in-Err-clause-complete : goal.returns-in-Err-clause-complete
+returns-in-Err-clause-complete g c = λ files h. early_end (names_of c.args.command.now) (g.S.Shelf.files c.args.shelf.now) _ _ c.in-Err.status _ _ c.in-Err.ensures.refused files h
+
+pub returns-in-Err-WriteFault-clause-complete : goal.returns-in-Err-WriteFault-clause-complete
+returns-in-Err-WriteFault-clause-complete g c =
+    let w : Rose (g.S.Shelf.keep_faults c.args.shelf.now) (g.S.Shelf.keep_faults c.write_plan.new.shelf) ⊎ Rose (g.O.Sink.faults c.args.out.now) (g.O.Sink.faults c.write_plan.new.out) = search rules in
+    λ files h. whole_end (names_of c.args.command.now) files _ (λ source u n k o. write_end (HasEnded WriteFault) _ _ w k o)

@@ -1,0 +1,5 @@
+pub mod Meetings
+pub mod Steps
+pub mod Beginnings
+pub mod Endings
+pub mod Counting

@@ -1,0 +1,13 @@
+pub mod Beginning
+pub mod Accounts
+pub mod Pairs
+pub mod Printing
+pub mod Stepping
+pub mod AtHand
+pub mod Allowed
+pub mod Stopping
+pub mod Ending
+pub mod Answering
+pub mod Rows
+pub mod Calm
+pub mod Silence

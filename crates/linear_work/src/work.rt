@@ -1,0 +1,94 @@
+// What the unfoldings of a run came to.
+
+ghost use Rattle.std.specs.Prelude.{◌≡◌, ◌<◌, ◌-◌, ◌^◌, [], None, true, All, IfOk, MatchResult};
+ghost use Rattle.calculus.specs.Form.{IsClosed};
+ghost use Rattle.calculus.specs.Substitution.{put};
+ghost use Rattle.calculus.specs.Unfolding.{Unfolds};
+ghost use Rattle.unfold.specs.Linear.{is_linear};
+ghost use Rattle.unfold.specs.Offers.{UnfoldsUnder};
+ghost use Rattle.linear_work.specs.Works.{HasStopped, IsWork};
+
+use calculus::FaultKind;
+use name_seed::Seed;
+use phlo_meter::Prices;
+use rho_term::{Op, Term};
+use std::alloc::{AllocError, Global};
+use unfold::{EvalStop, Priced, unfold, unfold_body};
+
+/// What an unfolding came to.
+#[derive(Drop)]
+pub struct Worked {
+    /// The price, which is one more than the cap where it passed the cap.
+    pub price: u64,
+    /// What is offered: nothing where there is a fault or the price passed the cap.
+    pub offers: Vec<Op>,
+    /// The first fault, where the price did not pass the cap before it.
+    pub fault: Option<FaultKind>,
+}
+
+/// An unfolding's result or why it stopped, as the same of both. Want of memory is the one error.
+fn settle(
+    alloc: Global,
+    unfolded: Result<Priced<Vec<Op>>, EvalStop>,
+    cap: u64,
+) -> Result<Worked, AllocError>
+    requires cap { cap < 2 ^ 64 - 1 }
+    ensures { MatchResult unfolded (λ p. IfOk result (λ w. (w.price ≡ p.price) × (w.offers.items ≡ p.value.items) × (w.fault ≡ None))) (λ stop. IfOk result (HasStopped cap stop)) }
+{
+    match unfolded {
+        Ok(priced) => Ok(Worked {
+            price: priced.price,
+            offers: priced.value,
+            fault: None,
+        }),
+        Err(EvalStop::Fault { kind, price }) => Ok(Worked {
+            price,
+            offers: Vec::new(alloc),
+            fault: Some(kind),
+        }),
+        Err(EvalStop::Over) => Ok(Worked {
+            price: cap + 1,
+            offers: Vec::new(alloc),
+            fault: None,
+        }),
+        Err(EvalStop::NoMemory) => Err(AllocError),
+    }
+}
+
+/// What a source comes to. Want of memory is the one error.
+pub fn work_source(
+    alloc: Global,
+    term: &Term,
+    seed: &Seed,
+    prices: &Prices,
+    cap: u64,
+) -> Result<Worked, AllocError>
+    requires cap { cap < 2 ^ 64 - 1 }
+    requires linear { is_linear term.now ≡ true }
+    requires closed { IsClosed term.now }
+    ensures { IfOk result (IsWork (Unfolds prices.now cap term.now seed.now) cap) }
+{
+    settle(alloc, unfold(alloc, term, seed, prices, cap), cap)
+}
+
+/// What a body comes to under these values. Want of memory is the one error.
+pub fn work_body(
+    alloc: Global,
+    body: &Term,
+    values: &[Term],
+    seed: &Seed,
+    prices: &Prices,
+    cap: u64,
+) -> Result<Worked, AllocError>
+    requires cap { cap < 2 ^ 64 - 1 }
+    requires linear { is_linear body.now ≡ true }
+    requires values { All (λ v. is_linear v ≡ true) values.now }
+    requires closed { IsClosed (put values.now body.now) }
+    ensures { IfOk result (IsWork (UnfoldsUnder prices.now cap values.now body.now seed.now) cap) }
+{
+    settle(
+        alloc,
+        unfold_body(alloc, body, values, seed, prices, cap),
+        cap,
+    )
+}

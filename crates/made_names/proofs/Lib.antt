@@ -1,0 +1,13 @@
+pub mod Clear
+pub mod Putting
+pub mod Values
+pub mod Unfolding
+pub mod Matching
+pub mod Meeting
+pub mod Runs
+pub mod Calm
+pub mod Nameless
+pub mod Bare
+pub mod Rules
+pub mod Productions
+pub mod Sources

@@ -1,0 +1,2 @@
+pub mod OneTerm
+pub mod ExamplesNormal
