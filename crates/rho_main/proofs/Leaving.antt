@@ -11,7 +11,7 @@ use Rattle.rho_main.specs.Ends.{OnVerdict, LeavesAll, LeavesSome, header_of}
 use Rattle.rho_main.specs.Plan.{IsPlan}
 use Rattle.rho_main.specs.declared.deploy.Plan.{Plan}
 use Rattle.rho_main.specs.declared.status.Status.{Status}
-use Rattle.rho_main.specs.declared.status.Status.TheVariants.{Done, Usage, ReadFault, WriteFault, Source, Limit, Unbuilt, Exhausted, Faulted, NoMemory, TooLarge}
+use Rattle.rho_main.specs.declared.status.Status.TheVariants.{Done, Usage, ReadFault, WriteFault, Source, Log, Replay, Limit, Unbuilt, Exhausted, Faulted, NoMemory, TooLarge}
 
 -- what holds anyhow holds where a run ended with a verdict
 pub on_verdict : (s : Status) (P : Type 0) → P → OnVerdict s P
@@ -22,6 +22,8 @@ on_verdict (Usage u) P p = tt
 on_verdict (ReadFault i) P p = tt
 on_verdict WriteFault P p = tt
 on_verdict (Source f) P p = tt
+on_verdict (Log f) P p = tt
+on_verdict (Replay f) P p = tt
 on_verdict (Limit n m) P p = tt
 on_verdict (Unbuilt i) P p = tt
 on_verdict NoMemory P p = tt

@@ -3,3 +3,7 @@ pub mod Leaving
 pub mod Sourcing
 pub mod Running
 pub mod ReadingNumbers
+pub mod ReadingReplays
+pub mod Verbs
+pub mod Listing
+pub mod Replays

@@ -49,7 +49,7 @@ left_by_run limit source t steps v charge rows digest text count r n d x =
     }
 
 -- no fresh name stands in the process of a source
-nameless : (source : List ℕ) (t : Tree) → IsSourceOf source t → names_in t ≡ []
+pub nameless : (source : List ℕ) (t : Tree) → IsSourceOf source t → names_in t ≡ []
 nameless source t s = ap names_in s.normal ∙ sources_have_no_names _ _ s.process _ s.accepted.spelt.spells
 
 -- where the digests that are made are fresh, what was played of the process of a source is what its run leaves

@@ -14,9 +14,9 @@ use Rattle.rho_main.specs.Words.{Names}
 use Rattle.rho_main.specs.Inputs.{Refusal, missing, too_large, unbuilt, bad_limit, name_of, size_limit, within, given, ◌>>=◌, only, empty_state, price_text, in_range, accepted_state, accepted_prices, accepted_limit, accepted}
 use Rattle.rho_main.specs.Runnable.{IsRunnable, IsUnbuilt}
 use Rattle.rho_main.specs.Ends.{HasEnded}
-use Rattle.rho_main.specs.Refused.{IsFaultOf, SourceCause, StatusOf, SaysOf, IsFree, RefusedFor}
+use Rattle.rho_main.specs.Refused.{IsFaultOf, Reaches, SourceCause, StatusOf, SaysOf, IsFree, RefusedFor}
 use Rattle.rho_main.specs.declared.status.Input.{Input}
-use Rattle.rho_main.specs.declared.status.Input.TheVariants.{State, Prices, Source}
+use Rattle.rho_main.specs.declared.status.Input.TheVariants.{State, Prices, Source, Log}
 use Rattle.rho_main.specs.declared.status.Status.{Status}
 use Rattle.rho_main.specs.declared.status.Status.TheVariants as status
 
@@ -62,18 +62,19 @@ given_there names files input bytes h e =
     let g : given names files input ≡ Err (missing input) = ap (within input (size_limit input)) e in
     let no : Err (missing input) ≡ Ok bytes = sym g ∙ h in cc
 
--- where files are accepted each of them is there
-there : (names : Names) (files : FileMap) (input : Input) (source : List ℕ) → accepted names files ≡ Ok source → files (name_of names input) ≡ None → ⊥
-there names files Source source h e =
+-- where files are accepted each that a deploy reads is there
+there : (names : Names) (files : FileMap) (input : Input) (source : List ℕ) → Reaches (Some files) names input → accepted names files ≡ Ok source → files (name_of names input) ≡ None → ⊥
+there names files Source source reached h e =
     let a = bind_ok (accepted_limit names files) (λ limit. given names files Source) source h in
     given_there names files Source source a.1.1 e
-there names files Prices source h e =
+there names files Prices source reached h e =
     let a = bind_ok (accepted_limit names files) (λ limit. given names files Source) source h in
     let b = bind_ok (accepted_prices names files) (λ prices. in_range names.limit) a.0 a.1.0 in
     let c = bind_ok (accepted_state names files) (λ state. given names files Prices >>= only Prices price_text) b.0 b.1.0 in
     let d = bind_ok (given names files Prices) (only Prices price_text) b.0 c.1.1 in
     given_there names files Prices d.0 d.1.0 e
-there names files State source h e =
+there names files Log source reached h e = absurd reached
+there names files State source reached h e =
     let a = bind_ok (accepted_limit names files) (λ limit. given names files Source) source h in
     let b = bind_ok (accepted_prices names files) (λ prices. in_range names.limit) a.0 a.1.0 in
     let c = bind_ok (accepted_state names files) (λ state. given names files Prices >>= only Prices price_text) b.0 b.1.0 in
@@ -87,18 +88,19 @@ ok_err r x e h k = cc
 ok_holds : {A : Type 0} (P : A → Type 0) (r : Result A Refusal) (x : A) → r ≡ Ok x → IsOkAnd r P → P x
 ok_holds P r x h k = let Q = λ (s : Result _ Refusal). IsOkAnd s P in subst Q h k
 
-late_missing : (names : Names) (files : FileMap) (before now : ℕ) (source : List ℕ) (input : Input) → accepted names files ≡ Ok source → ¬ (Rose before now)
+late_missing : (names : Names) (files : FileMap) (before now : ℕ) (source : List ℕ) (input : Input) → Reaches (Some files) names input → accepted names files ≡ Ok source → ¬ (Rose before now)
     → Rose before now ⊎ Lacks (Some files) (name_of names input) → ⊥
-late_missing names files before now source input h n (inl r) = n r
-late_missing names files before now source input h n (inr l) = there names files input source h l
+late_missing names files before now source input reached h n (inl r) = n r
+late_missing names files before now source input reached h n (inr l) = there names files input source reached h l
 
 -- where files are accepted and no fetch failed, a refusal of a deploy is one of the source
 pub late_says : (names : Names) (files : FileMap) (before now : ℕ) (source : List ℕ) (s : Status) → accepted names files ≡ Ok source → ¬ (Rose before now)
     → RefusedFor (Some files) names before now s → SaysOf source s
-late_says names files before now source (status.ReadFault input) h n r = absurd (late_missing names files before now source input h n r.0)
+late_says names files before now source (status.ReadFault input) h n r = absurd (late_missing names files before now source input r.1 h n r.0)
 late_says names files before now source (status.TooLarge input seen max) h n r = let e : accepted names files ≡ Err (too_large input) = r.1.1.1 files refl in absurd (ok_err (accepted names files) source (too_large input) h e)
 late_says names files before now source (status.Unbuilt State) h n r = absurd (ok_err (accepted names files) source (unbuilt State) h (r files refl))
 late_says names files before now source (status.Unbuilt Prices) h n r = absurd (ok_err (accepted names files) source (unbuilt Prices) h (r files refl))
+late_says names files before now source (status.Unbuilt Log) h n r = absurd (ok_err (accepted names files) source (unbuilt Log) h (r files refl))
 late_says names files before now source (status.Unbuilt Source) h n r = unbuilt_says source (ok_holds IsUnbuilt (accepted names files) source h (r files refl))
 late_says names files before now source (status.Source f) h n r =
     let k = ok_holds (IsFaultOf f) (accepted names files) source h (r files refl) in
@@ -106,6 +108,8 @@ late_says names files before now source (status.Source f) h n r =
 late_says names files before now source (status.Limit limit most) h n r = absurd (ok_err (accepted names files) source bad_limit h (r.1.1 files refl))
 late_says names files before now source status.NoMemory h n r = memory_says source
 late_says names files before now source (status.Usage u) h n r = absurd r
+late_says names files before now source (status.Log f) h n r = absurd r
+late_says names files before now source (status.Replay f) h n r = absurd r
 late_says names files before now source status.WriteFault h n r = absurd r
 late_says names files before now source status.Done h n r = absurd r
 late_says names files before now source status.Exhausted h n r = absurd r
@@ -137,10 +141,11 @@ runs_alone source r = run_free source r.0 r.1.0 r.1.1
 -- where files are accepted, the source is runnable and no fetch failed, a deploy refuses nothing but want of memory
 late_end : (names : Names) (files : FileMap) (before now : ℕ) (source : List ℕ) (s : Status) → accepted names files ≡ Ok source → IsFree source → ¬ (Rose before now)
     → RefusedFor (Some files) names before now s → HasEnded s
-late_end names files before now source (status.ReadFault input) h f n r = absurd (late_missing names files before now source input h n r.0)
+late_end names files before now source (status.ReadFault input) h f n r = absurd (late_missing names files before now source input r.1 h n r.0)
 late_end names files before now source (status.TooLarge input seen max) h f n r = let e : accepted names files ≡ Err (too_large input) = r.1.1.1 files refl in absurd (ok_err (accepted names files) source (too_large input) h e)
 late_end names files before now source (status.Unbuilt State) h f n r = absurd (ok_err (accepted names files) source (unbuilt State) h (r files refl))
 late_end names files before now source (status.Unbuilt Prices) h f n r = absurd (ok_err (accepted names files) source (unbuilt Prices) h (r files refl))
+late_end names files before now source (status.Unbuilt Log) h f n r = absurd (ok_err (accepted names files) source (unbuilt Log) h (r files refl))
 late_end names files before now source (status.Unbuilt Source) h f n r = absurd (f.unbuilt (ok_holds IsUnbuilt (accepted names files) source h (r files refl)))
 late_end names files before now source (status.Source e) h f n r =
     let k = ok_holds (IsFaultOf e) (accepted names files) source h (r files refl) in
@@ -148,6 +153,8 @@ late_end names files before now source (status.Source e) h f n r =
 late_end names files before now source (status.Limit limit most) h f n r = absurd (ok_err (accepted names files) source bad_limit h (r.1.1 files refl))
 late_end names files before now source status.NoMemory h f n r = tt
 late_end names files before now source (status.Usage u) h f n r = absurd r
+late_end names files before now source (status.Log e) h f n r = absurd r
+late_end names files before now source (status.Replay e) h f n r = absurd r
 late_end names files before now source status.WriteFault h f n r = absurd r
 late_end names files before now source status.Done h f n r = tt
 late_end names files before now source status.Exhausted h f n r = tt

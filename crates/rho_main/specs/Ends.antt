@@ -12,7 +12,7 @@ use Rattle.rho_main.specs.Inputs.{accepted, empty_state}
 use Rattle.rho_main.specs.Report.{report_line, status_of}
 use Rattle.rho_main.specs.Runs.{the_prices, Left, IsLeftBySource}
 use Rattle.rho_main.specs.declared.status.Status.{Status}
-use Rattle.rho_main.specs.declared.status.Status.TheVariants.{Done, Usage, ReadFault, WriteFault, Source, Limit, Unbuilt, Exhausted, Faulted, NoMemory, TooLarge}
+use Rattle.rho_main.specs.declared.status.Status.TheVariants.{Done, Usage, ReadFault, WriteFault, Source, Log, Replay, Limit, Unbuilt, Exhausted, Faulted, NoMemory, TooLarge}
 
 -- where the words are those of a deploy, this holds of what they give
 abbrev pub Named : List (List ℕ) → (Names → Type 0) → Type 0
@@ -23,17 +23,19 @@ abbrev pub OnUsage : Status → Type 0 → Type 0
 OnUsage (Usage u) P = P
 OnUsage _ P = ⊤
 
--- the words, a file, the limit or the source was refused
+-- the words, a file, the limit, the source or the log was refused
 abbrev pub OnRefusal : Status → Type 0 → Type 0
 OnRefusal (Usage u) P = P
 OnRefusal (ReadFault i) P = P
 OnRefusal (Source f) P = P
+OnRefusal (Log f) P = P
+OnRefusal (Replay f) P = P
 OnRefusal (Limit n m) P = P
 OnRefusal (Unbuilt i) P = P
 OnRefusal (TooLarge i n m) P = P
 OnRefusal _ P = ⊤
 
--- a file, the limit or the source was refused
+-- a file, the limit, the source or the log was refused
 abbrev pub OnFileRefusal : Status → Type 0 → Type 0
 OnFileRefusal (Usage u) P = ⊤
 OnFileRefusal status P = OnRefusal status P

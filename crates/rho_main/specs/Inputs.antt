@@ -3,7 +3,7 @@ use Rattle.std.specs.Prelude.{ℕ, ◌*◌, nat_le, ◌&&◌, if◌then◌else�
 use Rattle.std.specs.Str.{bytes_eq}
 use Rattle.rho_outside.specs.FileMap.{FileMap}
 use Rattle.rho_main.specs.declared.status.Input.{Input}
-use Rattle.rho_main.specs.declared.status.Input.TheVariants.{State, Prices, Source}
+use Rattle.rho_main.specs.declared.status.Input.TheVariants.{State, Prices, Source, Log}
 use Rattle.rho_main.specs.Words.{Names}
 use Rattle.rho_main.specs.Runs.{the_prices}
 
@@ -12,12 +12,14 @@ abbrev pub size_limit : Input → ℕ
 size_limit State = 268435456
 size_limit Prices = 65536
 size_limit Source = 1048576
+size_limit Log = 1073741824
 
 -- the name of an input's file
 abbrev pub name_of : Names → Input → List ℕ
 name_of names State = names.state
 name_of names Prices = names.prices
 name_of names Source = names.source
+name_of names Log = names.log
 
 -- why files are refused: one is missing, is too large or has a form that is not built yet, or the limit is out of range
 pub data Refusal : Type 0 where

@@ -8,3 +8,6 @@ pub mod Report
 pub mod Ends
 pub mod Halts
 pub mod Plan
+pub mod Replaying
+pub mod Given
+pub mod ReplayPlans

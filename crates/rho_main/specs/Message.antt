@@ -1,5 +1,12 @@
 -- The exit status and the message of a status.
 use Rattle.std.specs.Prelude.{ℕ, List, [], ◌++◌, codes, decimal, string_bytes}
+use Rattle.std.specs.List.{join_by}
+use Rattle.hex.specs.Hex.{encode_lower}
+use Rattle.calculus.specs.declared.ids.Digest.{Digest}
+use Rattle.event_log.specs.declared.fault.LogFault.{LogFault}
+use Rattle.event_log.specs.declared.fault.LogFault.TheVariants as logged
+use Rattle.log_replay.specs.declared.fault.ReplayFault.{ReplayFault}
+use Rattle.log_replay.specs.declared.fault.ReplayFault.TheVariants as replayed
 use Rattle.rho_lexer.specs.declared.token.LexFault.{LexFault}
 use Rattle.rho_lexer.specs.declared.token.LexFault.TheVariants as lexical
 use Rattle.rho_parser.specs.declared.parse_fault.ParseFault.{ParseFault}
@@ -23,6 +30,8 @@ code_of (status.ReadFault i) = 3
 code_of status.WriteFault = 4
 code_of (status.Source f) = 6
 code_of (status.Limit n m) = 7
+code_of (status.Log f) = 8
+code_of (status.Replay f) = 9
 code_of status.Exhausted = 10
 code_of status.Faulted = 11
 code_of status.NoMemory = 12
@@ -34,6 +43,7 @@ abbrev pub input_name : Input → List ℕ
 input_name input.State = codes "state"
 input_name input.Prices = codes "prices"
 input_name input.Source = codes "source"
+input_name input.Log = codes "log"
 
 -- how a refusal of the words is named in messages
 abbrev pub usage_name : Usage → List ℕ
@@ -72,6 +82,32 @@ source_text (source.Lex fault) = lex_text fault
 source_text (source.Parse fault) = parse_text fault
 source_text (source.Scope fault) = scope_text fault
 
+-- the same of what the bytes of a log are refused for
+abbrev pub log_text : LogFault → List ℕ
+log_text (logged.Short at) = codes "Short at=" ++ decimal at
+log_text (logged.Bad at) = codes "Bad at=" ++ decimal at
+log_text (logged.Version found) = codes "Version found=" ++ decimal found
+log_text (logged.TooLong entries) = codes "TooLong entries=" ++ decimal entries
+log_text logged.NoMemory = codes "NoMemory"
+
+-- a digest in lower-case hexadecimal
+abbrev pub digest_text : Digest → List ℕ
+digest_text d = encode_lower d.0
+
+-- digests in lower-case hexadecimal, with a comma between each two
+abbrev pub digests_text : List Digest → List ℕ
+digests_text ds = join_by digest_text (codes ",") ds
+
+-- the same of what a log is refused for as that of a run
+abbrev pub replay_text : ReplayFault → List ℕ
+replay_text (replayed.WrongBase log state) = codes "WrongBase log=" ++ (digest_text log ++ (codes " state=" ++ digest_text state))
+replay_text (replayed.WrongSource log given) = codes "WrongSource log=" ++ (digest_text log ++ (codes " given=" ++ digest_text given))
+replay_text (replayed.WrongPrices log given) = codes "WrongPrices log=" ++ (digest_text log ++ (codes " given=" ++ digest_text given))
+replay_text (replayed.WrongLimit log most) = codes "WrongLimit log=" ++ (decimal log ++ (codes " most=" ++ decimal most))
+replay_text (replayed.NoRun step) = codes "NoRun step=" ++ decimal step
+replay_text (replayed.Reducible cont taken) = codes "Reducible cont=" ++ (digest_text cont ++ (codes " taken=" ++ digests_text taken.items))
+replay_text replayed.NoMemory = codes "NoMemory"
+
 -- the line that is written for a status, without its end: the group, the name and each field
 abbrev pub message_of : Status → List ℕ
 message_of status.Done = []
@@ -79,6 +115,8 @@ message_of (status.Usage u) = codes "rho: usage: " ++ usage_name u
 message_of (status.ReadFault i) = codes "rho: read: ReadFault input=" ++ input_name i
 message_of status.WriteFault = codes "rho: write: WriteFault"
 message_of (status.Source f) = codes "rho: source: " ++ source_text f
+message_of (status.Log f) = codes "rho: log: " ++ log_text f
+message_of (status.Replay f) = codes "rho: replay: " ++ replay_text f
 message_of (status.Limit n m) = codes "rho: prices: Limit limit=" ++ (decimal n ++ (codes " most=" ++ decimal m))
 message_of (status.Unbuilt i) = codes "rho: unbuilt: Unbuilt input=" ++ input_name i
 message_of status.Exhausted = []

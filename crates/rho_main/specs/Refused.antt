@@ -10,15 +10,16 @@ use Rattle.rho_main.specs.Words.{Names}
 use Rattle.rho_main.specs.Runnable.{IsUnbuilt}
 use Rattle.rho_main.specs.Inputs.{Refusal, missing, too_large, unbuilt, bad_limit, name_of, size_limit, most_limit, accepted_state, accepted_limit, accepted}
 use Rattle.rho_main.specs.declared.status.Input.{Input}
-use Rattle.rho_main.specs.declared.status.Input.TheVariants.{State, Prices, Source}
+use Rattle.rho_main.specs.declared.status.Input.TheVariants.{State, Prices, Source, Log}
 use Rattle.rho_main.specs.declared.status.Status.{Status}
 use Rattle.rho_main.specs.declared.status.Status.TheVariants as status
 
--- each told input before this one was accepted
+-- each told input before this one was accepted; a deploy reads no log
 abbrev pub Reaches : Option FileMap → Names → Input → Type 0
 Reaches told names State = ⊤
 Reaches told names Prices = Told told (λ files. IsOk (accepted_state names files))
 Reaches told names Source = Told told (λ files. IsOk (accepted_limit names files))
+Reaches told names Log = ⊥
 
 -- why one input gave no bytes, from the counts of failed fetches before and after
 abbrev pub InputCause : Option FileMap → List ℕ → ℕ → Input → ℕ → ℕ → Status → Type 0

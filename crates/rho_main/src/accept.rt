@@ -1,4 +1,6 @@
-ghost use Rattle.std.specs.Prelude.{◌≡◌, ℕ, ◌≤◌, Ok, Err, IsOk, IfOk, IfErr, MatchResult, length, true};
+ghost use Rattle.std.specs.Prelude.{◌≡◌, ℕ, ◌≤◌, Ok, Err, IsOk, IsOkAnd, IfOk, IfErr, MatchResult, length, map, true};
+ghost use Rattle.event_log.specs.Reading.{log_of};
+ghost use Rattle.event_log.specs.View.{header_of, step_of};
 ghost use Rattle.sources.specs.Faults.{refusal_of};
 ghost use Rattle.calculus.specs.Form.{IsClosed};
 ghost use Rattle.unfold.specs.Linear.{is_linear};
@@ -8,11 +10,14 @@ ghost use Rattle.rho_outside.specs.Told.{Told};
 ghost use Rattle.rho_main.specs.Words.{names_of};
 ghost use Rattle.rho_main.specs.Inputs.{Refusal, accepted_state, accepted_prices, accepted_limit, accepted};
 ghost use Rattle.rho_main.specs.Refused.{InputCause, RefusedFor, Says, SourceCause, SaysOf, IsFree, StatusOf};
+ghost use Rattle.rho_main.specs.Given.{IsGiven, LogCause};
+ghost use Rattle.rho_main.specs.Replaying.{accepted_log, accepted_source, IsNoLimit, ReplayRefusedFor};
 ghost use Rattle.sources.specs.Sources.{IsSourceOf};
 
 use crate::prices::PRICE_TEXT;
 use crate::status::{Input, Status};
 use crate::words::Command;
+use event_log::{Log, LogFault, read_log};
 use phlo_meter::{Prices, most_limit};
 use rho_lexer::LexFault;
 use rho_outside::{FetchFault, Shelf};
@@ -29,6 +34,9 @@ const STATE_MAX: u64 = 268_435_456;
 const PRICES_MAX: u64 = 65_536;
 
 const SOURCE_MAX: u64 = 1_048_576;
+
+/// The greatest number of bytes of a log.
+const LOG_MAX: u64 = 1_073_741_824;
 
 /// The empty state: its name, the version, a root of zeros and no rows.
 pub(crate) const EMPTY_STATE: &[u8] =
@@ -64,6 +72,7 @@ fn accept_state<S: Shelf>(alloc: Global, shelf: &mut S, command: &Command) -> Re
     ensures fetch_faults { S.fetch_faults shelf.old ≤ S.fetch_faults shelf.new }
     ensures accepted { IfOk result (λ _. Told (S.files shelf.old) (λ files. IsOk (accepted_state (names_of command.now) files))) }
     ensures refused { IfErr result (RefusedFor (S.files shelf.old) (names_of command.now) (S.fetch_faults shelf.old) (S.fetch_faults shelf.new)) }
+    ensures no_limit { IfErr result IsNoLimit }
     ensures exact { Told (S.files shelf.old) (λ files. (r : Refusal) → accepted_state (names_of command.now) files ≡ Err r
         → ¬ (Rose (S.fetch_faults shelf.old) (S.fetch_faults shelf.new)) → MatchResult result (λ _. ⊥) (Says r)) }
 {
@@ -90,6 +99,7 @@ fn accept_prices<S: Shelf>(alloc: Global, shelf: &mut S, command: &Command) -> R
     ensures fetch_faults { S.fetch_faults shelf.old ≤ S.fetch_faults shelf.new }
     ensures accepted { IfOk result (λ _. Told (S.files shelf.old) (λ files. IsOk (accepted_prices (names_of command.now) files))) }
     ensures refused { IfErr result (RefusedFor (S.files shelf.old) (names_of command.now) (S.fetch_faults shelf.old) (S.fetch_faults shelf.new)) }
+    ensures no_limit { IfErr result IsNoLimit }
     ensures exact { Told (S.files shelf.old) (λ files. (r : Refusal) → accepted_prices (names_of command.now) files ≡ Err r
         → ¬ (Rose (S.fetch_faults shelf.old) (S.fetch_faults shelf.new)) → MatchResult result (λ _. ⊥) (Says r)) }
 {
@@ -220,6 +230,84 @@ pub(crate) fn accept<S: Shelf>(
     };
     match accept_term(alloc, source.as_slice()) {
         Ok(term) => Ok(Inputs { source, term }),
+        Err(status) => Err(status),
+    }
+}
+
+/// Fetches and checks what a replay needs up to its source, each input just before it is checked.
+fn accept_replay_source<S: Shelf>(
+    alloc: Global,
+    shelf: &mut S,
+    command: &Command,
+) -> Result<Inputs, Status>
+    requires { command.now.limit ≡ 0 }
+    ensures files { S.files shelf.new ≡ S.files shelf.old }
+    ensures keep_faults { S.keep_faults shelf.new ≡ S.keep_faults shelf.old }
+    ensures fetch_faults { S.fetch_faults shelf.old ≤ S.fetch_faults shelf.new }
+    ensures accepted { IfOk result (λ i. Told (S.files shelf.old) (λ files. accepted_source (names_of command.now) files ≡ Ok i.source.items)) }
+    ensures term { IfOk result (λ i. IsSourceOf i.source.items i.term) }
+    ensures linear { IfOk result (λ i. is_linear i.term ≡ true) }
+    ensures closed { IfOk result (λ i. IsClosed i.term) }
+    ensures refused { IfErr result (ReplayRefusedFor (S.files shelf.old) (names_of command.now) (S.fetch_faults shelf.old) (S.fetch_faults shelf.new)) }
+{
+    accept_prices(alloc, shelf, command)?;
+    let source = take(
+        alloc,
+        shelf,
+        command.file.as_str(),
+        Input::Source,
+        SOURCE_MAX,
+    )?;
+    match accept_term(alloc, source.as_slice()) {
+        Ok(term) => Ok(Inputs { source, term }),
+        Err(status) => Err(status),
+    }
+}
+
+/// What a replay was given: its source and the log.
+#[derive(Drop)]
+pub(crate) struct ReplayInputs {
+    pub(crate) inputs: Inputs,
+    pub(crate) log: Log,
+}
+
+/// The log of these bytes. Want of memory has a status of its own.
+fn log_of_bytes(alloc: Global, bytes: &[u8]) -> Result<Log, Status>
+    ensures read { IfOk result (λ log. log_of bytes.now ≡ Ok (header_of log.header, map step_of log.steps.items)) }
+    ensures refused { IfErr result (LogCause bytes.now) }
+{
+    match read_log(alloc, bytes) {
+        Ok(log) => Ok(log),
+        Err(LogFault::NoMemory) => Err(Status::NoMemory),
+        Err(fault) => Err(Status::Log(fault)),
+    }
+}
+
+/// Fetches and checks what a replay needs, each input just before it is checked.
+pub(crate) fn accept_replay<S: Shelf>(
+    alloc: Global,
+    shelf: &mut S,
+    command: &Command,
+) -> Result<ReplayInputs, Status>
+    requires { command.now.limit ≡ 0 }
+    ensures files { S.files shelf.new ≡ S.files shelf.old }
+    ensures keep_faults { S.keep_faults shelf.new ≡ S.keep_faults shelf.old }
+    ensures accepted { IfOk result (λ r. Told (S.files shelf.old) (λ files. IsOkAnd (accepted_log (names_of command.now) files) (IsGiven r))) }
+    ensures term { IfOk result (λ r. IsSourceOf r.inputs.source.items r.inputs.term) }
+    ensures linear { IfOk result (λ r. is_linear r.inputs.term ≡ true) }
+    ensures closed { IfOk result (λ r. IsClosed r.inputs.term) }
+    ensures refused { IfErr result (ReplayRefusedFor (S.files shelf.old) (names_of command.now) (S.fetch_faults shelf.old) (S.fetch_faults shelf.new)) }
+{
+    let inputs = match accept_replay_source(alloc, shelf, command) {
+        Ok(inputs) => inputs,
+        Err(status) => return Err(status),
+    };
+    let bytes = match take(alloc, shelf, command.log.as_str(), Input::Log, LOG_MAX) {
+        Ok(bytes) => bytes,
+        Err(status) => return Err(status),
+    };
+    match log_of_bytes(alloc, bytes.as_slice()) {
+        Ok(log) => Ok(ReplayInputs { inputs, log }),
         Err(status) => Err(status),
     }
 }

@@ -96,7 +96,7 @@ fn write_plan<S: Shelf, O: Sink>(
 }
 
 /// The status that a verdict gives.
-fn status_of(verdict: Verdict) -> Status
+pub(crate) fn status_of(verdict: Verdict) -> Status
     ensures { result ≡ status_of verdict }
 {
     match verdict {

@@ -24,7 +24,12 @@ fn halt_of(fault: KeepFault) -> Halt
 }
 
 /// Keeps one file.
-fn keep_file<S: Shelf>(alloc: Global, shelf: &mut S, name: &str, bytes: &[u8]) -> Result<(), Halt>
+pub(crate) fn keep_file<S: Shelf>(
+    alloc: Global,
+    shelf: &mut S,
+    name: &str,
+    bytes: &[u8],
+) -> Result<(), Halt>
     ensures kept { OnOk result (S.files shelf.new ≡ with_files ((name.now, bytes.now) ∷ []) (S.files shelf.old)) }
     ensures part { OnErr result (PartSet ((name.now, bytes.now) ∷ []) (S.files shelf.old) (S.files shelf.new)) }
     ensures cause { IsErrOf result Halt.WriteFault → Rose (S.keep_faults shelf.old) (S.keep_faults shelf.new) }

@@ -5,6 +5,7 @@ pub mod accept;
 pub mod deploy;
 pub mod finish;
 mod prices;
+pub mod replay;
 pub mod report;
 pub mod status;
 pub mod top;
@@ -15,7 +16,7 @@ pub use linear_play::Verdict;
 pub use phlo_meter::Prices;
 pub use status::{Input, Status};
 pub use top::run;
-pub use words::{Command, Usage};
+pub use words::{Command, Usage, Verb};
 
 #[cfg(test)]
 mod tests;

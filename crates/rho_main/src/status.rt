@@ -1,8 +1,10 @@
 ghost use Rattle.std.specs.Prelude.{◌≡◌, IfOk, string_bytes};
 ghost use Rattle.rho_main.specs.Message.{code_of, message_of};
 
-use crate::wording::source_text;
+use crate::wording::{log_text, replay_text, source_text};
 use crate::words::Usage;
+use event_log::LogFault;
+use log_replay::ReplayFault;
 use sources::SourceFault;
 use std::alloc::{AllocError, Global};
 use std::fmt;
@@ -13,6 +15,8 @@ pub enum Input {
     State,
     Prices,
     Source,
+    /// The log that a replay reads.
+    Log,
 }
 
 /// How a call of `run` ended.
@@ -28,6 +32,10 @@ pub enum Status {
     WriteFault,
     /// The source is refused. Want of memory is no such fault.
     Source(SourceFault),
+    /// The bytes of the log are refused. Want of memory is no such fault.
+    Log(LogFault),
+    /// The log is refused as that of a run. Want of memory is no such fault.
+    Replay(ReplayFault),
     /// The limit is 0 or above the greatest one, `most`.
     Limit { limit: u64, most: u64 },
     /// An input has a form that is not built yet.
@@ -53,6 +61,7 @@ impl fmt::Display for Input {
             Input::State => f.write_str("state"),
             Input::Prices => f.write_str("prices"),
             Input::Source => f.write_str("source"),
+            Input::Log => f.write_str("log"),
         }
     }
 }
@@ -69,6 +78,8 @@ impl Status {
             Status::WriteFault => 4,
             Status::Source(_) => 6,
             Status::Limit { .. } => 7,
+            Status::Log(_) => 8,
+            Status::Replay(_) => 9,
             Status::Exhausted => 10,
             Status::Faulted => 11,
             Status::NoMemory => 12,
@@ -95,6 +106,14 @@ impl Status {
             Status::Source(fault) => {
                 let fault = source_text(alloc, fault)?;
                 format!(in alloc; "rho: source: {fault}")
+            }
+            Status::Log(fault) => {
+                let fault = log_text(alloc, fault)?;
+                format!(in alloc; "rho: log: {fault}")
+            }
+            Status::Replay(fault) => {
+                let fault = replay_text(alloc, fault)?;
+                format!(in alloc; "rho: replay: {fault}")
             }
             Status::Limit { limit, most } => {
                 format!(in alloc; "rho: prices: Limit limit={limit} most={most}")

@@ -71,6 +71,29 @@ impl Place {
         ))
     }
 
+    /// Replays the log `l` of the source `d`, with `m` for the next state.
+    fn replay<R: Abort + Threads + Wait + Sync>(
+        &mut self,
+        rt: &R,
+        alloc: Global,
+    ) -> Result<Status, AllocError> {
+        let texts = [
+            "replay", "d", "--state", "s", "--prices", "p", "--log", "l", "--next", "m",
+        ];
+        let mut words = Vec::new(alloc);
+        for text in texts {
+            words.push(String::from_str(alloc, text)?)?;
+        }
+        Ok(run(
+            rt,
+            alloc,
+            words.as_slice(),
+            &mut self.shelf,
+            &mut self.out,
+            &OpenGate,
+        ))
+    }
+
     fn lacks(&mut self, alloc: Global, name: &str) -> bool {
         self.shelf.fetch(alloc, name, 1000).is_err()
     }
@@ -112,6 +135,84 @@ fn first_source_makes_one_step(rt: HostRuntime) -> Result<(), Fail> {
         place.out.bytes.as_slice(),
         b"{\"cost\":22,\"root\":\"6f62476791fb224f244f82b68b5997bde5a2d543e06d46dd4bc4e40369e948a1\",\"steps\":1,\"verdict\":\"done\"}\n".as_slice()
     );
+    Ok(())
+}
+
+/// The replay of the log gives the state and the report of its run.
+#[test]
+fn a_log_is_replayed(rt: HostRuntime) -> Result<(), Fail> {
+    let alloc: Global = rt.alloc();
+    let mut place = Place::new(&rt, alloc, FIRST);
+    assert_eq!(rt; place.run(&rt, alloc, "22")?, Status::Done);
+    place.out = MemSink::new(alloc);
+    assert_eq!(rt; place.replay(&rt, alloc)?, Status::Done);
+    assert_eq!(rt; place.hex_of(&rt, alloc, "m")?.as_str(), FIRST_NEXT);
+    assert_eq!(rt;
+        place.out.bytes.as_slice(),
+        b"{\"cost\":22,\"root\":\"6f62476791fb224f244f82b68b5997bde5a2d543e06d46dd4bc4e40369e948a1\",\"steps\":1,\"verdict\":\"done\"}\n".as_slice()
+    );
+    Ok(())
+}
+
+/// A log with one byte changed, cut to a length.
+fn changed(
+    alloc: Global,
+    log: &[u8],
+    at: usize,
+    byte: u8,
+    len: usize,
+) -> Result<Vec<u8>, AllocError> {
+    let mut log = log.to_vec(alloc)?;
+    if let Some(place) = log.get_mut(at) {
+        *place = byte;
+    }
+    log.truncate(len);
+    Ok(log)
+}
+
+/// Logs that are no run of the source are refused with their cause, and nothing is kept or put.
+#[test]
+fn changed_logs_are_refused(rt: HostRuntime) -> Result<(), Fail> {
+    let alloc: Global = rt.alloc();
+    let mut place = Place::new(&rt, alloc, FIRST);
+    assert_eq!(rt; place.run(&rt, alloc, "22")?, Status::Done);
+    place.out = MemSink::new(alloc);
+    let log = place.get(&rt, alloc, "l");
+    let changes: [(usize, u8, usize, u8, &[u8]); 6] = [
+        (
+            114,
+            0,
+            115,
+            9,
+            b"rho: replay: Reducible cont=4635a4e937da233bb770ee40d025c55841f94e4ad89cbc2d263b44d0453c1843 taken=7f23baccb68420097cb78b39b78f1cfddb354303d20f4cd69f8ac72398355d98",
+        ),
+        (183, 1, 184, 9, b"rho: replay: NoRun step=0"),
+        (
+            7,
+            1,
+            184,
+            9,
+            b"rho: replay: WrongBase log=0100000000000000000000000000000000000000000000000000000000000000 state=0000000000000000000000000000000000000000000000000000000000000000",
+        ),
+        (
+            110,
+            0,
+            184,
+            9,
+            b"rho: replay: WrongLimit log=0 most=10485760",
+        ),
+        (0, 82, 114, 8, b"rho: log: Short at=114"),
+        (6, 9, 184, 8, b"rho: log: Version found=9"),
+    ];
+    for (at, byte, len, code, message) in changes {
+        let log = changed(alloc, log.as_slice(), at, byte, len)?;
+        place.set(&rt, alloc, "l", log.as_slice());
+        let status = place.replay(&rt, alloc)?;
+        assert_eq!(rt; status.code(), code);
+        assert_eq!(rt; status.message(alloc)?.as_slice(), message);
+        assert!(rt; place.lacks(alloc, "m"));
+        assert_eq!(rt; place.out.bytes.len(), 0);
+    }
     Ok(())
 }
 

@@ -1,15 +1,17 @@
 ghost use Rattle.std.specs.Prelude.{◌≡◌, ◌⊎◌, None, Err, IsOkAnd, IfOk, map, string_bytes};
 ghost use Rattle.rho_outside.specs.Causes.{Rose};
 ghost use Rattle.rho_outside.specs.Told.{Told};
-ghost use Rattle.rho_main.specs.Words.{names_in};
+ghost use Rattle.rho_main.specs.Words.{names_in, replay_names_in};
+ghost use Rattle.rho_main.specs.Replaying.{NamedReplay, ReplayLeaves, ReplayLeavesInPart, ReplayRefusedFor};
 ghost use Rattle.rho_main.specs.Inputs.{Refusal, accepted};
 ghost use Rattle.rho_main.specs.Refused.{RefusedFor, Says, SaysOf};
 ghost use Rattle.rho_main.specs.Runnable.{IsRunnable};
 ghost use Rattle.rho_main.specs.Ends.{Named, OnUsage, OnRefusal, OnFileRefusal, OnHalt, OnVerdict, HasEnded, Leaves, LeavesInPart};
 
 use crate::deploy::deploy;
+use crate::replay::replay;
 use crate::status::Status;
-use crate::words::{Usage, read_words};
+use crate::words::{Usage, Verb, read_verb};
 use rho_outside::{Gate, Shelf, Sink};
 use std::alloc::Global;
 use std::sync::Wait;
@@ -28,8 +30,8 @@ pub fn run<R: Threads + Wait + Sync, S: Shelf, O: Sink, G: Gate + Sync>(
     _gate: &G,
 ) -> Status
     // The words.
-    ensures usage { OnUsage result (names_in (map string_bytes words.now) ≡ None) }
-    ensures usage_exact { names_in (map string_bytes words.now) ≡ None → (result ≡ Status.Usage Usage.BadWords) ⊎ (result ≡ Status.NoMemory) }
+    ensures usage { OnUsage result ((names_in (map string_bytes words.now) ≡ None) × (replay_names_in (map string_bytes words.now) ≡ None)) }
+    ensures usage_exact { names_in (map string_bytes words.now) ≡ None → replay_names_in (map string_bytes words.now) ≡ None → (result ≡ Status.Usage Usage.BadWords) ⊎ (result ≡ Status.NoMemory) }
 
     // The files, the limit and the source.
     ensures refused { Named (map string_bytes words.now) (λ names. OnFileRefusal result
@@ -54,9 +56,18 @@ pub fn run<R: Threads + Wait + Sync, S: Shelf, O: Sink, G: Gate + Sync>(
         (Leaves result names (S.files shelf.old) (S.files shelf.new) (O.written out.old) (O.written out.new))) }
     ensures part { Named (map string_bytes words.now) (λ names. OnHalt result
         (LeavesInPart names (S.files shelf.old) (S.files shelf.new) (O.written out.old) (O.written out.new))) }
+
+    // The replay of a log.
+    ensures replay_refused { NamedReplay (map string_bytes words.now) (λ names. OnFileRefusal result
+        (ReplayRefusedFor (S.files shelf.old) names (S.fetch_faults shelf.old) (S.fetch_faults shelf.new) result)) }
+    ensures replay_verdict { NamedReplay (map string_bytes words.now) (λ names. OnVerdict result
+        (ReplayLeaves result names (S.files shelf.old) (S.files shelf.new) (O.written out.old) (O.written out.new))) }
+    ensures replay_part { NamedReplay (map string_bytes words.now) (λ names. OnHalt result
+        (ReplayLeavesInPart names (S.files shelf.old) (S.files shelf.new) (O.written out.old) (O.written out.new))) }
 {
-    match read_words(alloc, words) {
-        Ok(command) => deploy(alloc, &command, shelf, out),
+    match read_verb(alloc, words) {
+        Ok(Verb::Deploy(command)) => deploy(alloc, &command, shelf, out),
+        Ok(Verb::Replay(command)) => replay(alloc, &command, shelf, out),
         Err(Usage::BadWords) => Status::Usage(Usage::BadWords),
         Err(Usage::NoMemory) => Status::NoMemory,
     }

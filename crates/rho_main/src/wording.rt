@@ -1,6 +1,9 @@
 ghost use Rattle.std.specs.Prelude.{◌≡◌, IfOk, string_bytes};
-ghost use Rattle.rho_main.specs.Message.{lex_text, parse_text, scope_text, source_text};
+ghost use Rattle.rho_main.specs.Message.{digest_text, digests_text, lex_text, log_text, parse_text, replay_text, scope_text, source_text};
 
+use calculus::Digest;
+use event_log::LogFault;
+use log_replay::ReplayFault;
 use rho_lexer::LexFault;
 use rho_parser::ParseFault;
 use scope_check::ScopeFault;
@@ -54,4 +57,68 @@ fn scope_text(alloc: Global, fault: &ScopeFault) -> Result<String, AllocError>
         ScopeFault::UnknownUri { uri } => format!(in alloc; "UnknownUri uri={uri}"),
         ScopeFault::NoMemory => String::from_str(alloc, "NoMemory"),
     }
+}
+
+/// The name and the field of what the bytes of a log are refused for.
+pub(crate) fn log_text(alloc: Global, fault: &LogFault) -> Result<String, AllocError>
+    ensures { IfOk result (λ text. string_bytes text ≡ log_text fault.now) }
+{
+    match fault {
+        LogFault::Short { at } => format!(in alloc; "Short at={at}"),
+        LogFault::Bad { at } => format!(in alloc; "Bad at={at}"),
+        LogFault::Version { found } => format!(in alloc; "Version found={found}"),
+        LogFault::TooLong { entries } => format!(in alloc; "TooLong entries={entries}"),
+        LogFault::NoMemory => String::from_str(alloc, "NoMemory"),
+    }
+}
+
+/// The name and the fields of what a log is refused for as that of a run.
+pub(crate) fn replay_text(alloc: Global, fault: &ReplayFault) -> Result<String, AllocError>
+    ensures { IfOk result (λ text. string_bytes text ≡ replay_text fault.now) }
+{
+    match fault {
+        ReplayFault::WrongBase { log, state } => {
+            let log = digest_text(alloc, log)?;
+            let state = digest_text(alloc, state)?;
+            format!(in alloc; "WrongBase log={log} state={state}")
+        }
+        ReplayFault::WrongSource { log, given } => {
+            let log = digest_text(alloc, log)?;
+            let given = digest_text(alloc, given)?;
+            format!(in alloc; "WrongSource log={log} given={given}")
+        }
+        ReplayFault::WrongPrices { log, given } => {
+            let log = digest_text(alloc, log)?;
+            let given = digest_text(alloc, given)?;
+            format!(in alloc; "WrongPrices log={log} given={given}")
+        }
+        ReplayFault::WrongLimit { log, most } => {
+            format!(in alloc; "WrongLimit log={log} most={most}")
+        }
+        ReplayFault::NoRun { step } => format!(in alloc; "NoRun step={step}"),
+        ReplayFault::Reducible { cont, taken } => {
+            let cont = digest_text(alloc, cont)?;
+            let taken = digests_text(alloc, taken.as_slice())?;
+            format!(in alloc; "Reducible cont={cont} taken={taken}")
+        }
+        ReplayFault::NoMemory => String::from_str(alloc, "NoMemory"),
+    }
+}
+
+/// A digest in lower-case hexadecimal.
+fn digest_text(alloc: Global, digest: &Digest) -> Result<String, AllocError>
+    ensures { IfOk result (λ text. string_bytes text ≡ digest_text digest.now) }
+{
+    hex::encode(alloc, digest.0.as_slice())
+}
+
+/// Digests in lower-case hexadecimal, with a comma between each two.
+fn digests_text(alloc: Global, digests: &[Digest]) -> Result<String, AllocError>
+    ensures { IfOk result (λ text. string_bytes text ≡ digests_text digests.now) }
+{
+    let mut texts = Vec::new(alloc);
+    for digest in digests {
+        texts.push(digest_text(alloc, digest)?)?;
+    }
+    texts.as_slice().join(alloc, ",")
 }

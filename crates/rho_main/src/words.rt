@@ -2,7 +2,7 @@ ghost use Rattle.std.specs.Prelude.{◌≡◌, ◌⊎◌, Some, None, Err, IfOk,
 ghost use Rattle.std.specs.Char.{is_ascii_digit};
 ghost use Rattle.std.specs.List.{list_all};
 ghost use Rattle.std.specs.Str.{bytes_eq};
-ghost use Rattle.rho_main.specs.Words.{are_fixed, names_in, names_of, number_in};
+ghost use Rattle.rho_main.specs.Words.{IsReadAs, are_fixed, are_fixed_in_replay, names_in, names_of, number_in, replay_names_in};
 
 use std::alloc::{AllocError, Global};
 use std::fmt;
@@ -40,16 +40,25 @@ impl From<AllocError> for Usage {
     }
 }
 
-/// The words of a deploy.
+/// The words of a deploy or of a replay.
 #[derive(Debug, Drop)]
 pub struct Command {
     /// The name of the source.
     pub file: String,
     pub state: String,
     pub prices: String,
+    /// The limit of a deploy. A replay has none, and 0 stands here.
     pub limit: u64,
     pub log: String,
     pub next: String,
+}
+
+/// What the words of a command line ask for.
+#[derive(Debug, Drop)]
+pub enum Verb {
+    Deploy(Command),
+    /// The run of a log, again.
+    Replay(Command),
 }
 
 fn is_text(word: &String, text: &str) -> bool
@@ -101,6 +110,43 @@ pub fn read_words(alloc: Global, words: &[String]) -> Result<Command, Usage>
     })
 }
 
+/// What the words of a replay give.
+///
+/// `BadWords` comes exactly where the words are not `replay`, a source, and then a state, prices, a log and
+/// a next state, each after its option, of which the last two differ.
+fn read_replay_words(alloc: Global, words: &[String]) -> Result<Command, Usage>
+    ensures read { IfOk result (λ c. replay_names_in (map string_bytes words.now) ≡ Some (names_of c)) }
+    ensures refused { IfErr result (λ u. (u ≡ Usage.NoMemory) ⊎ ((u ≡ Usage.BadWords) × (replay_names_in (map string_bytes words.now) ≡ None))) }
+{
+    let [verb, file, a, state, b, prices, c, log, d, next] = words else {
+        return Err(Usage::BadWords);
+    };
+    if !is_replay(verb, a, b, c, d) || is_text(log, next.as_str()) {
+        return Err(Usage::BadWords);
+    }
+    Ok(Command {
+        file: copy(alloc, file)?,
+        state: copy(alloc, state)?,
+        prices: copy(alloc, prices)?,
+        limit: 0,
+        log: copy(alloc, log)?,
+        next: copy(alloc, next)?,
+    })
+}
+
+/// What the words of a deploy or of a replay give. `BadWords` comes exactly where they are those of neither.
+pub fn read_verb(alloc: Global, words: &[String]) -> Result<Verb, Usage>
+    ensures read { IfOk result (IsReadAs (map string_bytes words.now)) }
+    ensures refused { IfErr result (λ u. (u ≡ Usage.NoMemory)
+        ⊎ ((u ≡ Usage.BadWords) × (names_in (map string_bytes words.now) ≡ None) × (replay_names_in (map string_bytes words.now) ≡ None))) }
+{
+    match read_words(alloc, words) {
+        Ok(command) => Ok(Verb::Deploy(command)),
+        Err(Usage::NoMemory) => Err(Usage::NoMemory),
+        Err(Usage::BadWords) => Ok(Verb::Replay(read_replay_words(alloc, words)?)),
+    }
+}
+
 /// Whether the verb and the options of a deploy stand at their places.
 fn is_deploy(verb: &String, a: &String, b: &String, c: &String, d: &String, e: &String) -> bool
     ensures { result ≡ are_fixed (string_bytes verb.now) (string_bytes a.now) (string_bytes b.now) (string_bytes c.now) (string_bytes d.now) (string_bytes e.now) }
@@ -111,6 +157,17 @@ fn is_deploy(verb: &String, a: &String, b: &String, c: &String, d: &String, e: &
         && is_text(c, "--limit")
         && is_text(d, "--log")
         && is_text(e, "--next")
+}
+
+/// Whether the verb and the options of a replay stand at their places.
+fn is_replay(verb: &String, a: &String, b: &String, c: &String, d: &String) -> bool
+    ensures { result ≡ are_fixed_in_replay (string_bytes verb.now) (string_bytes a.now) (string_bytes b.now) (string_bytes c.now) (string_bytes d.now) }
+{
+    is_text(verb, "replay")
+        && is_text(a, "--state")
+        && is_text(b, "--prices")
+        && is_text(c, "--log")
+        && is_text(d, "--next")
 }
 
 fn copy(alloc: Global, text: &String) -> Result<String, Usage>

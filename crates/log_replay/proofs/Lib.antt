@@ -1,0 +1,11 @@
+pub mod Filing
+pub mod Differing
+pub mod Choosing
+pub mod Ascending
+pub mod Sends
+pub mod Partners
+pub mod Headers
+pub mod Steps
+pub mod Taken
+pub mod Answering
+pub mod Replaying

@@ -1,0 +1,5 @@
+pub mod Refusals
+pub mod Rows
+pub mod Least
+pub mod Courses
+pub mod Answers
