@@ -154,6 +154,22 @@ fn a_log_is_replayed(rt: HostRuntime) -> Result<(), Fail> {
     Ok(())
 }
 
+/// The replay of an exhausted run charges the limit and keeps the old state.
+#[test]
+fn an_exhausted_log_is_replayed(rt: HostRuntime) -> Result<(), Fail> {
+    let alloc: Global = rt.alloc();
+    let mut place = Place::new(&rt, alloc, FIRST);
+    assert_eq!(rt; place.run(&rt, alloc, "21")?, Status::Exhausted);
+    place.out = MemSink::new(alloc);
+    assert_eq!(rt; place.replay(&rt, alloc)?, Status::Exhausted);
+    assert_eq!(rt; place.get(&rt, alloc, "m").as_slice(), EMPTY);
+    assert_eq!(rt;
+        place.out.bytes.as_slice(),
+        b"{\"cost\":21,\"root\":\"0000000000000000000000000000000000000000000000000000000000000000\",\"steps\":1,\"verdict\":\"exhausted\"}\n".as_slice()
+    );
+    Ok(())
+}
+
 /// A log with one byte changed, cut to a length.
 fn changed(
     alloc: Global,
@@ -178,7 +194,7 @@ fn changed_logs_are_refused(rt: HostRuntime) -> Result<(), Fail> {
     assert_eq!(rt; place.run(&rt, alloc, "22")?, Status::Done);
     place.out = MemSink::new(alloc);
     let log = place.get(&rt, alloc, "l");
-    let changes: [(usize, u8, usize, u8, &[u8]); 6] = [
+    let changes: [(usize, u8, usize, u8, &[u8]); 10] = [
         (
             114,
             0,
@@ -186,6 +202,8 @@ fn changed_logs_are_refused(rt: HostRuntime) -> Result<(), Fail> {
             9,
             b"rho: replay: Reducible cont=4635a4e937da233bb770ee40d025c55841f94e4ad89cbc2d263b44d0453c1843 taken=7f23baccb68420097cb78b39b78f1cfddb354303d20f4cd69f8ac72398355d98",
         ),
+        (115, 0, 184, 9, b"rho: replay: NoRun step=0"),
+        (148, 0, 184, 9, b"rho: replay: NoRun step=0"),
         (183, 1, 184, 9, b"rho: replay: NoRun step=0"),
         (
             7,
@@ -193,6 +211,20 @@ fn changed_logs_are_refused(rt: HostRuntime) -> Result<(), Fail> {
             184,
             9,
             b"rho: replay: WrongBase log=0100000000000000000000000000000000000000000000000000000000000000 state=0000000000000000000000000000000000000000000000000000000000000000",
+        ),
+        (
+            39,
+            0,
+            184,
+            9,
+            b"rho: replay: WrongSource log=00fb0c722e238b8ec04ff088db9b402ce250629ad1a9fb34b47751f3c8fcefcf given=49fb0c722e238b8ec04ff088db9b402ce250629ad1a9fb34b47751f3c8fcefcf",
+        ),
+        (
+            71,
+            0,
+            184,
+            9,
+            b"rho: replay: WrongPrices log=004bc1d7962619ff3fa57ecfaa059aac48aab286958b132e43673c30fc376fcf given=8d4bc1d7962619ff3fa57ecfaa059aac48aab286958b132e43673c30fc376fcf",
         ),
         (
             110,
