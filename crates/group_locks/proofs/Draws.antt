@@ -10,11 +10,14 @@ use lib.ListN.{get_elem?}
 use Rattle.atomic_table.specs.Table.{keeps, step, stepped, Allows}
 use Rattle.atomic_table.proofs.Lists.{at_set, at_longer, at_last}
 use Rattle.group_locks.specs.declared.view.View.{View}
+use Rattle.group_locks.specs.declared.view.Tally.{Tally}
+use Rattle.group_locks.specs.declared.terms.Terms.{Terms}
 use Rattle.group_locks.specs.Counts.{one_if, count, total, once_below, Each}
 use Rattle.group_locks.specs.Meaning.{Meaning, Lawful, store_after, Allowed, Passes, Follows, AllFollow}
-use Rattle.group_locks.specs.Rule.{view, TurnRule, DrawRule, HubRule, Drew, MayDraw, after_draw, since_after}
+use Rattle.group_locks.specs.Rule.{view, TurnRule, DrawRule, HubRule, Drew, MayDraw, after_draw, since_after, owes}
 use Rattle.group_locks.proofs.Sums.{total_set, total_same, total_at, total_two, total_le, total_times, count_more, each_to, each_more, each_in}
 use Rattle.group_locks.proofs.Turns.{held_still}
+use Rattle.group_locks.proofs.Tallies.{charges_stay, stops_grow}
 
 pub truth : (b : Bool) → (b ≡ true) ⊎ (b ≡ false)
 truth true = inl refl
@@ -45,11 +48,11 @@ module _ {Store E X : Type 0} (m : Meaning Store E X) where
     passes now e k z y a true is s p = laws.projection now e k z y a is s p
     passes now e k z y a false is s p = subst (λ t. m.projects (m.after now e) k t) (sym p) (laws.untouched now e k z is s)
 
-    turned_draw : (now : Store) (words : List ℕ) (homes : List (opt.Option (Option X))) (views : List (View E X)) (id n : ℕ) (v : View E X) (entries : List (ℕ × E)) (e : E)
+    turned_draw : (now : Store) (words : List ℕ) (homes : List (opt.Option (Option X))) (views : List (View E X)) (id n : ℕ) (v : View E X) (entries : List (ℕ × E)) (t' : Tally E) (e : E)
         → get_elem? views id ≡ some v → m.allows now e → ((k : ℕ) → m.touched e k ≡ true → 0 < count k v.held)
-        → TurnRule m now words homes views → TurnRule m (m.after now e) (set words 0 n) homes (set views id (view v.parts entries v.held (since_after v.held (v.since ++ e ∷ []))))
-    turned_draw now words homes views id n v entries e at may within t =
-        let w : View E X = view v.parts entries v.held (since_after v.held (v.since ++ e ∷ [])) in
+        → TurnRule m now words homes views → TurnRule m (m.after now e) (set words 0 n) homes (set views id (view v.parts entries v.held (since_after v.held (v.since ++ e ∷ [])) t'))
+    turned_draw now words homes views id n v entries t' e at may within t =
+        let w : View E X = view v.parts entries v.held (since_after v.held (v.since ++ e ∷ [])) t' in
         let same : (k : ℕ) → total (λ u. count k u.held) (set views id w) ≡ total (λ u. count k u.held) views = λ k. total_same (λ u. count k u.held) views id v w at refl in
         let word : (k : ℕ) → get_or (set words 0 n) (k + 1) 0 ≡ get_or words (k + 1) 0 = λ k. get_or-set_other words 0 (k + 1) n 0 (λ h. omega arith) in
         record {
@@ -82,11 +85,11 @@ once_more n len = dite (ℕ_discrete len n)
     (λ e. let a : one_if (nat_lt n len) ≡ 0 = (let b : nat_lt n len ≡ false = grind (arith, nat_tests) in ap one_if b) in let b : one_if (eqb len n) ≡ 1 = ap one_if (eq-eqb len n e) in let c : one_if (nat_lt n (len + 1)) ≡ 1 = (let d : nat_lt n (len + 1) ≡ true = grind (arith, nat_tests) in ap one_if d) in omega arith)
     (λ ne. let a : one_if (nat_lt n len) ≡ one_if (nat_lt n (len + 1)) = (let b : nat_lt n len ≡ nat_lt n (len + 1) = grind (arith, nat_tests) in ap one_if b) in let b : one_if (eqb len n) ≡ 0 = ap one_if (ne_eqb len n ne) in omega arith)
 
-booked_draw : {E X : Type 0} (seats : ℕ) (log : List E) (word : ℕ) (views : List (View E X)) (id : ℕ) (v : View E X) (since : List E) (e : E)
+booked_draw : {E X : Type 0} (seats : ℕ) (log : List E) (word : ℕ) (views : List (View E X)) (id : ℕ) (v : View E X) (since : List E) (t : Tally E) (e : E)
     → get_elem? views id ≡ some v → length v.entries < v.parts * 2 ^ 53 → DrawRule seats log word views
-    → DrawRule seats (log ++ e ∷ []) (word + 1) (set views id (view v.parts (v.entries ++ (word, e) ∷ []) v.held since))
-booked_draw {E = E} {X = X} seats log word views id v since e at room b =
-    let w : View E X = view v.parts (v.entries ++ (word, e) ∷ []) v.held since in
+    → DrawRule seats (log ++ e ∷ []) (word + 1) (set views id (view v.parts (v.entries ++ (word, e) ∷ []) v.held since t))
+booked_draw {E = E} {X = X} seats log word views id v since t e at room b =
+    let w : View E X = view v.parts (v.entries ++ (word, e) ∷ []) v.held since t in
     let long : length (log ++ e ∷ []) ≡ length log + 1 = length-append log (e ∷ []) in
     let entries : length (v.entries ++ (word, e) ∷ []) ≡ length v.entries + 1 = length-append v.entries ((word, e) ∷ []) in
     let there : (n : ℕ) (a : E) → get_elem? log n ≡ some a → get_elem? (log ++ e ∷ []) n ≡ some a = λ n a h. at_longer log (e ∷ []) n a h in
@@ -117,15 +120,15 @@ bounded seats log word views few b =
     let c = total_times (λ v. v.parts) (2 ^ 53) views in
     let d = b.parts in let e = b.sums in let f = b.drawn in omega arith
 
-pub draw : {Store E X : Type 0} (m : Meaning Store E X) (laws : Lawful m) (opened : List X) (seats : ℕ) (slots id : ℕ) (v : View E X) (c : List (ℕ × Option X)) (e : E) → MayDraw m v e
-    → Allows (HubRule m opened seats) slots id (v, c) 0 (λ n. (n + 1) % 2 ^ 64) (Drew (Some e) (step slots 0 1 0 none) (v, c))
-draw {E = E} {X = X} m laws opened seats slots id v c e may s b len at fits =
+pub draw : {Store E X : Type 0} (m : Meaning Store E X) (laws : Lawful m) (opened : List X) (terms : Terms) (slots id : ℕ) (v : View E X) (c : List (ℕ × Option X)) (e : E) → MayDraw m v e
+    → Allows (HubRule m opened terms) slots id (v, c) 0 (λ n. (n + 1) % 2 ^ 64) (Drew (Some e) (step slots 0 1 0 none) (v, c))
+draw {E = E} {X = X} m laws opened terms slots id v c e may s b len at fits =
     let n : ℕ = get_or s.words 0 0 in
     let w : View E X = after_draw v n e in
-    let next : (n + 1) % 2 ^ 64 ≡ n + 1 = (let q = bounded seats b.log n s.views b.few b.draws in omega arith) in
+    let next : (n + 1) % 2 ^ 64 ≡ n + 1 = (let q = bounded terms.seats b.log n s.views b.few b.draws in omega arith) in
     let now = store_after m b.store b.log in
     let allowed : m.allows now e = laws.told b.store b.log may.before e b.legal (shown_each m now v.since v.held may.before may.follows (b.turns.held id v at)) may.tells in
-    let P : ℕ → Type 0 = λ k. HubRule m opened seats (stepped s 0 k id c w keeps) in (
+    let P : ℕ → Type 0 = λ k. HubRule m opened terms (stepped s 0 k id c w keeps) in (
       w,
       keeps,
       tt,
@@ -138,9 +141,11 @@ draw {E = E} {X = X} m laws opened seats slots id v c e may s b len at fits =
         opens = b.opens;
         legal = allowed_more m b.store b.log e b.legal allowed;
         turns = let Q : _ → Type 0 = λ st. TurnRule m st (set s.words 0 (n + 1)) s.homes (set s.views id w) in
-            subst Q (sym (store_more m b.store b.log e)) (turned_draw m laws now s.words s.homes s.views id (n + 1) v (v.entries ++ (n, e) ∷ []) e at allowed may.within b.turns);
-        draws = let Q : ℕ → Type 0 = λ k. DrawRule seats (b.log ++ e ∷ []) k (set s.views id w) in
-            subst Q (sym (get_or-set_same s.words 0 (n + 1) 0 (let q = b.wide in omega arith))) (booked_draw seats b.log n s.views id v (since_after v.held (v.since ++ e ∷ [])) e at may.room b.draws);
+            subst Q (sym (store_more m b.store b.log e)) (turned_draw m laws now s.words s.homes s.views id (n + 1) v (v.entries ++ (n, e) ∷ []) (owes v.tally n e) e at allowed may.within b.turns);
+        draws = let Q : ℕ → Type 0 = λ k. DrawRule terms.seats (b.log ++ e ∷ []) k (set s.views id w) in
+            subst Q (sym (get_or-set_same s.words 0 (n + 1) 0 (let q = b.wide in omega arith))) (booked_draw terms.seats b.log n s.views id v (since_after v.held (v.since ++ e ∷ [])) (owes v.tally n e) e at may.room b.draws);
+        charges = charges_stay m.price terms (get_or s.words 65 0) _ s.views id v w (get_or-set_other s.words 0 65 (n + 1) 0 (λ h. omega arith)) at refl refl refl refl b.charges;
+        stops = stops_grow m.faults b.log (e ∷ []) (get_or s.words 66 0) _ s.views id v w (get_or-set_other s.words 0 66 (n + 1) 0 (λ h. omega arith)) at refl refl b.stops;
       }),
       (λ e' is. let same : e ≡ e' = cc in ap (λ x. (after_draw v n x, c)) same),
     )

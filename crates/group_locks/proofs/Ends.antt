@@ -1,9 +1,11 @@
 -- The end of a hub.
-use Rattle.std.proofs.Common.{◌≡◌, ◌≢◌, ℕ, zero, suc, ◌+◌, ◌*◌, ◌^◌, ◌<◌, ◌≤◌, ◌⊎◌, Bool, true, false, List, [], ◌∷◌, ◌++◌, map, length, get_or, refl, sym, ap, subst, ◌∙◌, arith, Option, Some, None, length-append, ⊎_elim, inl, inr, set, get_or-set_same, eqb, eq-eqb, ne_eqb, nat_lt}
+use Rattle.std.proofs.Common.{◌≡◌, ◌≢◌, ℕ, zero, suc, ◌+◌, ◌*◌, ◌^◌, ◌<◌, ◌≤◌, ◌⊎◌, Bool, true, false, List, [], ◌∷◌, ◌++◌, map, length, get_or, refl, sym, ap, subst, ◌∙◌, arith, Option, Some, None, length-append, ⊎_elim, inl, inr, set, get_or-set_same, max, eqb, eq-eqb, ne_eqb, nat_lt}
 use Rattle.std.proofs.lemmas.Bool.Decides.{nat_tests}
-use Rattle.std.specs.Prelude.{slice_get}
+use Rattle.std.specs.Prelude.{slice_get, IsSome}
 use Rattle.std.specs.List.{All}
 use Rattle.group_locks.specs.declared.view.View.{View}
+use Rattle.group_locks.specs.declared.view.Tally.{Tally}
+use Rattle.group_locks.specs.declared.terms.Terms.{Terms}
 use Rattle.group_locks.specs.Counts.{one_if, once_below, count, total, Each, all_of, placed}
 use mathlib.Core.Option.{some, some-injective, some-ne-none}
 use mathlib.Core.Logic.{dite}
@@ -12,10 +14,13 @@ use Rattle.std.proofs.Math.ListN.{length-set}
 use Rattle.atomic_table.proofs.Lists.{set_here, set_else}
 use lib.ListN.{get_elem?}
 use Rattle.atomic_table.specs.Table.{State, Me, Final, Seen}
+use Rattle.group_locks.specs.declared.terms.StopCause.{StopCause}
+use Rattle.group_locks.specs.declared.terms.StopCause.TheVariants.{Fault, NoMemory}
+use Rattle.group_locks.specs.Stops.{cause_at, FaultCause}
 use Rattle.group_locks.specs.Meaning.{Meaning, store_after, Allowed, Ran}
-use Rattle.group_locks.proofs.Sums.{total_two, each_to}
+use Rattle.group_locks.proofs.Sums.{total_two, total_both, each_to}
 use Rattle.group_locks.proofs.Opens.{get_some, get_elem}
-use Rattle.group_locks.specs.Rule.{view, joined, emptied, HubRule, RanBy}
+use Rattle.group_locks.specs.Rule.{view, joined, both, cost, emptied, FaultIn, HubRule, RanBy}
 
 module _ {A : Type 0} where
   pub all_tail : (P : A → Type 0) (xs ys : List A) (x : A) → xs ≡ x ∷ ys → All P xs → P x × All P ys
@@ -28,8 +33,8 @@ module _ {A : Type 0} where
   total_split f xs ys x e = ap {A = List A} (λ l. total f l) e
 
 -- the views after a seat is joined
-pub joined_view : {E X : Type 0} (all : List (ℕ × E)) (n : ℕ) (w : View E X) → w.parts ≡ 32 → joined {E = E} {X = X} (view (32 * n) all [] []) w ≡ view (32 * (n + 1)) (all ++ w.entries) [] []
-joined_view {E} {X} all n w part = let e : 32 * n + w.parts ≡ 32 * (n + 1) = omega arith in ap {A = ℕ} (λ p. view {E = E} {X = X} p (all ++ w.entries) [] []) e
+pub joined_view : {E X : Type 0} (all : List (ℕ × E)) (t : Tally E) (n : ℕ) (w : View E X) → w.parts ≡ 32 → joined {E = E} {X = X} (view (32 * n) all [] [] t) w ≡ view (32 * (n + 1)) (all ++ w.entries) [] [] (both t w.tally)
+joined_view {E} {X} all t n w part = let e : 32 * n + w.parts ≡ 32 * (n + 1) = omega arith in ap {A = ℕ} (λ p. view {E = E} {X = X} p (all ++ w.entries) [] [] (both t w.tally)) e
 
 -- no slot is out where no shard is held
 pub out_of : {X : Type 0} (held : List (ℕ × X)) (out : List (ℕ × Option X)) → held ≡ [] → out ≡ emptied held → out ≡ []
@@ -51,17 +56,23 @@ module _ {A : Type 0} where
   total_one f (x ∷ xs) (suc i) v at rest = let z : f x ≡ 0 = rest 0 x refl (λ h. omega arith) in let r = total_one f xs i v at (λ j u bt ne. rest (suc j) u bt (λ h. ne (omega arith))) in omega arith
 
 -- what the last state says, where one seat has every part
-pub final : {Store E X : Type 0} (m : Meaning Store E X) (opened : List X) (seats id : ℕ) (v : View E X) (s : State (Option X) (View E X)) (slots : List (Option X))
-    → HubRule m opened seats s → get_elem? s.views id ≡ some v → v.parts ≡ 32 * seats → v.held ≡ []
+pub final : {Store E X : Type 0} (m : Meaning Store E X) (opened : List X) (terms : Terms) (id : ℕ) (v : View E X) (s : State (Option X) (View E X)) (slots : List (Option X))
+    → HubRule m opened terms s → get_elem? s.views id ≡ some v → v.parts ≡ 32 * terms.seats → v.held ≡ []
     → ((k : ℕ) (y : Option X) → get_elem? s.homes k ≡ some (some y) → get_elem? slots k ≡ some y)
     → (store : Store) × (log : List E) × ((k : ℕ) (x : X) → slice_get opened k ≡ Some x → m.projects store k x) × Allowed m store log
     × (length v.entries ≡ length log) × Each (λ n e. slice_get log n ≡ Some e) v.entries × ((n : ℕ) → count n v.entries ≡ once_below n (length log))
     × ((k : ℕ) → k < 64 → (x : X) × (get_elem? slots k ≡ some (Some x)) × m.projects (store_after m store log) k x)
-final {E = E} {X = X} m opened seats id v s slots b at part free slot =
+    × (get_or s.words 65 0 ≡ terms.spent + (cost m.price v.tally.settled + cost m.price v.tally.fresh))
+    × (terms.spent + cost m.price v.tally.settled ≤ max terms.spent terms.limit)
+    × ((get_or s.words 66 0 ≡ 0) ⊎ ((get_or s.words 66 0 ≡ 1) ⊎ ((get_or s.words 66 0 ≡ 2) × FaultIn m.faults log)))
+final {E = E} {X = X} m opened terms id v s slots b at part free slot =
     let none_left : (j : ℕ) (u : View E X) → get_elem? s.views j ≡ some u → j ≢ id → u.parts ≡ 0 = λ j u bt ne. (let t = total_two (λ y. y.parts) s.views j id u v bt at ne in let p = b.draws.parts in omega arith) in
     let no_mine : (j : ℕ) (u : View E X) → get_elem? s.views j ≡ some u → j ≢ id → length u.entries ≡ 0 = λ j u bt ne. (let z = none_left j u bt ne in let q = b.draws.small j u bt in let r : u.parts * 2 ^ 53 ≡ 0 = ap {A = ℕ} (λ p. p * 2 ^ 53) z in omega arith) in
     let no_count : (n j : ℕ) (u : View E X) → get_elem? s.views j ≡ some u → j ≢ id → count n u.entries ≡ 0 = λ n j u bt ne. ap {A = List (ℕ × E)} (count n) (empty_list u.entries (no_mine j u bt ne)) in
-    let no_held : (k j : ℕ) (u : View E X) → get_elem? s.views j ≡ some u → j ≢ id → count k u.held ≡ 0 = λ k j u bt ne. ap {A = List (ℕ × X)} (count k) (b.turns.idle j u bt (none_left j u bt ne)) in (
+    let no_held : (k j : ℕ) (u : View E X) → get_elem? s.views j ≡ some u → j ≢ id → count k u.held ≡ 0 = λ k j u bt ne. ap {A = List (ℕ × X)} (count k) (b.turns.idle j u bt (none_left j u bt ne)) in
+    let none_paid : (j : ℕ) (u : View E X) → get_elem? s.views j ≡ some u → j ≢ id → cost m.price u.tally.settled + cost m.price u.tally.fresh ≡ 0 = λ j u bt ne. b.charges.idle j u bt (none_left j u bt ne) in
+    let fresh_one : total (λ y. cost m.price y.tally.fresh) s.views ≡ cost m.price v.tally.fresh = total_one (λ y. cost m.price y.tally.fresh) s.views id v at (λ j u bt ne. let z = none_paid j u bt ne in omega arith) in
+    let paid : get_or s.words 65 0 ≡ terms.spent + (cost m.price v.tally.settled + cost m.price v.tally.fresh) = (let a = total_one (λ y. cost m.price y.tally.settled + cost m.price y.tally.fresh) s.views id v at none_paid in let c = b.charges.paid in omega arith) in (
       b.store,
       b.log,
       (λ k x e. b.opens k x (get_elem opened k x e)),
@@ -72,6 +83,9 @@ final {E = E} {X = X} m opened seats id v s slots b at part free slot =
       (λ k lt. let zero_held : count k v.held ≡ 0 = ap {A = List (ℕ × X)} (count k) free in
           let word = b.turns.turn k lt ∙ (total_one (λ y. count k y.held) s.views id v at (no_held k) ∙ zero_held) in
           let h = b.turns.home k lt word in (h.0, slot k (Some h.0) h.1, h.2)),
+      paid,
+      (let a = fresh_one in let c = b.charges.passed in omega arith),
+      b.stops.cause,
     )
 
 pub get_snoc : {A : Type 0} (xs : List A) (x y : A) (k : ℕ) → slice_get (xs ++ x ∷ []) k ≡ Some y → (slice_get xs k ≡ Some y) ⊎ ((k ≡ length xs) × (x ≡ y))
@@ -96,7 +110,7 @@ within [] k x e = absurd (let q : None ≡ Some x = e in cc)
 within (y ∷ ys) zero x e = omega arith
 within (y ∷ ys) (suc k) x e = let r = within ys k x e in omega arith
 
-pub record AtEnd {Store E X : Type 0} (m : Meaning Store E X) (opened : List X) (entries : List (ℕ × E)) (slots : List (Option X)) : Type 0 where
+pub record AtEnd {Store E X : Type 0} (m : Meaning Store E X) (opened : List X) (terms : Terms) (entries : List (ℕ × E)) (t : Tally E) (words : List ℕ) (slots : List (Option X)) : Type 0 where
   pub store : Store
   pub log : List E
   pub opens : (k : ℕ) (x : X) → slice_get opened k ≡ Some x → m.projects store k x
@@ -105,19 +119,28 @@ pub record AtEnd {Store E X : Type 0} (m : Meaning Store E X) (opened : List X) 
   pub numbers : Each (λ n e. slice_get log n ≡ Some e) entries
   pub once : (n : ℕ) → count n entries ≡ once_below n (length log)
   pub home : (k : ℕ) → k < 64 → (x : X) × (get_elem? slots k ≡ some (Some x)) × m.projects (store_after m store log) k x
+  pub paid : get_or words 65 0 ≡ terms.spent + (cost m.price t.settled + cost m.price t.fresh)
+  pub bounded : terms.spent + cost m.price t.settled ≤ max terms.spent terms.limit
+  pub over : 0 < t.over → terms.limit < get_or words 65 0
+  pub cause : (get_or words 66 0 ≡ 0) ⊎ ((get_or words 66 0 ≡ 1) ⊎ ((get_or words 66 0 ≡ 2) × FaultIn m.faults log))
+  pub no_memory : 0 < t.no_memory → get_or words 66 0 ≡ 1
+  pub fault : 0 < t.fault → get_or words 66 0 ≡ 2
 
-pub at_end : {Store E X : Type 0} (m : Meaning Store E X) (opened : List X) (seats id n : ℕ) (me : Me (Option X) (View E X)) (all : List (ℕ × E)) (words : List ℕ) (slots : List (Option X))
-    → Final (Seen (HubRule m opened seats) id me.0) words slots → me ≡ (view (32 * n) all [] [], []) → n ≡ seats → AtEnd m opened all slots
-at_end {E = E} {X = X} m opened seats id n me all words slots f is count_is =
+pub at_end : {Store E X : Type 0} (m : Meaning Store E X) (opened : List X) (terms : Terms) (id n : ℕ) (me : Me (Option X) (View E X)) (all : List (ℕ × E)) (t : Tally E) (words : List ℕ) (slots : List (Option X))
+    → Final (Seen (HubRule m opened terms) id me.0) words slots → me ≡ (view (32 * n) all [] [] t, []) → n ≡ terms.seats → AtEnd m opened terms all t words slots
+at_end {E = E} {X = X} m opened terms id n me all t words slots f is count_is =
     let entries : me.0.entries ≡ all = ap {A = Me (Option X) (View E X)} (λ q. q.0.entries) is in
-    let part : me.0.parts ≡ 32 * seats = ap {A = Me (Option X) (View E X)} (λ q. q.0.parts) is ∙ ap {A = ℕ} (λ k. 32 * k) count_is in
-    let h = final m opened seats id me.0 f.0 slots f.1.0 f.1.1 part (ap {A = Me (Option X) (View E X)} (λ q. q.0.held) is) f.4 in
-    let P : List (ℕ × E) → Type 0 = λ l. AtEnd m opened l slots in
-    subst P entries (record { store = h.0; log = h.1; opens = h.2; legal = h.3; long = h.4; numbers = h.5; once = h.6; home = h.7 })
+    let part : me.0.parts ≡ 32 * terms.seats = ap {A = Me (Option X) (View E X)} (λ q. q.0.parts) is ∙ ap {A = ℕ} (λ k. 32 * k) count_is in
+    let h = final m opened terms id me.0 f.0 slots f.1.0 f.1.1 part (ap {A = Me (Option X) (View E X)} (λ q. q.0.held) is) f.4 in
+    let tallied : me.0.tally ≡ t = ap {A = Me (Option X) (View E X)} (λ q. q.0.tally) is in
+    let b = f.1.0 in let at = f.1.1 in let same : f.0.words ≡ words = f.2 in
+    let P : List (ℕ × E) → Tally E → List ℕ → Type 0 = λ l u ws. AtEnd m opened terms l u ws slots in
+    subst (λ l. P l t words) entries (subst (λ u. P me.0.entries u words) tallied (subst (P me.0.entries me.0.tally) same
+    (record { store = h.0; log = h.1; opens = h.2; legal = h.3; long = h.4; numbers = h.5; once = h.6; home = h.7; paid = h.8; bounded = h.9; over = b.charges.over id me.0 at; cause = h.10; no_memory = b.stops.no_memory id me.0 at; fault = b.stops.fault id me.0 at })))
 
-pub shown_all : {Store E X : Type 0} (m : Meaning Store E X) (opened : List X) (all : List (ℕ × E)) (slots : List (Option X)) (out : List X) (a : AtEnd m opened all slots) → length out ≡ 64
+pub shown_all : {Store E X : Type 0} (m : Meaning Store E X) (opened : List X) (terms : Terms) (all : List (ℕ × E)) (t : Tally E) (words : List ℕ) (slots : List (Option X)) (out : List X) (a : AtEnd m opened terms all t words slots) → length out ≡ 64
     → ((k : ℕ) (x : X) → slice_get out k ≡ Some x → get_elem? slots k ≡ some (Some x)) → (k : ℕ) (x : X) → slice_get out k ≡ Some x → m.projects (store_after m a.store a.log) k x
-shown_all {X = X} m opened all slots out a long items k x e =
+shown_all {X = X} m opened terms all t words slots out a long items k x e =
     let h = a.home k (let b = within out k x e in omega arith) in
     let q : Some h.0 ≡ Some x = some-injective (Some h.0) (Some x) (sym h.1 ∙ items k x e) in
     let same : h.0 ≡ x = cc in
@@ -219,13 +242,53 @@ each_of P f [] h k d lt = absurd (omega arith)
 each_of P f (x ∷ xs) h zero d lt = (each_cut P (f x) (all_of f xs) h).0
 each_of P f (x ∷ xs) h (suc k) d lt = each_of P f xs (each_cut P (f x) (all_of f xs) h).1 k d (omega arith)
 
+pub total_all_of : {A B : Type 0} (g : B → ℕ) (f : A → List B) (xs : List A) → total g (all_of f xs) ≡ total (λ x. total g (f x)) xs
+total_all_of g f [] = refl
+total_all_of g f (x ∷ xs) = total_both g (f x) (all_of f xs) ∙ ap (λ (n : ℕ). total g (f x) + n) (total_all_of g f xs)
+
+pub total_plus : {A : Type 0} (f g : A → ℕ) (xs : List A) → total (λ x. f x + g x) xs ≡ total f xs + total g xs
+total_plus f g [] = refl
+total_plus f g (x ∷ xs) = let r = total_plus f g xs in omega arith
+
+-- what all charged entries cost
+pub charged_total : {A E : Type 0} (price : E → ℕ) (f g : A → List (ℕ × E)) (xs : List A) → cost price (all_of f xs) + cost price (all_of g xs) ≡ total (λ x. cost price (f x ++ g x)) xs
+charged_total price f g [] = refl
+charged_total price f g (x ∷ xs) =
+    let r = charged_total price f g xs in
+    let a = total_both (λ p. price p.1) (f x) (all_of f xs) in let c = total_both (λ p. price p.1) (g x) (all_of g xs) in let d = total_both (λ p. price p.1) (f x) (g x) in omega arith
+
+-- a stop for a fault has an entry that is one
+pub fault_told : {E : Type 0} (faults : E → Bool) (log : List E) (word : ℕ) (stop : Option StopCause) → stop ≡ cause_at word
+    → ((word ≡ 0) ⊎ ((word ≡ 1) ⊎ ((word ≡ 2) × FaultIn faults log))) → FaultCause faults stop log
+fault_told faults log word stop is c fault = ⊎_elim
+    (λ z. absurd (let q : None ≡ Some Fault = sym (is ∙ ap cause_at z) ∙ fault in cc))
+    (λ r. ⊎_elim (λ o. absurd (let q : Some NoMemory ≡ Some Fault = sym (is ∙ ap cause_at o) ∙ fault in cc)) (λ t. (t.1.0, t.1.1, get_some log t.1.0 t.1.1 t.1.2, t.1.3)) r) c
+
+-- where a seat found the hub to stop, there is a cause
+pub stop_is : (no_memory fault word : ℕ) (stop : Option StopCause) → stop ≡ cause_at word → (0 < no_memory → word ≡ 1) → (0 < fault → word ≡ 2) → 0 < no_memory + fault → IsSome stop
+stop_is no_memory fault word stop is one two more =
+    let P : ℕ → Type 0 = λ n. IsSome (cause_at n) in
+    subst (λ (o : Option StopCause). IsSome o) (sym is) (dite (dec_le 1 no_memory) (λ le. subst P (sym (one (omega arith))) refl) (λ nle. subst P (sym (two (omega arith))) refl))
+
+-- what follows from a sum follows from each part
+pub some_of : {A : Type 0} (f : A → ℕ) (P : Type 0) (xs : List A) → (0 < total f xs → P) → All (λ x. 0 < f x → P) xs
+some_of f P [] h k d lt = absurd (omega arith)
+some_of f P (x ∷ xs) h zero d lt = λ more. h (omega arith)
+some_of f P (x ∷ xs) h (suc k) d lt = some_of f P xs (λ more. h (omega arith)) k d (omega arith)
+
+-- the word that was found
+pub word_is : (words : List ℕ) (i n : ℕ) → get_elem? words i ≡ some n → get_or words i 0 ≡ n
+word_is [] i n e = absurd (some-ne-none n (sym e))
+word_is (w ∷ ws) zero n e = some-injective w n e
+word_is (w ∷ ws) (suc i) n e = word_is ws i n e
+
 pub length_all_of : {A T : Type 0} (f : A → List T) (xs : List A) → length (all_of f xs) ≡ total (λ x. length (f x)) xs
 length_all_of f [] = refl
 length_all_of f (x ∷ xs) = length-append (f x) (all_of f xs) ∙ ap (λ (n : ℕ). length (f x) + n) (length_all_of f xs)
 
--- the run, told of the entries in order
-pub ran_in_order : {Store E X : Type 0} (m : Meaning Store E X) (opened : List X) (all : List (ℕ × E)) (closed : List X) (out : List E) → RanBy m opened all closed
-    → length out ≡ length all → Each (λ n e. slice_get out n ≡ Some e) all → Ran m opened out closed
-ran_in_order {E = E} m opened all closed out r long each =
-    let P : List E → Type 0 = λ l. Ran m opened l closed in
-    subst P (same_things out r.0 all long r.2 r.4 each r.3) r.1
+-- the run, and what is said of its list, told of the entries in order
+pub ran_in_order : {Store E X : Type 0} (m : Meaning Store E X) (opened : List X) (all : List (ℕ × E)) (closed : List X) (out : List E) (Q : List E → Type 0) → RanBy m opened all closed Q
+    → length out ≡ length all → Each (λ n e. slice_get out n ≡ Some e) all → Ran m opened out closed × Q out
+ran_in_order {E = E} m opened all closed out Q r long each =
+    let P : List E → Type 0 = λ l. Ran m opened l closed × Q l in
+    subst P (same_things out r.0 all long r.3 r.5 each r.4) (r.2, r.1)

@@ -45,7 +45,7 @@ module _ {Store E X : Type 0} (m : Meaning Store E X) where
   taken_on p q f n t = record { table = t.table; id = t.id; view = t.view; out = t.out; below = below_up n q.me.0.held t.below; falls = t.falls; carries = t.carries }
 
   pub taken_more : (p q r : Seat (Option X) (View E X)) (f f' : ℕ → Option X) (k : ℕ) (x : X) → Taken m p q f k
-      → r.table_id ≡ q.table_id → r.id ≡ q.id → r.me.0 ≡ view q.me.0.parts q.me.0.entries ((k, x) ∷ q.me.0.held) q.me.0.since → r.me.1 ≡ (k, None) ∷ q.me.1
+      → r.table_id ≡ q.table_id → r.id ≡ q.id → r.me.0 ≡ view q.me.0.parts q.me.0.entries ((k, x) ∷ q.me.0.held) q.me.0.since q.me.0.tally → r.me.1 ≡ (k, None) ∷ q.me.1
       → f' k ≡ Some x → ((j : ℕ) → j ≢ k → f' j ≡ f j) → Taken m p r f' (k + 1)
   taken_more p q r f f' k x t table id me out here same =
       let hs : r.me.0.held ≡ (k, x) ∷ q.me.0.held = ap (λ v. v.held) me in
@@ -142,6 +142,7 @@ module _ {Store E X : Type 0} (m : Meaning Store E X) where
         id = id ∙ g.id;
         parts = ap {A = View E X} (λ v. v.parts) me ∙ g.parts;
         entries = ap {A = View E X} (λ v. v.entries) me ∙ g.entries;
+        tally = ap {A = View E X} (λ v. v.tally) me ∙ g.tally;
         since = after ∙ (forgot ∙ ap {A = List (ℕ × X)} (λ l. since_after l p.me.0.since) (sym held));
         out = out;
         below = all.0;
@@ -176,6 +177,7 @@ module _ {Store E X : Type 0} (m : Meaning Store E X) where
         id = g.id;
         parts = g.parts;
         entries = g.entries;
+        tally = g.tally;
         since = g.since;
         out = g.out;
         below = low;

@@ -1,4 +1,6 @@
 pub mod Sums
+pub mod Tallies
+pub mod Charges
 pub mod Turns
 pub mod Loops
 pub mod Groups

@@ -13,7 +13,7 @@ Stays p q = (q.table_id ≡ p.table_id) × (q.id ≡ p.id) × (q.me ≡ p.me)
 pub record Taken {Store E X : Type 0} (m : Meaning Store E X) (p q : Seat (Option X) (View E X)) (f : ℕ → Option X) (n : ℕ) : Type 0 where
   pub table : q.table_id ≡ p.table_id
   pub id : q.id ≡ p.id
-  pub view : q.me.0 ≡ view p.me.0.parts p.me.0.entries q.me.0.held []
+  pub view : q.me.0 ≡ view p.me.0.parts p.me.0.entries q.me.0.held [] p.me.0.tally
   pub out : q.me.1 ≡ emptied q.me.0.held
   pub below : below n q.me.0.held ≡ true
   pub falls : descends q.me.0.held ≡ true
@@ -25,6 +25,7 @@ pub record Giving {Store E X : Type 0} (m : Meaning Store E X) (p q : Seat (Opti
   pub id : q.id ≡ p.id
   pub parts : q.me.0.parts ≡ p.me.0.parts
   pub entries : q.me.0.entries ≡ p.me.0.entries
+  pub tally : q.me.0.tally ≡ p.me.0.tally
   pub since : q.me.0.since ≡ since_after q.me.0.held p.me.0.since
   pub out : q.me.1 ≡ emptied q.me.0.held
   pub below : below n q.me.0.held ≡ true

@@ -30,6 +30,10 @@ module _ {A : Type 0} where
   total_more f [] v = omega arith
   total_more f (x ∷ xs) v = let r = total_more f xs v in omega arith
 
+  pub total_both : (f : A → ℕ) (xs ys : List A) → total f (xs ++ ys) ≡ total f xs + total f ys
+  total_both f [] ys = omega arith
+  total_both f (x ∷ xs) ys = let r = total_both f xs ys in omega arith
+
   pub count_more : (n : ℕ) (ps qs : List (ℕ × A)) → count n (ps ++ qs) ≡ count n ps + count n qs
   count_more n [] qs = omega arith
   count_more n (p ∷ ps) qs = let r = count_more n ps qs in omega arith

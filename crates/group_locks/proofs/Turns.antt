@@ -11,10 +11,13 @@ use Rattle.atomic_table.specs.Table.{State, Me, Act, keeps, takes, gives, step, 
 use Rattle.atomic_table.proofs.Lists.{at_set, set_here, set_else, set_again, exchanged}
 use Rattle.std.proofs.lemmas.List.{set-get_or}
 use Rattle.group_locks.specs.declared.view.View.{View}
+use Rattle.group_locks.specs.declared.view.Tally.{Tally}
+use Rattle.group_locks.specs.declared.terms.Terms.{Terms}
 use Rattle.group_locks.specs.Counts.{one_if, count, total, Each}
 use Rattle.group_locks.specs.Meaning.{Meaning, Follows}
 use Rattle.group_locks.specs.Rule.{view, TurnRule, DrawRule, HubRule, Took, Gave, since_after}
 use Rattle.group_locks.proofs.Sums.{total_set, total_same}
+use Rattle.group_locks.proofs.Tallies.{charges_stay, stops_stay}
 
 -- the books stay where a view keeps what is its own in them
 pub books_stay : {E X : Type 0} (seats : ℕ) (log : List E) (word word' : ℕ) (views : List (View E X)) (id : ℕ) (v w : View E X)
@@ -30,10 +33,10 @@ books_stay seats log word word' views id v w same at entries parts b = record {
 
 module _ {Store E X : Type 0} (m : Meaning Store E X) where
   abbrev took : View E X → ℕ → X → View E X
-  took v k x = view v.parts v.entries ((k, x) ∷ v.held) v.since
+  took v k x = view v.parts v.entries ((k, x) ∷ v.held) v.since v.tally
 
   turned_take : (now : Store) (words : List ℕ) (homes : List (opt.Option (Option X))) (views : List (View E X)) (id k : ℕ) (v : View E X) (x : X)
-      → length words ≡ 65 → k < 64 → 0 < v.parts → get_elem? views id ≡ some v → v.since ≡ [] → get_or words (k + 1) 0 ≡ 0 → m.projects now k x
+      → length words ≡ 67 → k < 64 → 0 < v.parts → get_elem? views id ≡ some v → v.since ≡ [] → get_or words (k + 1) 0 ≡ 0 → m.projects now k x
       → TurnRule m now words homes views → TurnRule m now (set words (k + 1) 1) (set homes k none) (set views id (took v k x))
   turned_take now words homes views id k v x wide lt part at since free shown t =
       let w : View E X = took v k x in
@@ -62,18 +65,18 @@ module _ {Store E X : Type 0} (m : Meaning Store E X) where
       }
 
   -- a step that changes nothing
-  pub unchanged : (opened : List X) (seats : ℕ) (s : State (Option X) (View E X)) (i id : ℕ) (v : View E X) (c : List (ℕ × Option X)) → get_elem? s.views id ≡ some v → HubRule m opened seats s
-      → HubRule m opened seats (stepped s i (get_or s.words i 0) id c v keeps)
-  unchanged opened seats s i id v c at b =
-      let P : List ℕ → Type 0 = λ ws. HubRule m opened seats (record { words = ws; homes = s.homes; views = set s.views id v }) in
-      let Q : List (View E X) → Type 0 = λ vs. HubRule m opened seats (record { words = s.words; homes = s.homes; views = vs }) in
+  pub unchanged : (opened : List X) (terms : Terms) (s : State (Option X) (View E X)) (i id : ℕ) (v : View E X) (c : List (ℕ × Option X)) → get_elem? s.views id ≡ some v → HubRule m opened terms s
+      → HubRule m opened terms (stepped s i (get_or s.words i 0) id c v keeps)
+  unchanged opened terms s i id v c at b =
+      let P : List ℕ → Type 0 = λ ws. HubRule m opened terms (record { words = ws; homes = s.homes; views = set s.views id v }) in
+      let Q : List (View E X) → Type 0 = λ vs. HubRule m opened terms (record { words = s.words; homes = s.homes; views = vs }) in
       subst P (sym (set-get_or s.words i 0)) (subst Q (sym (set_again s.views id v at)) b)
 
-  pub take_turn : (opened : List X) (seats : ℕ) (slots id k : ℕ) (v : View E X) (c : List (ℕ × Option X)) → k < 64 → 0 < v.parts → v.since ≡ []
-      → Allows (HubRule m opened seats) slots id (v, c) (k + 1) (λ n. either (eqb n 0) 1 n) (Took (step slots (k + 1) 0 1 none) (v, c))
-  take_turn opened seats slots id k v c lt part since s b len at fits =
+  pub take_turn : (opened : List X) (terms : Terms) (slots id k : ℕ) (v : View E X) (c : List (ℕ × Option X)) → k < 64 → 0 < v.parts → v.since ≡ []
+      → Allows (HubRule m opened terms) slots id (v, c) (k + 1) (λ n. either (eqb n 0) 1 n) (Took (step slots (k + 1) 0 1 none) (v, c))
+  take_turn opened terms slots id k v c lt part since s b len at fits =
       let n : ℕ = get_or s.words (k + 1) 0 in
-      let F : ℕ → Type 0 = λ n'. (w : View E X) × (a : Act (Option X)) × Valid s.homes c a × HubRule m opened seats (stepped s (k + 1) n' id c w a) × Took (step slots (k + 1) 0 1 none) (v, c) n (w, carried_after c a) in
+      let F : ℕ → Type 0 = λ n'. (w : View E X) × (a : Act (Option X)) × Valid s.homes c a × HubRule m opened terms (stepped s (k + 1) n' id c w a) × Took (step slots (k + 1) 0 1 none) (v, c) n (w, carried_after c a) in
       exchanged n 0 1 F
       (λ free. let h = b.turns.home k lt free in (
         took v k h.0,
@@ -88,23 +91,25 @@ module _ {Store E X : Type 0} (m : Meaning Store E X) where
           opens = b.opens;
           legal = b.legal;
           turns = turned_take _ s.words s.homes s.views id k v h.0 b.wide lt part at since free h.2 b.turns;
-          draws = books_stay seats b.log _ _ s.views id v (took v k h.0) (get_or-set_other s.words (k + 1) 0 1 0 (λ e. omega arith)) at refl refl b.draws;
+          draws = books_stay terms.seats b.log _ _ s.views id v (took v k h.0) (get_or-set_other s.words (k + 1) 0 1 0 (λ e. omega arith)) at refl refl b.draws;
+          charges = charges_stay m.price terms (get_or s.words 65 0) _ s.views id v (took v k h.0) (get_or-set_other s.words (k + 1) 65 1 0 (λ e. omega arith)) at refl refl refl refl b.charges;
+          stops = stops_stay m.faults b.log (get_or s.words 66 0) _ s.views id v (took v k h.0) (get_or-set_other s.words (k + 1) 66 1 0 (λ e. omega arith)) at refl refl b.stops;
         },
         ((λ _. (k, h.0, refl, refl)), (λ ne. absurd (ne free))),
       ))
-      (λ ne. (v, keeps, tt, unchanged opened seats s (k + 1) id v c at b, ((λ free. absurd (ne free)), (λ _. refl))))
+      (λ ne. (v, keeps, tt, unchanged opened terms s (k + 1) id v c at b, ((λ free. absurd (ne free)), (λ _. refl))))
 
   pub held_still : (now : Store) (since : List E) (hs : List (ℕ × X)) → Each (λ n a. (n < 64) × ((z : X) → Follows m since n a z → m.projects now n z)) hs
       → Each (λ n a. (n < 64) × ((z : X) → Follows m (since_after hs since) n a z → m.projects now n z)) hs
   held_still now since [] h = tt
   held_still now since (p ∷ ps) h = h
 
-  turned_give : (now : Store) (words : List ℕ) (homes : List (opt.Option (Option X))) (views : List (View E X)) (id k parts : ℕ) (entries : List (ℕ × E)) (hs : List (ℕ × X)) (since : List E) (x y : X)
-      → length words ≡ 65 → length homes ≡ 64 → get_elem? views id ≡ some (view parts entries ((k, x) ∷ hs) since) → Follows m since k x y
-      → TurnRule m now words homes views → TurnRule m now (set words (k + 1) 0) (set homes k (some (Some y))) (set views id (view parts entries hs (since_after hs since)))
-  turned_give now words homes views id k parts entries hs since x y wide long at goes t =
-      let v : View E X = view parts entries ((k, x) ∷ hs) since in
-      let w : View E X = view parts entries hs (since_after hs since) in
+  turned_give : (now : Store) (words : List ℕ) (homes : List (opt.Option (Option X))) (views : List (View E X)) (id k parts : ℕ) (entries : List (ℕ × E)) (hs : List (ℕ × X)) (since : List E) (t' : Tally E) (x y : X)
+      → length words ≡ 67 → length homes ≡ 64 → get_elem? views id ≡ some (view parts entries ((k, x) ∷ hs) since t') → Follows m since k x y
+      → TurnRule m now words homes views → TurnRule m now (set words (k + 1) 0) (set homes k (some (Some y))) (set views id (view parts entries hs (since_after hs since) t'))
+  turned_give now words homes views id k parts entries hs since t' x y wide long at goes t =
+      let v : View E X = view parts entries ((k, x) ∷ hs) since t' in
+      let w : View E X = view parts entries hs (since_after hs since) t' in
       let mine_held = t.held id v at in
       let lt : k < 64 = mine_held.0.0 in
       let sums : (j : ℕ) → total (λ u. count j u.held) (set views id w) + (one_if (eqb k j) + count j hs) ≡ total (λ u. count j u.held) views + count j hs = λ j. total_set (λ u. count j u.held) views id v w at in
@@ -129,13 +134,13 @@ module _ {Store E X : Type 0} (m : Meaning Store E X) where
             (λ s. t.held j u s.1) (at_set views id j w u bt);
       }
 
-  pub give_turn : (opened : List X) (seats : ℕ) (slots id k : ℕ) (v : View E X) (c cs : List (ℕ × Option X)) (hs : List (ℕ × X)) (x y : X)
+  pub give_turn : (opened : List X) (terms : Terms) (slots id k : ℕ) (v : View E X) (c cs : List (ℕ × Option X)) (hs : List (ℕ × X)) (x y : X)
       → v.held ≡ (k, x) ∷ hs → c ≡ (k, Some y) ∷ cs → Follows m v.since k x y
-      → Allows (HubRule m opened seats) slots id (v, c) (k + 1) (λ _. 0) (λ _. Gave (step slots (k + 1) 0 0 none) (v, c) 0)
-  give_turn opened seats slots id k v c cs hs x y has out goes =
-      let P : List (ℕ × X) → List (ℕ × Option X) → Type 0 = λ h d. Allows (HubRule m opened seats) slots id (view v.parts v.entries h v.since, d) (k + 1) (λ _. 0) (λ _. Gave (step slots (k + 1) 0 0 none) (view v.parts v.entries h v.since, d) 0) in
-      subst (λ h. P h c) (sym has) (subst (P ((k, x) ∷ hs)) (sym out) (λ s b len at fits. (
-        view v.parts v.entries hs (since_after hs v.since),
+      → Allows (HubRule m opened terms) slots id (v, c) (k + 1) (λ _. 0) (λ _. Gave (step slots (k + 1) 0 0 none) (v, c) 0)
+  give_turn opened terms slots id k v c cs hs x y has out goes =
+      let P : List (ℕ × X) → List (ℕ × Option X) → Type 0 = λ h d. Allows (HubRule m opened terms) slots id (view v.parts v.entries h v.since v.tally, d) (k + 1) (λ _. 0) (λ _. Gave (step slots (k + 1) 0 0 none) (view v.parts v.entries h v.since v.tally, d) 0) in
+      subst (λ h. P h c) (sym has) (subst (P ((k, x) ∷ hs)) (sym out) (λ s b len at fits. let lt : k < 64 = (b.turns.held id (view v.parts v.entries ((k, x) ∷ hs) v.since v.tally) at).0.0 in (
+        view v.parts v.entries hs (since_after hs v.since) v.tally,
         gives,
         tt,
         record {
@@ -146,18 +151,20 @@ module _ {Store E X : Type 0} (m : Meaning Store E X) where
           few = b.few;
           opens = b.opens;
           legal = b.legal;
-          turns = turned_give _ s.words s.homes s.views id k v.parts v.entries hs v.since x y b.wide b.long at goes b.turns;
-          draws = books_stay seats b.log _ _ s.views id (view v.parts v.entries ((k, x) ∷ hs) v.since) (view v.parts v.entries hs (since_after hs v.since)) (get_or-set_other s.words (k + 1) 0 0 0 (λ e. omega arith)) at refl refl b.draws;
+          turns = turned_give _ s.words s.homes s.views id k v.parts v.entries hs v.since v.tally x y b.wide b.long at goes b.turns;
+          draws = books_stay terms.seats b.log _ _ s.views id (view v.parts v.entries ((k, x) ∷ hs) v.since v.tally) (view v.parts v.entries hs (since_after hs v.since) v.tally) (get_or-set_other s.words (k + 1) 0 0 0 (λ e. omega arith)) at refl refl b.draws;
+          charges = charges_stay m.price terms (get_or s.words 65 0) _ s.views id (view v.parts v.entries ((k, x) ∷ hs) v.since v.tally) (view v.parts v.entries hs (since_after hs v.since) v.tally) (get_or-set_other s.words (k + 1) 65 0 0 (λ e. omega arith)) at refl refl refl refl b.charges;
+          stops = stops_stay m.faults b.log (get_or s.words 66 0) _ s.views id (view v.parts v.entries ((k, x) ∷ hs) v.since v.tally) (view v.parts v.entries hs (since_after hs v.since) v.tally) (get_or-set_other s.words (k + 1) 66 0 0 (λ e. omega arith)) at refl refl b.stops;
         },
         refl,
       )))
 
 -- what is known of a seat that has just taken the turn of k
 pub took_here : {E X : Type 0} (slots k : ℕ) (a b : Me (Option X) (View E X)) (r : ℕ) → Took (step slots (k + 1) 0 1 none) a r b → r ≡ 0
-    → (x : X) × (b ≡ (view a.0.parts a.0.entries ((k, x) ∷ a.0.held) a.0.since, (k, Some x) ∷ a.1))
+    → (x : X) × (b ≡ (view a.0.parts a.0.entries ((k, x) ∷ a.0.held) a.0.since a.0.tally, (k, Some x) ∷ a.1))
 took_here {X = X} slots k a b r h z = let g = h.0 z in
     let same : g.0 ≡ k = let e = g.2 in omega arith in
-    let P : ℕ → Type 0 = λ i. b ≡ (view a.0.parts a.0.entries ((i, g.1) ∷ a.0.held) a.0.since, (i, Some g.1) ∷ a.1) in (g.1, subst P same g.3)
+    let P : ℕ → Type 0 = λ i. b ≡ (view a.0.parts a.0.entries ((i, g.1) ∷ a.0.held) a.0.since a.0.tally, (i, Some g.1) ∷ a.1) in (g.1, subst P same g.3)
 
 pub heads : {A : Type 0} (l cs : List (ℕ × A)) (p : ℕ × A) → l ≡ p ∷ cs → l ≡ p ∷ rest l
 heads l cs p e = e ∙ ap (λ t. p ∷ rest t) (sym e)

@@ -1,5 +1,5 @@
 -- What a scene means, and the laws that it keeps.
-use Rattle.std.specs.Prelude.{◌≡◌, ℕ, Bool, true, false, List, [], ◌∷◌}
+use Rattle.std.specs.Prelude.{◌≡◌, ℕ, ◌≤◌, ◌^◌, Bool, true, false, List, [], ◌∷◌}
 use Rattle.group_locks.specs.Counts.{Each, Projected}
 
 -- The meaning of a scene. A store is what all shards together stand for, and an entry is an event that changes it.
@@ -14,6 +14,10 @@ pub record Meaning (Store Entry Shard : Type 0) : Type 1 where
   pub touched : Entry → ℕ → Bool
   -- what the entry may make of the shard of this number, which it touches
   pub effect : Entry → ℕ → Shard → Shard → Type 0
+  -- what an entry costs
+  pub price : Entry → ℕ
+  -- an entry is a fault
+  pub faults : Entry → Bool
   -- these shards, by number and as they stand before the entry, tell that it is allowed
   pub tells : List (ℕ × Shard) → Entry → Type 0
 
@@ -46,11 +50,12 @@ module _ {Store Entry Shard : Type 0} (m : Meaning Store Entry Shard) where
   AllFollow es (p ∷ ps) (q ∷ qs) = (q.0 ≡ p.0) × Follows es p.0 p.1 q.1 × AllFollow es ps qs
 
   -- The laws of a scene. An entry changes no shard that it doesn't touch; the projection of the store after an allowed entry is its effect on each
-  -- shard that it touches; and after every allowed list, what projections of the store tell to be allowed is allowed.
+  -- shard that it touches; after every allowed list, what projections of the store tell to be allowed is allowed; and an entry costs at most 2^56.
   pub record Lawful : Type 0 where
     pub untouched : (st : Store) (e : Entry) (k : ℕ) (x : Shard) → m.touched e k ≡ false → m.projects st k x → m.projects (m.after st e) k x
     pub projection : (st : Store) (e : Entry) (k : ℕ) (x y : Shard) → m.allows st e → m.touched e k ≡ true → m.projects st k x → m.effect e k x y → m.projects (m.after st e) k y
     pub told : (st : Store) (log : List Entry) (shards : List (ℕ × Shard)) (e : Entry) → Allowed st log → Each (m.projects (store_after st log)) shards → m.tells shards e → m.allows (store_after st log) e
+    pub cheap : (e : Entry) → m.price e ≤ 2 ^ 56
 
   -- there is a store that the opened shards project, from which the entries are an allowed list, and the closed shards project the store after them
   abbrev pub Ran : List Shard → List Entry → List Shard → Type 0

@@ -1,6 +1,6 @@
 -- The scene of numbers, which tests use: each shard is a number, and the work w adds 1 to the shard of its remainder by 64.
-use Rattle.std.specs.Prelude.{◌≡◌, ℕ, ◌+◌, ◌%◌, ◌^◌, ◌<◌, ◌⊎◌, Bool, cond, ◌==◌, List, [], ◌∷◌}
-use Rattle.std.proofs.Common.{sym, ap, subst, ◌∙◌, ⊎_elim}
+use Rattle.std.specs.Prelude.{◌≡◌, ℕ, ◌+◌, ◌%◌, ◌^◌, ◌<◌, ◌⊎◌, Bool, false, cond, ◌==◌, List, [], ◌∷◌}
+use Rattle.std.proofs.Common.{sym, ap, subst, ◌∙◌, ⊎_elim, arith}
 use Rattle.group_locks.specs.Counts.{Each}
 use Rattle.group_locks.specs.Meaning.{Meaning, Lawful, store_after}
 
@@ -33,9 +33,17 @@ Has (p ∷ ps) n x = ((p.0 ≡ n) × (p.1 ≡ x)) ⊎ Has ps n x
 abbrev pub HasSpace : List (ℕ × ℕ) → ℕ → Type 0
 HasSpace shards w = (x : ℕ) × Has shards (w % 64) x × (x + 1 < 2 ^ 64)
 
+-- each work costs 1
+abbrev pub cost_one : ℕ → ℕ
+cost_one w = 1
+
+-- no work is a fault
+abbrev pub never : ℕ → Bool
+never w = false
+
 -- what works mean
 abbrev pub numbers : Meaning (ℕ → ℕ) ℕ ℕ
-numbers = record { projects = IsNumber; after = added; allows = InRange; touched = touches; effect = OneMore; tells = HasSpace }
+numbers = record { projects = IsNumber; after = added; allows = InRange; touched = touches; effect = OneMore; price = cost_one; faults = never; tells = HasSpace }
 
 shown : (st : ℕ → ℕ) (shards : List (ℕ × ℕ)) (n x : ℕ) → Has shards n x → Each (IsNumber st) shards → st n ≡ x
 shown st [] n x h s = absurd h
@@ -47,4 +55,5 @@ lawful = record {
   untouched = λ st w k x z is. subst (λ b. cond b (st k + 1) (st k) ≡ x) (sym z) is;
   projection = λ st w k x y may yes is up. subst (λ b. cond b (st k + 1) (st k) ≡ y) (sym yes) (ap (λ n. n + 1) is ∙ sym up);
   told = λ st log shards w legal all tells. subst (λ n. n + 1 < 2 ^ 64) (sym (shown (store_after numbers st log) shards (w % 64) tells.0 tells.1 all)) tells.2;
+  cheap = λ w. omega arith;
 }

@@ -1,21 +1,32 @@
 -- What holds between any two steps of a hub, and what each step tells the seat that makes it.
 -- Word 0 counts the entries drawn. Word k + 1 is 1 while a seat has the turn of shard k, and else 0. Slot k holds shard k while nobody has its turn.
-use Rattle.std.specs.Prelude.{◌≡◌, ◌≢◌, ℕ, ◌+◌, ◌-◌, ◌*◌, ◌^◌, ◌<◌, ◌≤◌, Bool, true, List, [], ◌∷◌, ◌++◌, length, slice_index, slice_get, Option, Some, None, nat_lt, ◌&&◌}
+-- Word 65 is the charged word. Word 66 is the stop word: 0 while the hub runs, 1 where it stops for want of memory, 2 where it stops for a fault.
+use Rattle.std.specs.Prelude.{◌≡◌, ◌≢◌, ℕ, ◌+◌, ◌-◌, ◌*◌, ◌^◌, ◌<◌, ◌≤◌, ◌⊎◌, ◌==◌, Bool, true, false, cond, max, List, [], ◌∷◌, ◌++◌, length, slice_index, slice_get, Option, Some, None, nat_lt, ◌&&◌}
 use mathlib.Core.Option.{some, none}
 use mathlib.Core.Option as opt
 use lib.ListN.{get_elem?}
 use Rattle.atomic_table.specs.Table.{State, Me, Step, rest}
 use Rattle.group_locks.specs.declared.view.View.{View}
-use Rattle.group_locks.specs.Counts.{count, total, once_below, Each}
+use Rattle.group_locks.specs.declared.view.Tally.{Tally}
+use Rattle.group_locks.specs.declared.terms.Terms.{Terms}
+use Rattle.group_locks.specs.Counts.{one_if, count, total, once_below, Each}
 use Rattle.group_locks.specs.Meaning.{Meaning, store_after, Allowed, Follows, AllFollow, Ran}
 
+-- a tally, field by field
+abbrev pub tally : {E : Type 0} → List (ℕ × E) → List (ℕ × E) → List (ℕ × E) → Bool → ℕ → ℕ → ℕ → ℕ → ℕ → Tally E
+tally settled fresh due leave low over unset no_memory fault = record { settled = settled; fresh = fresh; due = due; leave = leave; low = low; over = over; unset = unset; no_memory = no_memory; fault = fault }
+
+-- nothing is charged or found
+abbrev pub blank : {E : Type 0} → Tally E
+blank = tally [] [] [] false 0 0 0 0 0
+
 -- a view, field by field
-abbrev pub view : {E X : Type 0} → ℕ → List (ℕ × E) → List (ℕ × X) → List E → View E X
-view parts entries held since = record { parts = parts; entries = entries; held = held; since = since }
+abbrev pub view : {E X : Type 0} → ℕ → List (ℕ × E) → List (ℕ × X) → List E → Tally E → View E X
+view parts entries held since tally = record { parts = parts; entries = entries; held = held; since = since; tally = tally }
 
 -- a seat with the parts of so many seats, which has drawn nothing and holds nothing
 abbrev pub newcomer : {E X : Type 0} → ℕ → View E X
-newcomer seats = view (32 * seats) [] [] []
+newcomer seats = view (32 * seats) [] [] [] blank
 
 module _ {Store E X : Type 0} (m : Meaning Store E X) (now : Store) (words : List ℕ) (homes : List (opt.Option (Option X))) (views : List (View E X)) where
   -- Turns. A turn word names at most one seat, whose view names the turn. A shard whose turn is free is in its slot, and is the projection of the
@@ -38,22 +49,51 @@ module _ {E X : Type 0} (seats : ℕ) (log : List E) (word : ℕ) (views : List 
     pub parts : total (λ v. v.parts) views ≡ 32 * seats
     pub small : (id : ℕ) (v : View E X) → get_elem? views id ≡ some v → length v.entries ≤ v.parts * 2 ^ 53
 
+-- what these entries cost
+abbrev pub cost : {E : Type 0} → (E → ℕ) → List (ℕ × E) → ℕ
+cost price es = total (λ p. price p.1) es
+
+module _ {E X : Type 0} (price : E → ℕ) (terms : Terms) (word : ℕ) (views : List (View E X)) where
+  -- Charges. The charged word is what was spent at the start and the prices of the charged entries. Less what each seat charged since it found the word
+  -- not above the limit, it is at most the greater of what was spent and the limit; each seat has at most one such charge, of at most 2^56, so the word
+  -- doesn't wrap. A view without parts has charged nothing that costs. Where a seat found the word above the limit, it is above the limit.
+  pub record ChargeRule : Type 0 where
+    pub low : (terms.spent < 2 ^ 62) × (terms.limit < 2 ^ 62)
+    pub paid : word ≡ terms.spent + total (λ v. cost price v.tally.settled + cost price v.tally.fresh) views
+    pub passed : word ≤ max terms.spent terms.limit + total (λ v. cost price v.tally.fresh) views
+    pub small : (id : ℕ) (v : View E X) → get_elem? views id ≡ some v → cost price v.tally.fresh ≤ v.parts * 2 ^ 51
+    pub idle : (id : ℕ) (v : View E X) → get_elem? views id ≡ some v → v.parts ≡ 0 → cost price v.tally.settled + cost price v.tally.fresh ≡ 0
+    pub over : (id : ℕ) (v : View E X) → get_elem? views id ≡ some v → 0 < v.tally.over → terms.limit < word
+
+-- one of these entries is a fault
+abbrev pub FaultIn : {E : Type 0} → (E → Bool) → List E → Type 0
+FaultIn {E = E} faults log = (n : ℕ) × (e : E) × (get_elem? log n ≡ some e) × (faults e ≡ true)
+
+module _ {E X : Type 0} (faults : E → Bool) (log : List E) (word : ℕ) (views : List (View E X)) where
+  -- The stop. The stop word is unset, or says want of memory, or says a fault, with an entry that is one. What a seat found in it once, it still says.
+  pub record StopRule : Type 0 where
+    pub cause : (word ≡ 0) ⊎ ((word ≡ 1) ⊎ ((word ≡ 2) × FaultIn faults log))
+    pub no_memory : (id : ℕ) (v : View E X) → get_elem? views id ≡ some v → 0 < v.tally.no_memory → word ≡ 1
+    pub fault : (id : ℕ) (v : View E X) → get_elem? views id ≡ some v → 0 < v.tally.fault → word ≡ 2
+
 -- The rule of a hub, between any two steps: the entries drawn, in order of number, are an allowed list from a store that the opened shards project, and
--- turns and draws are as they are to be.
-pub record HubRule {Store E X : Type 0} (m : Meaning Store E X) (opened : List X) (seats : ℕ) (s : State (Option X) (View E X)) : Type 0 where
+-- turns, draws, charges and the stop are as they are to be.
+pub record HubRule {Store E X : Type 0} (m : Meaning Store E X) (opened : List X) (terms : Terms) (s : State (Option X) (View E X)) : Type 0 where
   pub store : Store
   pub log : List E
-  pub wide : length s.words ≡ 65
+  pub wide : length s.words ≡ 67
   pub long : length s.homes ≡ 64
-  pub few : seats ≤ 32
+  pub few : terms.seats ≤ 32
   pub opens : (k : ℕ) (x : X) → get_elem? opened k ≡ some x → m.projects store k x
   pub legal : Allowed m store log
   pub turns : TurnRule m (store_after m store log) s.words s.homes s.views
-  pub draws : DrawRule seats log (slice_index s.words 0) s.views
+  pub draws : DrawRule terms.seats log (slice_index s.words 0) s.views
+  pub charges : ChargeRule m.price terms (slice_index s.words 65) s.views
+  pub stops : StopRule m.faults log (slice_index s.words 66) s.views
 
 -- a turn is taken, with what its slot holds, where the word was 0; else nothing changes
 abbrev pub Took : {E X : Type 0} → Step (Option X) → Me (Option X) (View E X) → ℕ → Me (Option X) (View E X) → Type 0
-Took st a r b = (r ≡ 0 → (k : ℕ) × (x : _) × (st.word ≡ k + 1) × (b ≡ (view a.0.parts a.0.entries ((k, x) ∷ a.0.held) a.0.since, (k, Some x) ∷ a.1))) × (r ≢ 0 → b ≡ a)
+Took st a r b = (r ≡ 0 → (k : ℕ) × (x : _) × (st.word ≡ k + 1) × (b ≡ (view a.0.parts a.0.entries ((k, x) ∷ a.0.held) a.0.since a.0.tally, (k, Some x) ∷ a.1))) × (r ≢ 0 → b ≡ a)
 
 -- what is known of entries is forgotten with the last shard
 abbrev pub since_after : {E X : Type 0} → List (ℕ × X) → List E → List E
@@ -62,15 +102,19 @@ since_after (p ∷ ps) es = es
 
 -- the view after the turn that was taken last is given back
 abbrev pub given_back : {E X : Type 0} → View E X → View E X
-given_back v = view v.parts v.entries (rest v.held) (since_after (rest v.held) v.since)
+given_back v = view v.parts v.entries (rest v.held) (since_after (rest v.held) v.since) v.tally
 
 -- a turn is given back
 abbrev pub Gave : {E X : Type 0} → Step (Option X) → Me (Option X) (View E X) → ℕ → Me (Option X) (View E X) → Type 0
 Gave st a r b = b ≡ (given_back a.0, rest a.1)
 
+-- an entry is drawn and not charged yet
+abbrev pub owes : {E : Type 0} → Tally E → ℕ → E → Tally E
+owes t n e = tally t.settled t.fresh (t.due ++ (n, e) ∷ []) false t.low t.over t.unset t.no_memory t.fault
+
 -- the view after this entry is drawn with this number
 abbrev pub after_draw : {E X : Type 0} → View E X → ℕ → E → View E X
-after_draw v n e = view v.parts (v.entries ++ (n, e) ∷ []) v.held (since_after v.held (v.since ++ e ∷ []))
+after_draw v n e = view v.parts (v.entries ++ (n, e) ∷ []) v.held (since_after v.held (v.since ++ e ∷ [])) (owes v.tally n e)
 
 -- the entry that was named is drawn, with the number found
 abbrev pub Drew : {E X : Type 0} → Option E → Step (Option X) → Me (Option X) (View E X) → ℕ → Me (Option X) (View E X) → Type 0
@@ -84,21 +128,61 @@ pub record MayDraw {Store E X : Type 0} (m : Meaning Store E X) (v : View E X) (
   pub follows : AllFollow m v.since v.held before
   pub tells : m.tells before e
 
+-- the view with this tally
+abbrev pub with_tally : {E X : Type 0} → View E X → Tally E → View E X
+with_tally v t = view v.parts v.entries v.held v.since t
+
+-- what was due is charged
+abbrev pub pays : {E : Type 0} → Tally E → Tally E
+pays t = tally t.settled (t.fresh ++ t.due) [] false t.low t.over t.unset t.no_memory t.fault
+
+-- the entries that were due are charged
+abbrev pub Paid : {E X : Type 0} → Step (Option X) → Me (Option X) (View E X) → ℕ → Me (Option X) (View E X) → Type 0
+Paid st a r b = b ≡ (with_tally a.0 (pays a.0.tally), a.1)
+
+-- the charged word was found above the limit
+abbrev pub saw_over : {E : Type 0} → Tally E → Tally E
+saw_over t = tally t.settled t.fresh t.due t.leave t.low (t.over + 1) t.unset t.no_memory t.fault
+
+-- the charged word was found not above the limit
+abbrev pub saw_low : {E : Type 0} → Tally E → Tally E
+saw_low t = tally (t.settled ++ t.fresh) [] t.due true (t.low + 1) t.over t.unset t.no_memory t.fault
+
+-- the charged word is read
+abbrev pub ReadCharged : {E X : Type 0} → ℕ → Step (Option X) → Me (Option X) (View E X) → ℕ → Me (Option X) (View E X) → Type 0
+ReadCharged limit st a r b = (limit < r → b ≡ (with_tally a.0 (saw_over a.0.tally), a.1)) × (r ≤ limit → b ≡ (with_tally a.0 (saw_low a.0.tally), a.1))
+
+-- this was found in the stop word
+abbrev pub saw_stop : {E : Type 0} → Tally E → ℕ → Tally E
+saw_stop t n = tally t.settled t.fresh t.due t.leave t.low t.over (t.unset + one_if (n == 0)) (t.no_memory + one_if (n == 1)) (t.fault + one_if (n == 2))
+
+-- the stop word is read
+abbrev pub ReadStop : {E X : Type 0} → Step (Option X) → Me (Option X) (View E X) → ℕ → Me (Option X) (View E X) → Type 0
+ReadStop st a r b = (r ≤ 2) × (b ≡ (with_tally a.0 (saw_stop a.0.tally r), a.1))
+
+-- the stop word is set where it was 0, and else stays; what it then is, is known
+abbrev pub Stopped : {E X : Type 0} → Step (Option X) → Me (Option X) (View E X) → ℕ → Me (Option X) (View E X) → Type 0
+Stopped st a r b = (r ≤ 2) × (b ≡ (with_tally a.0 (saw_stop a.0.tally (cond (r == 0) st.second r)), a.1))
+
 -- a seat with 32 parts is cut off
 abbrev pub cut_left : {E X : Type 0} → View E X → View E X
-cut_left v = view (v.parts - 32) v.entries v.held v.since
+cut_left v = view (v.parts - 32) v.entries v.held v.since v.tally
 
 -- the seat that was cut off
 abbrev pub cut_right : {E X : Type 0} → View E X
-cut_right = view 32 [] [] []
+cut_right = view 32 [] [] [] blank
+
+-- two tallies are made one
+abbrev pub both : {E : Type 0} → Tally E → Tally E → Tally E
+both t u = tally (t.settled ++ u.settled) (t.fresh ++ u.fresh) [] false 0 (t.over + u.over) 0 (t.no_memory + u.no_memory) (t.fault + u.fault)
 
 -- two seats are made one
 abbrev pub joined : {E X : Type 0} → View E X → View E X → View E X
-joined v w = view (v.parts + w.parts) (v.entries ++ w.entries) [] []
+joined v w = view (v.parts + w.parts) (v.entries ++ w.entries) [] [] (both v.tally w.tally)
 
 -- a seat that was joined to another has nothing left
 abbrev pub spent : {E X : Type 0} → View E X
-spent = view 0 [] [] []
+spent = view 0 [] [] [] blank
 
 -- a seat comes that has nothing
 abbrev pub Entered : {E X : Type 0} → Step (Option X) → Me (Option X) (View E X) → ℕ → Me (Option X) (View E X) → Type 0
@@ -123,7 +207,7 @@ descends (p ∷ ps) = below p.0 ps && descends ps
 abbrev pub Carries : {Store E X : Type 0} → Meaning Store E X → List E → List (ℕ × X) → (ℕ → Option X) → Type 0
 Carries m since held in_hand = Each (λ k x. (y : _) × (in_hand k ≡ Some y) × Follows m since k x y) held × ((k : ℕ) → count k held ≡ 0 → in_hand k ≡ None)
 
--- the numbered entries are those of a list that ran, each at its number and each number once
-abbrev pub RanBy : {Store E X : Type 0} → Meaning Store E X → List X → List (ℕ × E) → List X → Type 0
-RanBy {E = E} m opened entries closed =
-    (log : List E) × Ran m opened log closed × (length entries ≡ length log) × Each (λ n e. slice_get log n ≡ Some e) entries × ((n : ℕ) → count n entries ≡ once_below n (length log))
+-- the numbered entries are those of a list that ran, each at its number and each number once, and P holds of that list
+abbrev pub RanBy : {Store E X : Type 0} → Meaning Store E X → List X → List (ℕ × E) → List X → (List E → Type 0) → Type 0
+RanBy {E = E} m opened entries closed P =
+    (log : List E) × P log × Ran m opened log closed × (length entries ≡ length log) × Each (λ n e. slice_get log n ≡ Some e) entries × ((n : ℕ) → count n entries ≡ once_below n (length log))

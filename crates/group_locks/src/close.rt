@@ -1,10 +1,11 @@
 //! The end of a hub.
-ghost use Rattle.std.specs.Prelude.{◌≡◌, ℕ, ◌+◌, ◌*◌, ◌<◌, ◌≤◌, [], ◌++◌, Some, IfOk, IfErr, IfSome, length, slice_get, vec_capacity};
+ghost use Rattle.std.specs.Prelude.{◌≡◌, ℕ, ◌+◌, ◌*◌, ◌<◌, ◌≤◌, [], ◌++◌, Some, IfOk, OnOk, IfErr, IfSome, IsSome, max, length, slice_get, vec_capacity};
 ghost use Rattle.std.specs.List.{All};
 ghost use Rattle.group_locks.specs.Counts.{all_of, total, Each};
 ghost use Rattle.group_locks.specs.Meaning.{Ran};
-ghost use Rattle.group_locks.specs.Rule.{view, spent, RanBy};
-ghost use Rattle.group_locks.specs.Seats.{AtRest, drawn_by, opened_shards, seat_count};
+ghost use Rattle.group_locks.specs.Stops.{FaultOf, FaultCause};
+ghost use Rattle.group_locks.specs.Rule.{view, spent, cost, RanBy};
+ghost use Rattle.group_locks.specs.Seats.{AtRest, drawn_by, charged_by, settled_by, fresh_by, due_of, over_of, memory_of, faults_of, stops_of, gathered, opened_shards, seat_count, spent_of, limit_of};
 ghost use mathlib.Core.Option.{some};
 ghost use lib.ListN.{get_elem?};
 ghost use Rattle.std.specs.Mem.Slots.{slots_items, slots_len, IsFull};
@@ -15,7 +16,8 @@ use crate::rule::{Enter, Merge};
 use crate::scene::Scene;
 use crate::seat::Seat;
 use crate::state::SeatState;
-use crate::steps::{Board, Token};
+use crate::steps::{Board, CHARGED, STOP, Token};
+use crate::terms::StopCause;
 use std::alloc::Global;
 
 // Makes all seats one, and moves their entries into one list.
@@ -31,7 +33,7 @@ fn gather<S: Scene>(
     requires room { total (λ s. length (drawn_by s.state)) seats.items ≤ vec_capacity all.old }
     ensures same { token.new.table_id ≡ token.old.table_id }
     ensures all { all.new.items ≡ all_of (λ s. drawn_by s.state) seats.items }
-    ensures view { token.new.me ≡ (view (32 * length seats.items) all.new.items [] [], []) }
+    ensures view { token.new.me ≡ (view (32 * length seats.items) all.new.items [] [] (gathered (λ s. s.state) seats.items), []) }
 {
     for seat in seats {
         let Seat { state } = seat;
@@ -80,6 +82,8 @@ fn take_shards<X: Drop>(
 struct Ended<S: Scene> {
     entries: Vec<(u64, S::Entry)>,
     shards: Vec<S::Shard>,
+    charged: u64,
+    stop: Option<StopCause>,
 }
 
 // Ends a hub, with the room that this takes.
@@ -94,21 +98,41 @@ fn end<S: Scene>(
     requires room { (entries.items ≡ []) × (total (λ s. length (drawn_by s.state)) seats.items ≤ vec_capacity entries) × (shards.items ≡ []) × (64 ≤ vec_capacity shards) }
     ensures entries { result.entries.items ≡ all_of (λ s. drawn_by s.state) seats.items }
     ensures shards { length result.shards.items ≡ 64 }
-    ensures ran { RanBy S.meaning (opened_shards hub.table.shared.key) result.entries.items result.shards.items }
+    ensures ran { RanBy S.meaning (opened_shards hub.table.shared.key) result.entries.items result.shards.items (FaultCause S.meaning.faults result.stop) }
+    ensures paid { result.charged ≡ spent_of hub.table.shared.key + total (λ s. cost S.meaning.price (charged_by s.state)) seats.items }
+    ensures bounded { spent_of hub.table.shared.key + total (λ s. cost S.meaning.price (settled_by s.state)) seats.items ≤ max (spent_of hub.table.shared.key) (limit_of hub.table.shared.key) }
+    ensures over { All (λ s. 0 < over_of s.state → limit_of hub.table.shared.key < result.charged) seats.items }
+    ensures memory { All (λ s. 0 < memory_of s.state → result.stop ≡ Some StopCause.NoMemory) seats.items }
+    ensures faulty { All (λ s. 0 < faults_of s.state → result.stop ≡ Some StopCause.Fault) seats.items }
+    ensures stop { All (λ s. 0 < stops_of s.state → IsSome result.stop) seats.items }
 {
-    let Hub { table, scene: _ } = hub;
+    let Hub {
+        table,
+        scene: _,
+        terms: _,
+    } = hub;
     let mut token = table.shared.load_new_seat::<Enter>(0).1;
     gather(&table.shared, seats, &mut token, &mut entries);
     let closed = table.close_with(token);
+    let charged = closed.word(CHARGED);
+    let stop_word = closed.word(STOP);
+    let stop = StopCause::of_code(stop_word);
     let shards = take_shards(closed, shards);
-    Ended { entries, shards }
+    Ended {
+        entries,
+        shards,
+        charged,
+        stop,
+    }
 }
 
-/// What a hub leaves: the entries in the order of their numbers, and the shards.
+/// What a hub leaves: the entries in the order of their numbers, the shards, what is charged, and why the hub was stopped, if it was.
 #[derive(Drop)]
 pub struct Closed<S: Scene> {
     pub entries: Vec<S::Entry>,
     pub shards: Vec<S::Shard>,
+    pub charged: u64,
+    pub stop: Option<StopCause>,
 }
 
 // The same, with the entries in order.
@@ -128,17 +152,34 @@ fn end_in_order<S: Scene>(
     ensures drawn { All (λ s. Each (λ n e. slice_get result.entries.items n ≡ Some e) (drawn_by s.state)) seats.items }
     ensures shards { length result.shards.items ≡ 64 }
     ensures ran { Ran S.meaning (opened_shards hub.table.shared.key) result.entries.items result.shards.items }
+    ensures paid { result.charged ≡ spent_of hub.table.shared.key + total (λ s. cost S.meaning.price (charged_by s.state)) seats.items }
+    ensures bounded { spent_of hub.table.shared.key + total (λ s. cost S.meaning.price (settled_by s.state)) seats.items ≤ max (spent_of hub.table.shared.key) (limit_of hub.table.shared.key) }
+    ensures over { All (λ s. 0 < over_of s.state → limit_of hub.table.shared.key < result.charged) seats.items }
+    ensures memory { All (λ s. 0 < memory_of s.state → result.stop ≡ Some StopCause.NoMemory) seats.items }
+    ensures faulty { All (λ s. 0 < faults_of s.state → result.stop ≡ Some StopCause.Fault) seats.items }
+    ensures stop { All (λ s. 0 < stops_of s.state → IsSome result.stop) seats.items }
+    ensures fault { result.stop ≡ Some StopCause.Fault → FaultOf S.meaning.faults result.entries.items }
 {
     let Ended {
         entries: drawn,
         shards,
+        charged,
+        stop,
     } = end(hub, seats, drawn, shards);
     let entries = in_order(places, drawn, entries);
-    Closed { entries, shards }
+    Closed {
+        entries,
+        shards,
+        charged,
+        stop,
+    }
 }
 
 impl<S: Scene> Hub<S> {
-    /// Ends the hub, where these are all its seats and none holds a turn. The entries are in the order of their numbers, place k of the shards is shard k. The
+    /// Ends the hub, where these are all its seats and none holds a turn. The entries are in the order of their numbers, place k of the shards is shard k. What is charged is what was
+    /// spent before and the prices of the charged entries; each seat has at most its last entry uncharged. All entries but each seat's last cost, with what was
+    /// spent before, no more than the limit, or nothing where as much was spent before. Where a seat found the hub to stop, or found more
+    /// charged than the limit, that is so. The
     /// only error is want of memory, and all then comes back as it was.
     pub fn close(self, seats: Vec<Seat<S>>) -> Result<Closed<S>, Pool<S>>
         requires seats { All (λ s. AtRest self.table.shared.table_id s.state) seats.items }
@@ -147,6 +188,14 @@ impl<S: Scene> Hub<S> {
         ensures drawn { IfOk result (λ r. All (λ s. Each (λ n e. slice_get r.entries.items n ≡ Some e) (drawn_by s.state)) seats.items) }
         ensures shards { IfOk result (λ r. length r.shards.items ≡ 64) }
         ensures ran { IfOk result (λ r. Ran S.meaning (opened_shards self.table.shared.key) r.entries.items r.shards.items) }
+        ensures paid { IfOk result (λ r. r.charged ≡ spent_of self.table.shared.key + total (λ s. cost S.meaning.price (charged_by s.state)) seats.items) }
+        ensures last { All (λ s. (drawn_by s.state ≡ (settled_by s.state ++ fresh_by s.state) ++ due_of s.state) × (length (fresh_by s.state) + length (due_of s.state) ≤ 1)) seats.items }
+        ensures bounded { OnOk result (spent_of self.table.shared.key + total (λ s. cost S.meaning.price (settled_by s.state)) seats.items ≤ max (spent_of self.table.shared.key) (limit_of self.table.shared.key)) }
+        ensures over { IfOk result (λ r. All (λ s. 0 < over_of s.state → limit_of self.table.shared.key < r.charged) seats.items) }
+        ensures memory { IfOk result (λ r. All (λ s. 0 < memory_of s.state → r.stop ≡ Some StopCause.NoMemory) seats.items) }
+        ensures faulty { IfOk result (λ r. All (λ s. 0 < faults_of s.state → r.stop ≡ Some StopCause.Fault) seats.items) }
+        ensures stop { IfOk result (λ r. All (λ s. 0 < stops_of s.state → IsSome r.stop) seats.items) }
+        ensures fault { IfOk result (λ r. r.stop ≡ Some StopCause.Fault → FaultOf S.meaning.faults r.entries.items) }
         ensures back { IfErr result (λ p. (p.hub ≡ self) × (p.seats ≡ seats)) }
     {
         let alloc = *seats.allocator();

@@ -9,6 +9,7 @@ mod scene;
 mod seat;
 mod state;
 mod steps;
+mod terms;
 #[cfg(test)]
 mod tests;
 mod view;
@@ -19,4 +20,5 @@ pub use crate::rule::{Opened, Rule};
 pub use crate::scene::Scene;
 pub use crate::seat::Seat;
 pub use crate::state::SeatState;
-pub use crate::view::View;
+pub use crate::terms::{StopCause, Terms};
+pub use crate::view::{Tally, View};

@@ -9,7 +9,7 @@ ghost use Rattle.group_locks.specs.Meaning.{Meaning, Lawful};
 /// `meaning` says what the state is that all shards together stand for, which entries are allowed in it and what an entry does to each shard. `lawful`
 /// is the proof of the scene's laws, which `Lawful` says in full.
 pub trait Scene: Drop + Sync {
-    /// An event.
+    /// An event, with a price and perhaps a fault.
     type Entry: Drop + Send + Sync;
     /// A part of the state.
     type Shard: Drop + Send + Sync;

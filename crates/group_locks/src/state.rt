@@ -1,5 +1,5 @@
 //! The state of a seat.
-ghost use Rattle.std.specs.Prelude.{◌≡◌, true, []};
+ghost use Rattle.std.specs.Prelude.{◌≡◌, ◌+◌, ◌≤◌, ◌++◌, true, [], length};
 ghost use Rattle.group_locks.specs.Rule.{emptied, below, descends};
 
 use crate::view::View;
@@ -14,4 +14,7 @@ pub struct SeatState<E, X> {
     ghost falls: { (below 64 token.me.0.held ≡ true) × (descends token.me.0.held ≡ true) },
     ghost part: { token.me.0.parts ≡ 32 },
     ghost fresh: { token.me.0.held ≡ [] → token.me.0.since ≡ [] },
+    ghost owed: { token.me.0.entries ≡ (token.me.0.tally.settled ++ token.me.0.tally.fresh) ++ token.me.0.tally.due },
+    ghost last: { length token.me.0.tally.fresh + length token.me.0.tally.due ≤ 1 },
+    ghost clear: { token.me.0.tally.leave ≡ true → length token.me.0.tally.fresh ≡ 0 },
 }

@@ -1,13 +1,17 @@
 //! The steps of one seat: turns, and draws.
-ghost use Rattle.std.specs.Prelude.{◌≡◌, ℕ, true, ◌+◌, ◌<◌, [], ◌∷◌, None, Some};
+ghost use Rattle.std.specs.Prelude.{◌≡◌, ℕ, true, ◌+◌, ◌<◌, ◌≤◌, ◌^◌, ◌==◌, cond, [], ◌∷◌, ◌++◌, length, None, Some};
 ghost use Rattle.std.specs.Int.{bit_at};
 ghost use Rattle.group_locks.specs.Counts.{count};
-ghost use Rattle.group_locks.specs.Rule.{view, emptied, below, descends, given_back, after_draw, Carries, MayDraw};
+ghost use Rattle.group_locks.specs.Rule.{view, emptied, below, descends, given_back, after_draw, with_tally, pays, saw_low, saw_over, saw_stop, cost, Carries, MayDraw};
 ghost use Rattle.group_locks.specs.Meaning.{Follows};
+ghost use Rattle.group_locks.specs.Stops.{code_of, HasFault};
 ghost use Rattle.atomic_table.specs.Table.{rest};
 
-use crate::rule::{Draw, Give, Naming, Opened, Rule, Take};
+use crate::rule::{
+    Draw, FindCharged, FindStop, Give, Halt, Limiting, Naming, Opened, Pay, Rule, Take,
+};
 use crate::scene::Scene;
+use crate::terms::StopCause;
 use crate::view::View;
 use atomic_table::Shared;
 use std::marker::Brand;
@@ -30,10 +34,10 @@ fn take_turn<S: Scene, R: Wait>(
     number: u32,
 ) -> S::Shard
     requires table { token.old.table_id ≡ board.now.table_id }
-    requires counts { (board.now.table_id.words ≡ 65) × (number < 64) }
+    requires counts { (board.now.table_id.words ≡ 67) × (number < 64) }
     requires fresh { (token.old.me.0.since ≡ []) × (0 < token.old.me.0.parts) }
     ensures same { (token.new.table_id ≡ token.old.table_id) × (token.new.id ≡ token.old.id) }
-    ensures view { token.new.me.0 ≡ view token.old.me.0.parts token.old.me.0.entries ((number, result) ∷ token.old.me.0.held) token.old.me.0.since }
+    ensures view { token.new.me.0 ≡ view token.old.me.0.parts token.old.me.0.entries ((number, result) ∷ token.old.me.0.held) token.old.me.0.since token.old.me.0.tally }
     ensures out { token.new.me.1 ≡ (number, None) ∷ token.old.me.1 }
 {
     let word = number as usize + 1;
@@ -59,12 +63,12 @@ pub fn take_turns<S: Scene, R: Wait>(
     shards: u64,
 )
     requires table { token.old.table_id ≡ board.now.table_id }
-    requires counts { board.now.table_id.words ≡ 65 }
+    requires counts { board.now.table_id.words ≡ 67 }
     requires part { 0 < token.old.me.0.parts }
     requires fresh { (token.old.me.0.held ≡ []) × (token.old.me.0.since ≡ []) × (token.old.me.1 ≡ []) }
     requires none { (k : ℕ) → S.in_hand held.old k ≡ None }
     ensures same { (token.new.table_id ≡ token.old.table_id) × (token.new.id ≡ token.old.id) }
-    ensures view { token.new.me.0 ≡ view token.old.me.0.parts token.old.me.0.entries token.new.me.0.held [] }
+    ensures view { token.new.me.0 ≡ view token.old.me.0.parts token.old.me.0.entries token.new.me.0.held [] token.old.me.0.tally }
     ensures out { token.new.me.1 ≡ emptied token.new.me.0.held }
     ensures falls { (below 64 token.new.me.0.held ≡ true) × (descends token.new.me.0.held ≡ true) }
     ensures carries { Carries S.meaning [] token.new.me.0.held (S.in_hand held.new) }
@@ -81,7 +85,7 @@ pub fn take_turns<S: Scene, R: Wait>(
 // Gives back the turn that was taken last, with this shard.
 fn give_turn<S: Scene>(board: &Board<S>, token: &mut Token<S>, number: u32, shard: S::Shard)
     requires table { token.old.table_id ≡ board.now.table_id }
-    requires counts { board.now.table_id.words ≡ 65 }
+    requires counts { board.now.table_id.words ≡ 67 }
     requires number { number < 64 }
     requires out { token.old.me.1 ≡ emptied token.old.me.0.held }
     requires top { (found : S.Shard) × (token.old.me.0.held ≡ (number, found) ∷ rest token.old.me.0.held) × Follows S.meaning token.old.me.0.since number found shard }
@@ -96,13 +100,13 @@ fn give_turn<S: Scene>(board: &Board<S>, token: &mut Token<S>, number: u32, shar
 
 // Moves all shards in hand home, and gives their turns back.
 pub fn give_turns<S: Scene>(scene: &S, board: &Board<S>, token: &mut Token<S>, held: &mut S::Held)
-    requires table { (token.old.table_id ≡ board.now.table_id) × (board.now.table_id.words ≡ 65) }
+    requires table { (token.old.table_id ≡ board.now.table_id) × (board.now.table_id.words ≡ 67) }
     requires since { token.old.me.0.held ≡ [] → token.old.me.0.since ≡ [] }
     requires out { token.old.me.1 ≡ emptied token.old.me.0.held }
     requires falls { (below 64 token.old.me.0.held ≡ true) × (descends token.old.me.0.held ≡ true) }
     requires carries { Carries S.meaning token.old.me.0.since token.old.me.0.held (S.in_hand held.old) }
     ensures same { (token.new.table_id ≡ token.old.table_id) × (token.new.id ≡ token.old.id) }
-    ensures view { token.new.me ≡ (view token.old.me.0.parts token.old.me.0.entries [] [], []) }
+    ensures view { token.new.me ≡ (view token.old.me.0.parts token.old.me.0.entries [] [] token.old.me.0.tally, []) }
     ensures none { (k : ℕ) → S.in_hand held.new k ≡ None }
 {
     let mut number = 64u32;
@@ -120,7 +124,7 @@ fn draw_as<S: Scene, J: Naming<S::Entry>>(
     token: &mut Token<S>,
     entry: &S::Entry,
 ) -> u64
-    requires table { (token.old.table_id ≡ board.now.table_id) × (board.now.table_id.words ≡ 65) }
+    requires table { (token.old.table_id ≡ board.now.table_id) × (board.now.table_id.words ≡ 67) }
     requires named { J.entry ≡ Some entry.now }
     requires may { MayDraw S.meaning token.old.me.0 entry.now }
     ensures same { (token.new.table_id ≡ token.old.table_id) × (token.new.id ≡ token.old.id) }
@@ -132,10 +136,72 @@ fn draw_as<S: Scene, J: Naming<S::Entry>>(
 
 // Draws the entry.
 pub fn draw<S: Scene>(board: &Board<S>, token: &mut Token<S>, entry: &S::Entry) -> u64
-    requires table { (token.old.table_id ≡ board.now.table_id) × (board.now.table_id.words ≡ 65) }
+    requires table { (token.old.table_id ≡ board.now.table_id) × (board.now.table_id.words ≡ 67) }
     requires may { MayDraw S.meaning token.old.me.0 entry.now }
     ensures same { (token.new.table_id ≡ token.old.table_id) × (token.new.id ≡ token.old.id) }
     ensures drawn { token.new.me ≡ (after_draw token.old.me.0 result entry.now, token.old.me.1) }
 {
     draw_as::<S, Brand>(board, token, entry)
+}
+
+pub const CHARGED: usize = 65;
+
+pub const STOP: usize = 66;
+
+// Adds the price of what is due to the charged word.
+pub fn pay<S: Scene>(board: &Board<S>, token: &mut Token<S>, price: u64)
+    requires table { (token.old.table_id ≡ board.now.table_id) × (board.now.table_id.words ≡ 67) }
+    requires part { token.old.me.0.parts ≡ 32 }
+    requires due { (price ≡ cost S.meaning.price token.old.me.0.tally.due) × (price ≤ 2 ^ 56) }
+    requires clear { length token.old.me.0.tally.fresh ≡ 0 }
+    ensures same { (token.new.table_id ≡ token.old.table_id) × (token.new.id ≡ token.old.id) }
+    ensures paid { token.new.me ≡ (with_tally token.old.me.0 (pays token.old.me.0.tally), token.old.me.1) }
+{
+    board.fetch_add::<Pay>(token, CHARGED, price);
+}
+
+// Reads the charged word, under the limit that the proof names.
+fn read_charged_as<S: Scene, J: Limiting>(board: &Board<S>, token: &mut Token<S>) -> u64
+    requires table { (token.old.table_id ≡ board.now.table_id) × (board.now.table_id.words ≡ 67) }
+    requires named { J.limit ≡ board.now.key.terms.limit }
+    ensures same { (token.new.table_id ≡ token.old.table_id) × (token.new.id ≡ token.old.id) }
+    ensures over { board.now.key.terms.limit < result → token.new.me ≡ (with_tally token.old.me.0 (saw_over token.old.me.0.tally), token.old.me.1) }
+    ensures low { result ≤ board.now.key.terms.limit → token.new.me ≡ (with_tally token.old.me.0 (saw_low token.old.me.0.tally), token.old.me.1) }
+    ensures charged { token.new.me.0.tally.settled ++ token.new.me.0.tally.fresh ≡ token.old.me.0.tally.settled ++ token.old.me.0.tally.fresh }
+    ensures fresh { length token.new.me.0.tally.fresh ≤ length token.old.me.0.tally.fresh }
+{
+    board.load::<FindCharged<J>>(token, CHARGED)
+}
+
+// Reads the charged word.
+pub fn read_charged<S: Scene>(board: &Board<S>, token: &mut Token<S>) -> u64
+    requires table { (token.old.table_id ≡ board.now.table_id) × (board.now.table_id.words ≡ 67) }
+    ensures same { (token.new.table_id ≡ token.old.table_id) × (token.new.id ≡ token.old.id) }
+    ensures over { board.now.key.terms.limit < result → token.new.me ≡ (with_tally token.old.me.0 (saw_over token.old.me.0.tally), token.old.me.1) }
+    ensures low { result ≤ board.now.key.terms.limit → token.new.me ≡ (with_tally token.old.me.0 (saw_low token.old.me.0.tally), token.old.me.1) }
+    ensures charged { token.new.me.0.tally.settled ++ token.new.me.0.tally.fresh ≡ token.old.me.0.tally.settled ++ token.old.me.0.tally.fresh }
+    ensures fresh { length token.new.me.0.tally.fresh ≤ length token.old.me.0.tally.fresh }
+{
+    read_charged_as::<S, Brand>(board, token)
+}
+
+// Reads the stop word.
+pub fn read_stop<S: Scene>(board: &Board<S>, token: &mut Token<S>) -> u64
+    requires table { (token.old.table_id ≡ board.now.table_id) × (board.now.table_id.words ≡ 67) }
+    ensures same { (token.new.table_id ≡ token.old.table_id) × (token.new.id ≡ token.old.id) }
+    ensures low { result ≤ 2 }
+    ensures found { token.new.me ≡ (with_tally token.old.me.0 (saw_stop token.old.me.0.tally result), token.old.me.1) }
+{
+    board.load::<FindStop>(token, STOP)
+}
+
+// Sets the stop word, if it was not set.
+pub fn halt<S: Scene>(board: &Board<S>, token: &mut Token<S>, cause: StopCause) -> u64
+    requires table { (token.old.table_id ≡ board.now.table_id) × (board.now.table_id.words ≡ 67) }
+    requires fault { cause ≡ StopCause.Fault → HasFault S.meaning.faults token.old.me.0.entries }
+    ensures same { (token.new.table_id ≡ token.old.table_id) × (token.new.id ≡ token.old.id) }
+    ensures low { result ≤ 2 }
+    ensures found { token.new.me ≡ (with_tally token.old.me.0 (saw_stop token.old.me.0.tally (cond (result == 0) (code_of cause) result)), token.old.me.1) }
+{
+    board.compare_exchange::<Halt>(token, STOP, 0, cause.code())
 }

@@ -1,6 +1,28 @@
 //! What a seat knows.
 use std::collections::LinkedList;
 
+/// What a seat charged, and what it found in the charged word and the stop word. It stands in contracts alone: no value of it is ever made.
+pub struct Tally<E> {
+    /// The entries, with their numbers, that it charged before it last found the charged word not above the limit.
+    pub settled: LinkedList<(u64, E)>,
+    /// Those that it charged since.
+    pub fresh: LinkedList<(u64, E)>,
+    /// Those that it drew and has not charged.
+    pub due: LinkedList<(u64, E)>,
+    /// It found the charged word not above the limit, and drew nothing since.
+    pub leave: bool,
+    /// How often it found the charged word not above the limit.
+    pub low: u64,
+    /// How often it found the charged word above the limit.
+    pub over: u64,
+    /// How often it found the stop word unset.
+    pub unset: u64,
+    /// How often it found that the hub stops for want of memory.
+    pub no_memory: u64,
+    /// How often it found that the hub stops for a fault.
+    pub fault: u64,
+}
+
 /// What a seat knows. It stands in contracts alone: no value of it is ever made.
 pub struct View<E, X> {
     /// Its parts of the right to end the hub. A seat has 32.
@@ -11,4 +33,6 @@ pub struct View<E, X> {
     pub held: LinkedList<(u64, X)>,
     /// The entries that it drew while it held a shard, since it held none.
     pub since: LinkedList<E>,
+    /// What it charged, and what it found.
+    pub tally: Tally<E>,
 }

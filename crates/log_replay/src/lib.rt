@@ -12,3 +12,6 @@ mod rows;
 
 pub use fault::ReplayFault;
 pub use replayed::{Replayed, replay};
+
+#[cfg(test)]
+mod tests;

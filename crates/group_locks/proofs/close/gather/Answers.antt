@@ -1,7 +1,8 @@
 use Rattle.std.proofs.Common.{◌≡◌, ◌∙◌, ◌+◌, ◌-◌, ◌*◌, ◌++◌, sym, ap, arith, length, length-append, [], ℕ, List, append_assoc}
 use Rattle.group_locks.specs.Counts.{all_of}
-use Rattle.group_locks.specs.Rule.{view, joined}
+use Rattle.group_locks.specs.Rule.{view, joined, both}
 use Rattle.group_locks.specs.declared.view.View.{View}
+use Rattle.group_locks.specs.declared.view.Tally.{Tally}
 use Rattle.group_locks.proofs.Seats.{join}
 use Rattle.group_locks.proofs.Ends.{all_tail, all_of_split, total_split, joined_view, out_of}
 use Rattle.group_locks.proofs.close.gather.Goals as goal
@@ -35,12 +36,26 @@ loop-seat-preserved g c =
     let size : length c.loop-seat.seat-iterator.rest.items ≡ length rest + 1 = (let q = ap length s.0 in omega arith) in
     let more : n + 1 ≡ length c.args.seats.items - length rest = (let a = i.left in omega arith) in
     let w : View E X = seat.state.token.me.0 in
+    let t : Tally E = c.loop-seat.token.me.0.tally in
+    let tallied : c.join_seat.new.seat.me.0.tally ≡ both t w.tally = ap (λ x. x.0.tally) c.join_seat.ensures.2 in
     record {
       table = c.join_seat.ensures.0 ∙ i.table;
       left = let a = i.left in omega arith;
-      me = c.join_seat.ensures.2 ∙ (ap (λ x. (joined x.0 w, x.1)) i.me ∙ (ap {A = View E X} (λ v. (v, [])) (joined_view all n w seat.state.part)
-          ∙ (ap {A = ℕ} (λ k. (view {E = E} {X = X} (32 * k) (all ++ w.entries) [] [], [])) more ∙ ap {A = List (ℕ × E)} (λ l. (view {E = E} {X = X} (32 * (length c.args.seats.items - length rest)) l [] [], [])) (sym moved))));
+      me = c.join_seat.ensures.2 ∙ (ap (λ x. (joined x.0 w, x.1)) i.me ∙ (ap {A = View E X} (λ v. (v, [])) (joined_view all t n w seat.state.part)
+          ∙ (ap {A = ℕ} (λ k. (view {E = E} {X = X} (32 * k) (all ++ w.entries) [] [] (both t w.tally), [])) more ∙ ap {A = List (ℕ × E)} (λ l. (view {E = E} {X = X} (32 * (length c.args.seats.items - length rest)) l [] [] (both t w.tally), [])) (sym moved)
+          ∙ ap {A = Tally E} (λ u. (view {E = E} {X = X} (32 * (length c.args.seats.items - length rest)) c.move_all.new.all.items [] [] u, [])) (sym tallied))));
       all = ap {A = List (ℕ × E)} (λ l. l ++ all_of (λ t. t.state.token.me.0.entries) rest) moved ∙ (append_assoc all w.entries (all_of (λ t. t.state.token.me.0.entries) rest) ∙ (ap {A = List (ℕ × E)} (λ l. all ++ l) (sym (all_of_split (λ t. t.state.token.me.0.entries) _ _ _ s.0)) ∙ i.all));
+      settled = ap {A = Tally E} (λ u. u.settled ++ all_of (λ y. y.state.token.me.0.tally.settled) rest) tallied ∙ (append_assoc t.settled w.tally.settled (all_of (λ y. y.state.token.me.0.tally.settled) rest)
+          ∙ (ap {A = List (ℕ × E)} (λ l. t.settled ++ l) (sym (all_of_split (λ y. y.state.token.me.0.tally.settled) _ _ _ s.0)) ∙ i.settled));
+      fresh = ap {A = Tally E} (λ u. u.fresh ++ all_of (λ y. y.state.token.me.0.tally.fresh) rest) tallied ∙ (append_assoc t.fresh w.tally.fresh (all_of (λ y. y.state.token.me.0.tally.fresh) rest)
+          ∙ (ap {A = List (ℕ × E)} (λ l. t.fresh ++ l) (sym (all_of_split (λ y. y.state.token.me.0.tally.fresh) _ _ _ s.0)) ∙ i.fresh));
+      due = ap {A = Tally E} (λ u. u.due) tallied;
+      low = ap {A = Tally E} (λ u. u.low) tallied;
+      unset = ap {A = Tally E} (λ u. u.unset) tallied;
+      leave = ap {A = Tally E} (λ u. u.leave) tallied;
+      over = let a = ap {A = Tally E} (λ u. u.over) tallied in let b = total_split (λ y. y.state.token.me.0.tally.over) _ _ _ s.0 in let d = i.over in omega arith;
+      no_memory = let a = ap {A = Tally E} (λ u. u.no_memory) tallied in let b = total_split (λ y. y.state.token.me.0.tally.no_memory) _ _ _ s.0 in let d = i.no_memory in omega arith;
+      fault = let a = ap {A = Tally E} (λ u. u.fault) tallied in let b = total_split (λ y. y.state.token.me.0.tally.fault) _ _ _ s.0 in let d = i.fault in omega arith;
       room = let a = ap length moved in let b = length-append all w.entries in let t = total_split (λ t. length t.state.token.me.0.entries) _ _ _ s.0 in let r = i.room in let k = c.move_all.ensures.room in omega arith;
       each = here.1;
     }

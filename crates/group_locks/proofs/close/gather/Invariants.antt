@@ -1,4 +1,4 @@
-use Rattle.std.proofs.Common.{◌≡◌, ◌≤◌, ◌+◌, ◌-◌, ◌*◌, ◌++◌, [], length, vec_capacity}
+use Rattle.std.proofs.Common.{◌≡◌, ◌≤◌, ◌+◌, ◌-◌, ◌*◌, ◌++◌, [], false, length, vec_capacity}
 use Rattle.std.specs.List.{All}
 use Rattle.group_locks.specs.Counts.{all_of, total}
 use Rattle.group_locks.specs.Rule.{view}
@@ -8,8 +8,17 @@ abbrev pub invariant-loop-seat : goal.invariant-loop-seat
 invariant-loop-seat g l = record {
   table : l.token.table_id ≡ l.initial.token.table_id;
   left : length l.seat-iterator.rest.items ≤ length l.fn.seats.items;
-  me : l.token.me ≡ (view (32 * (length l.fn.seats.items - length l.seat-iterator.rest.items)) l.all.items [] [], []);
+  me : l.token.me ≡ (view (32 * (length l.fn.seats.items - length l.seat-iterator.rest.items)) l.all.items [] [] l.token.me.0.tally, []);
   all : l.all.items ++ all_of (λ s. s.state.token.me.0.entries) l.seat-iterator.rest.items ≡ all_of (λ s. s.state.token.me.0.entries) l.fn.seats.items;
+  settled : l.token.me.0.tally.settled ++ all_of (λ s. s.state.token.me.0.tally.settled) l.seat-iterator.rest.items ≡ all_of (λ s. s.state.token.me.0.tally.settled) l.fn.seats.items;
+  due : l.token.me.0.tally.due ≡ [];
+  low : l.token.me.0.tally.low ≡ 0;
+  unset : l.token.me.0.tally.unset ≡ 0;
+  leave : l.token.me.0.tally.leave ≡ false;
+  fresh : l.token.me.0.tally.fresh ++ all_of (λ s. s.state.token.me.0.tally.fresh) l.seat-iterator.rest.items ≡ all_of (λ s. s.state.token.me.0.tally.fresh) l.fn.seats.items;
+  over : l.token.me.0.tally.over + total (λ s. s.state.token.me.0.tally.over) l.seat-iterator.rest.items ≡ total (λ s. s.state.token.me.0.tally.over) l.fn.seats.items;
+  no_memory : l.token.me.0.tally.no_memory + total (λ s. s.state.token.me.0.tally.no_memory) l.seat-iterator.rest.items ≡ total (λ s. s.state.token.me.0.tally.no_memory) l.fn.seats.items;
+  fault : l.token.me.0.tally.fault + total (λ s. s.state.token.me.0.tally.fault) l.seat-iterator.rest.items ≡ total (λ s. s.state.token.me.0.tally.fault) l.fn.seats.items;
   room : length l.all.items + total (λ s. length s.state.token.me.0.entries) l.seat-iterator.rest.items ≤ vec_capacity l.all;
   each : All (λ s. (s.state.token.table_id ≡ l.initial.token.table_id) × (s.state.token.me.0.held ≡ [])) l.seat-iterator.rest.items;
 }

@@ -10,8 +10,8 @@ fetch_add-requires g c =
     let m = g.S.Scene.meaning in
     let slots = c.args.board.now.table_id.slots in
     let p = c.args.token.now in
-    let Asks : Option _ → Type 0 = λ named. Allows (HubRule m c.args.board.now.key.shards.value.items c.args.board.now.key.seats) slots p.id p.me 0 (λ n. (n + 1) % 2 ^ 64) (Drew named (step slots 0 1 0 none) p.me) in (
+    let Asks : Option _ → Type 0 = λ named. Allows (HubRule m c.args.board.now.key.shards.value.items c.args.board.now.key.terms) slots p.id p.me 0 (λ n. (n + 1) % 2 ^ 64) (Drew named (step slots 0 1 0 none) p.me) in (
       c.requires.table.0,
       (let w = c.requires.table.1 in omega arith),
-      subst Asks (sym c.requires.named) (draw m (g.met.S.Scene g.world.𝓛 g.world.𝓜 g.world.𝓡 ((λ s x. x), (λ x. x), (λ x. x), λ x. x)).lawful c.args.board.now.key.shards.value.items c.args.board.now.key.seats slots p.id p.me.0 p.me.1 c.args.entry.now c.requires.may),
+      subst Asks (sym c.requires.named) (draw m (g.met.S.Scene g.world.𝓛 g.world.𝓜 g.world.𝓡 ((λ s x. x), (λ x. x), (λ x. x), λ x. x)).lawful c.args.board.now.key.shards.value.items c.args.board.now.key.terms slots p.id p.me.0 p.me.1 c.args.entry.now c.requires.may),
     )

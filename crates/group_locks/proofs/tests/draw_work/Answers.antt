@@ -21,3 +21,8 @@ commit-requires-clause-carries c κs =
 pub returns-in_default-clause-carries : goal.returns-in_default-clause-carries
 returns-in_default-clause-carries c =
     let P : List ℕ → Type 0 = λ es. Carries numbers es c.args.seat.now.state.token.me.0.held (λ k. slice_index_or c.args.hand.now.rows k None) in subst P (sym c.requires.since) c.requires.carries
+
+pub returns-then-x-lt18446744073709551615-clause-carries : goal.returns-then-x-lt18446744073709551615-clause-carries
+returns-then-x-lt18446744073709551615-clause-carries c =
+    let P : List ℕ → List (ℕ × ℕ) → Type 0 = λ es hs. Carries numbers es hs (λ k. slice_index_or c.put.new.self.rows k None) in
+    subst (λ es. P es c.charge.new.self.state.token.me.0.held) (sym c.charge.ensures.since) (subst (P c.commit.new.self.state.token.me.0.since) (sym c.charge.ensures.held) c.commit.ensures.carries)

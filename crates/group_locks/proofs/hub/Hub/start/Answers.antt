@@ -1,5 +1,5 @@
 use Rattle.std.proofs.Common.{◌≡◌, ◌∙◌, ◌+◌, ◌-◌, ap, arith, length, length-append, [], ◌∷◌, ℕ}
-use Rattle.group_locks.specs.Rule.{newcomer, cut_left}
+use Rattle.group_locks.specs.Rule.{newcomer, blank, cut_left}
 use Rattle.group_locks.specs.declared.view.View.{View}
 use Rattle.group_locks.proofs.Seats.{cut}
 use Rattle.group_locks.proofs.Opens.{cut_newcomer, all_push, all_to}
@@ -12,7 +12,7 @@ split_seat-other-requires g c =
     let some = c.loop-test.true in (
       i.table,
       (let w = c.in_ok-hub.hub.wide in omega arith),
-      cut m _ _ _ c.loop.token.me.0 (let p = ap (λ x. x.0.parts) i.me in omega arith) (ap (λ x. x.0.entries) i.me) (ap (λ x. x.0.held) i.me),
+      cut m _ _ _ c.loop.token.me.0 (let p = ap (λ x. x.0.parts) i.me in omega arith) (ap (λ x. x.0.entries) i.me) (ap (λ x. x.0.held) i.me) (ap (λ x. x.0.tally) i.me),
     )
 
 pub loop-preserved : goal.loop-preserved
@@ -44,6 +44,7 @@ returns-clause-rest g c = let i = c.loop.invariant in let p = c.push_reserved-2.
 pub returns-clause-drawn : goal.returns-clause-drawn
 returns-clause-drawn g c = let i = c.loop.invariant in let p = c.push_reserved-2.ensures in let f = c.new_seat-2.ensures in
     let E : Type 0 = g.row.S-Entry.Denot in let X : Type 0 = g.row.S-Shard.Denot in
-    all_push (λ s. s.state.token.me.0.entries ≡ []) _ _ c.new_seat-2.result p.items
-    (all_to (λ s. (s.state.token.table_id ≡ c.in_ok-hub.hub.table.shared.table_id) × (s.state.token.me.0 ≡ newcomer 1)) (λ s. s.state.token.me.0.entries ≡ []) (λ s h. ap {A = View E X} (λ v. v.entries) h.1) _ i.each)
-    (ap (λ q. q.me.0.entries) f ∙ ap (λ x. x.0.entries) i.me)
+    all_push (λ s. (s.state.token.me.0.entries ≡ []) × (s.state.token.me.0.tally ≡ blank)) _ _ c.new_seat-2.result p.items
+    (all_to (λ s. (s.state.token.table_id ≡ c.in_ok-hub.hub.table.shared.table_id) × (s.state.token.me.0 ≡ newcomer 1)) (λ s. (s.state.token.me.0.entries ≡ []) × (s.state.token.me.0.tally ≡ blank))
+    (λ s h. (ap {A = View E X} (λ v. v.entries) h.1, ap {A = View E X} (λ v. v.tally) h.1)) _ i.each)
+    (ap (λ q. q.me.0.entries) f ∙ ap (λ x. x.0.entries) i.me, ap (λ q. q.me.0.tally) f ∙ ap (λ x. x.0.tally) i.me)

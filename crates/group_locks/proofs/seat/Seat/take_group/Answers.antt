@@ -1,4 +1,4 @@
-use Rattle.std.proofs.Common.{◌∙◌, sym, ap, arith}
+use Rattle.std.proofs.Common.{◌∙◌, ◌++◌, length, sym, ap, arith}
 use Rattle.std.proofs.lemmas.Nat.Bits.{bit_at_above}
 use mathlib.Core.Logic.{dite}
 use native.Mathlib.Decide.{dec_le}
@@ -12,6 +12,9 @@ invariant_of-self g c = let e = c.take_turns.ensures in let s = c.args.self.now.
   falls = e.falls;
   part = (let p = s.part in let q = ap (λ v. v.parts) e.view in omega arith);
   fresh = λ _. ap (λ v. v.since) e.view;
+  owed = ap (λ v. v.entries) e.view ∙ (s.owed ∙ sym (ap (λ v. (v.tally.settled ++ v.tally.fresh) ++ v.tally.due) e.view));
+  last = let q = ap (λ v. length v.tally.due) e.view in let p = ap (λ v. length v.tally.fresh) e.view in let l = s.last in omega arith;
+  clear = λ may. ap (λ v. length v.tally.fresh) e.view ∙ s.clear (sym (ap (λ v. v.tally.leave) e.view) ∙ may);
 }
 
 pub returns-clause-turns : goal.returns-clause-turns

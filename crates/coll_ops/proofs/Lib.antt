@@ -1,0 +1,10 @@
+pub mod Merging
+pub mod Finding
+pub mod Steps
+pub mod Sorts
+pub mod Members
+pub mod Viewing
+pub mod Naming
+pub mod Listing
+pub mod Comparing
+pub mod Ordered

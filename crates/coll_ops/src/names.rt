@@ -1,0 +1,47 @@
+// The names of the methods of lists, tuples, sets and maps.
+ghost use Rattle.std.specs.Prelude.{◌≡◌, MatchOption};
+ghost use Rattle.coll_ops.specs.Names.{name_of, IsNoName};
+
+/// A method of lists, tuples, sets or maps, by its name alone.
+#[derive(Clone, Copy)]
+pub(crate) enum Name {
+    Length,
+    Nth,
+    Slice,
+    ToSet,
+    Size,
+    Contains,
+    Add,
+    Delete,
+    Union,
+    Diff,
+    ToList,
+    Get,
+    GetOrElse,
+    Set,
+    Keys,
+}
+
+/// The method of this name, if some list, tuple, set or map has one.
+pub(crate) fn find_name(name: &str) -> Option<Name>
+    ensures { MatchOption result (IsNoName name.now) (λ n. name.now ≡ name_of n) }
+{
+    match name {
+        "length" => Some(Name::Length),
+        "nth" => Some(Name::Nth),
+        "slice" => Some(Name::Slice),
+        "toSet" => Some(Name::ToSet),
+        "size" => Some(Name::Size),
+        "contains" => Some(Name::Contains),
+        "add" => Some(Name::Add),
+        "delete" => Some(Name::Delete),
+        "union" => Some(Name::Union),
+        "diff" => Some(Name::Diff),
+        "toList" => Some(Name::ToList),
+        "get" => Some(Name::Get),
+        "getOrElse" => Some(Name::GetOrElse),
+        "set" => Some(Name::Set),
+        "keys" => Some(Name::Keys),
+        _ => None,
+    }
+}

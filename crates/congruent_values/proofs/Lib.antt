@@ -1,0 +1,11 @@
+pub mod Kept
+pub mod Twins
+pub mod Outcomes
+pub mod Collections
+pub mod Looks
+pub mod Operations
+pub mod Calls
+pub mod Tables
+pub mod Sorted
+pub mod Valued
+pub mod ExamplesSame

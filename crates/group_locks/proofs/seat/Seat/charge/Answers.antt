@@ -1,0 +1,22 @@
+use Rattle.std.proofs.Common.{◌≡◌, ◌∙◌, ◌++◌, length, sym, ap, arith, append-nil, append_assoc, length-append, false, true}
+use Rattle.group_locks.specs.Rule.{below, descends, emptied}
+use Rattle.group_locks.proofs.seat.Seat.charge.Goals as goal
+
+pub invariant_of-self : goal.invariant_of-self
+invariant_of-self g c = let e = c.pay.ensures.paid in let s = c.args.self.now.state in let t = s.token.me.0.tally in record {
+  told = s.told ∙ sym (ap (λ x. x.0.entries) e);
+  out = ap (λ x. x.1) e ∙ (s.out ∙ sym (ap (λ x. emptied x.0.held) e));
+  falls = (ap (λ x. below 64 x.0.held) e ∙ s.falls.0, ap (λ x. descends x.0.held) e ∙ s.falls.1);
+  part = ap (λ x. x.0.parts) e ∙ s.part;
+  fresh = λ h. ap (λ x. x.0.since) e ∙ s.fresh (sym (ap (λ x. x.0.held) e) ∙ h);
+  owed = ap (λ x. x.0.entries) e ∙ (s.owed ∙ (append_assoc t.settled t.fresh t.due ∙ (sym (append-nil (t.settled ++ (t.fresh ++ t.due))) ∙ sym (ap (λ x. (x.0.tally.settled ++ x.0.tally.fresh) ++ x.0.tally.due) e))));
+  last = let q = ap (λ x. length x.0.tally.due) e in let p = ap (λ x. length x.0.tally.fresh) e in let l = length-append t.fresh t.due in let o = s.last in omega arith;
+  clear = λ may. absurd (let q : false ≡ true = sym (ap (λ x. x.0.tally.leave) e) ∙ may in cc);
+}
+
+pub pay-requires-clause-clear : goal.pay-requires-clause-clear
+pay-requires-clause-clear g c = let q = ap length c.requires.price.1 in let l = c.args.self.now.state.last in omega arith
+
+pub returns-clause-charged : goal.returns-clause-charged
+returns-clause-charged g c = let e = c.pay.ensures.paid in let s = c.args.self.now.state in let t = s.token.me.0.tally in
+    ap (λ x. x.0.tally.settled ++ x.0.tally.fresh) e ∙ sym (s.owed ∙ append_assoc t.settled t.fresh t.due)

@@ -1,0 +1,4 @@
+pub mod Spelled
+pub mod Ordered
+pub mod Examples
+pub mod Laws

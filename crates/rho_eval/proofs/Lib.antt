@@ -1,0 +1,4 @@
+pub mod Outcomes
+pub mod Forms
+pub mod Operated
+pub mod Parts

@@ -1,0 +1,13 @@
+//! Evaluation: the value of a closed process, its price, and its first fault.
+#![tactic(auto)]
+
+pub mod evaluation;
+mod limits;
+mod operation;
+pub mod stop;
+
+pub use evaluation::evaluate;
+pub use stop::{EvalStop, Priced};
+
+#[cfg(test)]
+mod tests;

@@ -1,0 +1,49 @@
+// Prices under a cap, and the limits on heights and codes.
+ghost use Rattle.std.specs.Prelude.{◌≡◌, ◌≤◌, ◌<◌, ◌+◌, ◌*◌, ◌-◌, ◌^◌, MatchResult, ℕ};
+ghost use Rattle.term_code.specs.Sizes.{in_u64};
+ghost use Rattle.calculus.specs.Outcome.{free, within_limits};
+ghost use Rattle.rho_eval.specs.Outcomes.{Came, Stopped};
+
+use crate::stop::{EvalStop, Priced};
+use calculus::FaultKind;
+use phlo_meter::Prices;
+use rho_term::Term;
+use term_code::code_len;
+
+/// The greatest height of a process.
+const MOST_HEIGHT: u32 = 400;
+
+/// The greatest number of bytes of a code.
+const MOST_BYTES: u64 = 1_048_576;
+
+/// The process at this price so far, or its fault where it is beyond the limits.
+pub(crate) fn limited(term: Term, price: u64, cap: u64) -> Result<Priced<Term>, EvalStop>
+    requires { price ≤ cap }
+    ensures { MatchResult result (λ p. Came cap price p.price p.value (free (within_limits term))) (λ e. Stopped cap price (free (within_limits term)) e) }
+{
+    if term.height() > MOST_HEIGHT {
+        let kind = FaultKind::TooDeep;
+        return Err(EvalStop::Fault { kind, price });
+    }
+    if code_len(&term) > MOST_BYTES {
+        let kind = FaultKind::TooBig;
+        return Err(EvalStop::Fault { kind, price });
+    }
+    Ok(Priced { value: term, price })
+}
+
+/// The price so far and that of an operator or a method on operands of so many bytes, where they do not pass the cap.
+pub(crate) fn charge(prices: &Prices, bytes: u64, price: u64, cap: u64) -> Result<u64, EvalStop>
+    requires { cap < 2 ^ 64 - 1 }
+    ensures { MatchResult result (λ n. (l : ℕ) → bytes ≡ in_u64 l → (n ≡ price + (prices.now.op + prices.now.byte * l)) × (n ≤ cap)) (λ e. (e ≡ EvalStop.Over) × ((l : ℕ) → bytes ≡ in_u64 l → cap < price + (prices.now.op + prices.now.byte * l))) }
+{
+    let cost = prices
+        .byte()
+        .saturating_mul(bytes)
+        .saturating_add(prices.op());
+    let total = price.saturating_add(cost);
+    if total > cap {
+        return Err(EvalStop::Over);
+    }
+    Ok(total)
+}

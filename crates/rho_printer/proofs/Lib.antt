@@ -1,0 +1,9 @@
+pub mod Lists
+pub mod Rows
+pub mod Forms
+pub mod PatternForms
+pub mod BindForms
+pub mod Digits
+pub mod Singles
+pub mod Declared
+pub mod Moving

@@ -1,0 +1,84 @@
+-- What is written of a text so far.
+use Rattle.std.specs.Prelude.{◌≡◌, ℕ, zero, suc, ◌+◌, cond, eqb, List, [], ◌∷◌, ◌++◌, ◌≤◌, ⊤, length, map as each, codes}
+use Rattle.calculus.specs.declared.plain.Kind.{Kind}
+use Rattle.calculus.specs.declared.plain.TermRest.{TermRest}
+use Rattle.calculus.specs.declared.plain.TermRest.TheVariants as rests
+use Rattle.calculus.specs.Tree.{Tree, trees}
+use Rattle.calculus.specs.Shape.{held}
+use Rattle.calculus.specs.Variables.{bound, bound_all}
+use Rattle.calculus.specs.Form.{Sort, a_bind, pat, name_pat, all}
+use Rattle.calculus.specs.Printed.{first_text, separated, variable_text, bind_texts, rest_text, with_commas, with_rest, operand_text}
+use Rattle.calculus.proofs.Formed.{Formed, Holds}
+use Rattle.calculus.proofs.Tails.{IsFine}
+use Rattle.rho_term.specs.declared.term.Part.{Part}
+use Rattle.rho_term.specs.declared.term.Part.TheVariants as parts
+use Rattle.rho_printer.specs.Printed.{printed}
+
+-- the text of a tree that prints one text
+abbrev pub text_of : Sort → Tree → ℕ → ℕ → List ℕ
+text_of s t d n = first_text (printed s t d n)
+
+-- what these print, each of which goes on with the numbers of those before it
+abbrev pub chain : (Tree → ℕ → List ℕ) → List Tree → ℕ → List (List ℕ)
+chain f [] n = []
+chain f (t ∷ ts) n = f t n ∷ chain f ts (n + length (bound t))
+
+-- the texts of these
+abbrev pub texts_of : Sort → List Tree → ℕ → ℕ → List (List ℕ)
+texts_of s ts d n = chain (λ t m. text_of s t d m) ts n
+
+-- what stands before text number i of a list
+abbrev pub before : ℕ → List ℕ → List ℕ
+before i mark = cond (eqb i 0) [] mark
+
+-- texts from number i of a list on
+abbrev pub separated_from : ℕ → List ℕ → List (List ℕ) → List ℕ
+separated_from i mark [] = []
+separated_from i mark (x ∷ xs) = before i mark ++ (x ++ separated_from (suc i) mark xs)
+
+-- a remainder after i members
+abbrev pub remainder : ℕ → List ℕ → List ℕ → TermRest → ℕ → List ℕ
+remainder i mark dots rests.No n = []
+remainder i mark dots rests.Var n = before i mark ++ (dots ++ variable_text n)
+remainder i mark dots rests.Wild n = before i mark ++ (dots ++ codes "_")
+
+-- the text of a bind
+abbrev pub bind_text_of : Kind → Tree → ℕ → ℕ → List ℕ
+bind_text_of k t d n = first_text (bind_texts k (printed a_bind t d n))
+
+-- the texts of binds
+abbrev pub binds_texts : Kind → List Tree → ℕ → ℕ → List (List ℕ)
+binds_texts k ts d n = chain (λ t m. bind_text_of k t d m) ts n
+
+-- the left side of a bind: patterns and a remainder
+abbrev pub left_text : List Tree → TermRest → ℕ → ℕ → List ℕ
+left_text ts r d n = with_commas (texts_of name_pat ts d n ++ each (λ x. codes "...@" ++ x) (rest_text r (n + length (bound_all (trees ts)))))
+
+-- members of a collection in a pattern, and its remainder
+abbrev pub members_text : Sort → List Tree → TermRest → ℕ → ℕ → List ℕ
+members_text s ts r d n = with_rest (texts_of s ts d n) (rest_text r (n + length (bound_all (trees ts))))
+
+-- two patterns with a sign between them
+abbrev pub joined_text : Tree → List ℕ → Tree → ℕ → ℕ → List ℕ
+joined_text t sign u d n = codes "(" ++ (operand_text (held t) (text_of pat t d n) ++ (sign ++ (operand_text (held u) (text_of pat u d (n + length (bound t))) ++ codes ")")))
+
+-- a ground value, an empty tuple, a receive, a `new` or a `match`
+abbrev pub IsClosedForm : Part → Type 0
+IsClosedForm (parts.Ground g) = ⊤
+IsClosedForm (parts.Tuple ts) = ts.items ≡ []
+IsClosedForm (parts.Receive k bs b) = ⊤
+IsClosedForm (parts.New os b) = ⊤
+IsClosedForm (parts.Match t cs) = ⊤
+IsClosedForm _ = ⊥
+
+-- the next number is no less than the number of variables in scope, and no greater than the length of what has been written
+abbrev pub HasRoom : ℕ → ℕ → List ℕ → Type 0
+HasRoom d n out = (d ≤ n) × (n ≤ length out)
+
+-- a process of this sort has been written after this text
+abbrev pub Writes : Sort → Tree → ℕ → List ℕ → List ℕ → Type 0
+Writes s t d old new = Formed IsFine s t → (n : ℕ) → new ≡ old ++ text_of s t d n
+
+-- processes of this sort have been written, with a mark between each two
+abbrev pub WritesAll : List ℕ → Sort → List Tree → ℕ → List ℕ → List ℕ → Type 0
+WritesAll mark s ts d old new = Holds IsFine (all s) (trees ts) → (n : ℕ) → new ≡ old ++ separated mark (texts_of s ts d n)

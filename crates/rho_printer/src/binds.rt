@@ -1,0 +1,111 @@
+// The texts of binds and of cases.
+ghost use Rattle.std.specs.Prelude.{◌≡◌, ◌++◌, ◌+◌, ◌≤◌, map, length, codes, IfOk, OnOk};
+ghost use Rattle.calculus.specs.Form.{all, a_bind, a_case, name_pat};
+ghost use Rattle.calculus.specs.Printed.{rest_text, with_commas, separated};
+ghost use Rattle.calculus.specs.Shape.{leaf};
+ghost use Rattle.calculus.specs.Tree.{rest, trees};
+ghost use Rattle.calculus.specs.Variables.{bound, bound_all};
+ghost use Rattle.calculus.proofs.Formed.{Formed, Holds};
+ghost use Rattle.calculus.proofs.Tails.{IsFine};
+ghost use Rattle.rho_term.specs.Parts.{bind_tree, case_tree};
+ghost use Rattle.rho_printer.specs.Texts.{HasRoom, Writes, WritesAll, bind_text_of, binds_texts, left_text};
+
+use crate::fixed::arrow;
+use crate::patterns::{put_name_pats, put_pat};
+use crate::terms::{put_block, put_name};
+use crate::words::{put, put_rest, put_space_since, separate};
+use calculus::{Kind, TermRest};
+use rho_term::{TermBind, TermCase, TermPat};
+use std::alloc::AllocError;
+
+// The binds of a receive, and the number of variables in scope under them.
+#[cycle(print)]
+pub(crate) fn put_binds(
+    out: &mut Vec<u8>,
+    kind: Kind,
+    binds: &[TermBind],
+    depth: usize,
+) -> Result<usize, AllocError>
+    requires { depth ≤ length out.old.items }
+    ensures text { OnOk result (Holds IsFine (all a_bind) (trees (map bind_tree binds.now)) → out.new.items ≡ out.old.items ++ separated (codes " & ") (binds_texts kind (map bind_tree binds.now) depth depth)) }
+    ensures next { IfOk result (λ m. Holds IsFine (all a_bind) (trees (map bind_tree binds.now)) → m ≡ depth + length (bound_all (trees (map bind_tree binds.now)))) }
+    ensures room { IfOk result (λ m. HasRoom depth m out.new.items) }
+    ensures grows { OnOk result (length out.old.items ≤ length out.new.items) }
+{
+    let mut next = depth;
+    for i in 0..binds.len() {
+        separate(out, i, b" & ")?;
+        next = put_bind(out, kind, &binds[i], depth, next)?;
+    }
+    Ok(next)
+}
+
+#[cycle(print)]
+fn put_bind(
+    out: &mut Vec<u8>,
+    kind: Kind,
+    bind: &TermBind,
+    depth: usize,
+    next: usize,
+) -> Result<usize, AllocError>
+    requires { HasRoom depth next out.old.items }
+    ensures text { OnOk result (Formed IsFine a_bind (bind_tree bind.now) → out.new.items ≡ out.old.items ++ bind_text_of kind (bind_tree bind.now) depth next) }
+    ensures next { IfOk result (λ m. Formed IsFine a_bind (bind_tree bind.now) → m ≡ next + length (bound (bind_tree bind.now))) }
+    ensures room { IfOk result (λ m. HasRoom next m out.new.items) }
+    ensures grows { OnOk result (length out.old.items ≤ length out.new.items) }
+{
+    let start = out.len();
+    let after = put_left(out, &bind.pats, bind.rest, depth, next)?;
+    put_space_since(out, start)?;
+    put(out, arrow(kind))?;
+    put_name(out, &bind.channel, depth)?;
+    Ok(after)
+}
+
+// The left side of a bind: its patterns and its remainder.
+#[cycle(print)]
+fn put_left(
+    out: &mut Vec<u8>,
+    pats: &[TermPat],
+    ending: TermRest,
+    depth: usize,
+    next: usize,
+) -> Result<usize, AllocError>
+    requires { HasRoom depth next out.old.items }
+    ensures text { OnOk result (Holds IsFine (all name_pat) (trees pats.now) → out.new.items ≡ out.old.items ++ left_text pats.now ending depth next) }
+    ensures next { IfOk result (λ m. Holds IsFine (all name_pat) (trees pats.now) → m ≡ next + length (bound_all (trees pats.now)) + length (bound (leaf (rest ending)))) }
+    ensures room { IfOk result (λ m. HasRoom next m out.new.items) }
+    ensures grows { OnOk result (length out.old.items ≤ length out.new.items) }
+{
+    let after = put_name_pats(out, pats, depth, next)?;
+    put_rest(out, pats.len(), b", ", b"...@", ending, after)
+}
+
+#[cycle(print)]
+pub(crate) fn put_cases(
+    out: &mut Vec<u8>,
+    cases: &[TermCase],
+    depth: usize,
+) -> Result<(), AllocError>
+    requires { depth ≤ length out.old.items }
+    ensures text { OnOk result (WritesAll (codes " ") a_case (map case_tree cases.now) depth out.old.items out.new.items) }
+    ensures grows { OnOk result (length out.old.items ≤ length out.new.items) }
+{
+    for i in 0..cases.len() {
+        separate(out, i, b" ")?;
+        put_case(out, &cases[i], depth)?;
+    }
+    Ok(())
+}
+
+#[cycle(print)]
+fn put_case(out: &mut Vec<u8>, case: &TermCase, depth: usize) -> Result<(), AllocError>
+    requires { depth ≤ length out.old.items }
+    ensures text { OnOk result (Writes a_case (case_tree case.now) depth out.old.items out.new.items) }
+    ensures grows { OnOk result (length out.old.items ≤ length out.new.items) }
+{
+    put(out, b"(")?;
+    let inner = put_pat(out, &case.pat, depth, depth)?;
+    put(out, b") => ")?;
+    put_block(out, &case.body, inner)
+}

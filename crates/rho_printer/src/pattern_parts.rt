@@ -1,0 +1,300 @@
+// The texts of the parts of patterns. Each function gives the number of the next variable.
+ghost use Rattle.std.specs.Prelude.{◌≡◌, ◌++◌, ◌+◌, ◌≤◌, ◌<◌, [], map, length, codes, IfOk, OnOk};
+ghost use Rattle.calculus.specs.Form.{all, pat, name_pat, pair_of, pat_part, name_part};
+ghost use Rattle.calculus.specs.Printed.{is_atom, is_bare_name, variable_text};
+ghost use Rattle.calculus.specs.Shape.{label_of, leaf, one, two, many};
+ghost use Rattle.calculus.specs.Tree.{row, rest, tuple, send, bundle, trees};
+ghost use Rattle.calculus.specs.Variables.{bound, bound_all};
+ghost use Rattle.calculus.proofs.Formed.{Formed, Holds};
+ghost use Rattle.calculus.proofs.Tails.{IsFine};
+ghost use Rattle.rho_term.specs.Normal.{IsOrdered};
+ghost use Rattle.rho_term.specs.Parts.{part_tree, pat_part_tree, pair_tree};
+ghost use Rattle.rho_printer.specs.Texts.{HasRoom, IsClosedForm, text_of, joined_text, members_text};
+
+use crate::fixed::{rights_word, send_marks, simple_word, tuple_end};
+use crate::parts::{is_atom_part, put_ground, put_part};
+use crate::patterns::{put_name_pat, put_pat, put_pat_operand, put_pat_pairs, put_pats};
+use crate::terms::put_braced;
+use crate::words::{put, put_rest, put_variable};
+use calculus::{Rights, TermRest};
+use rho_term::{Part, PatPart, Term, TermPat};
+use std::alloc::AllocError;
+
+#[cycle(print)]
+pub(crate) fn put_pat_part(
+    out: &mut Vec<u8>,
+    p: &PatPart,
+    depth: usize,
+    next: usize,
+) -> Result<usize, AllocError>
+    requires room { HasRoom depth next out.old.items }
+    requires ordered { IsOrdered (pat_part_tree p.now) }
+    ensures text { OnOk result (Formed IsFine name_part (pat_part_tree p.now) → out.new.items ≡ out.old.items ++ text_of pat_part (pat_part_tree p.now) depth next) }
+    ensures next { IfOk result (λ m. Formed IsFine name_part (pat_part_tree p.now) → m ≡ next + length (bound (pat_part_tree p.now))) }
+    ensures room { IfOk result (λ m. HasRoom next m out.new.items) }
+    ensures grows { OnOk result (length out.old.items ≤ length out.new.items) }
+{
+    match p {
+        PatPart::Wild => put_and(out, b"_", next),
+        PatPart::Var => put_new_variable(out, next),
+        PatPart::NameVar => put_new_variable(out, next),
+        PatPart::Simple(kind) => put_and(out, simple_word(*kind), next),
+        PatPart::Same(t) => {
+            put(out, b"=")?;
+            put_braced(out, t, depth)?;
+            Ok(next)
+        }
+        PatPart::Ground(g) => {
+            put_ground(out, g)?;
+            Ok(next)
+        }
+        PatPart::Both(left, right) => put_joined(out, left, b" /\\ ", right, depth, next),
+        PatPart::Either(left, right) => put_joined(out, left, b" \\/ ", right, depth, next),
+        PatPart::Not(inner) => {
+            put(out, b"~")?;
+            put_pat_operand(out, inner, depth, next)
+        }
+        PatPart::List(members, rest) => put_pat_list(out, b"[", members, *rest, b"]", depth, next),
+        PatPart::Tuple(members) => put_pat_tuple(out, members, depth, next),
+        PatPart::Set(members, rest) => put_pat_list(
+            out, b"Set(", members, *rest, b")", depth, next,
+        ),
+        PatPart::Map(pairs, rest) => put_pat_map(out, pairs, *rest, depth, next),
+        PatPart::Send {
+            channel,
+            args,
+            persistent,
+        } => put_pat_send(out, channel, args, *persistent, depth, next),
+        PatPart::Bundle { rights, body } => put_pat_bundle(out, *rights, body, depth, next),
+        PatPart::Closed(part) => put_closed(out, part, depth, next),
+    }
+}
+
+// Whether a part of a pattern needs no braces.
+pub(crate) fn is_pattern_atom_part(p: &PatPart) -> bool
+    ensures { result ≡ is_atom (label_of (pat_part_tree p.now)) }
+{
+    match p {
+        PatPart::Wild => true,
+        PatPart::Var => true,
+        PatPart::Simple(_) => true,
+        PatPart::Same(_) => true,
+        PatPart::Ground(_) => true,
+        PatPart::List(_, _) => true,
+        PatPart::Tuple(_) => true,
+        PatPart::Set(_, _) => true,
+        PatPart::Map(_, _) => true,
+        PatPart::Closed(part) => is_atom_part(part),
+        _ => false,
+    }
+}
+
+fn put_and(out: &mut Vec<u8>, word: &[u8], next: usize) -> Result<usize, AllocError>
+    ensures text { OnOk result (out.new.items ≡ out.old.items ++ word.now) }
+    ensures next { IfOk result (λ m. m ≡ next) }
+    ensures grows { OnOk result (length out.old.items ≤ length out.new.items) }
+{
+    put(out, word)?;
+    Ok(next)
+}
+
+fn put_new_variable(out: &mut Vec<u8>, next: usize) -> Result<usize, AllocError>
+    requires { next ≤ length out.old.items }
+    ensures text { OnOk result (out.new.items ≡ out.old.items ++ variable_text next) }
+    ensures next { IfOk result (λ m. m ≡ next + 1) }
+    ensures grows { OnOk result (length out.old.items < length out.new.items) }
+{
+    put_variable(out, next)?;
+    Ok(next + 1)
+}
+
+// Two patterns with a sign between them.
+#[cycle(print)]
+fn put_joined(
+    out: &mut Vec<u8>,
+    left: &TermPat,
+    sign: &[u8],
+    right: &TermPat,
+    depth: usize,
+    next: usize,
+) -> Result<usize, AllocError>
+    requires { HasRoom depth next out.old.items }
+    ensures text { OnOk result (Formed IsFine pat left.now → Formed IsFine pat right.now → out.new.items ≡ out.old.items ++ joined_text left.now sign.now right.now depth next) }
+    ensures next { IfOk result (λ m. Formed IsFine pat left.now → Formed IsFine pat right.now → m ≡ next + length (bound left.now) + length (bound right.now)) }
+    ensures room { IfOk result (λ m. HasRoom next m out.new.items) }
+    ensures grows { OnOk result (length out.old.items ≤ length out.new.items) }
+{
+    put(out, b"(")?;
+    let middle = put_pat_operand(out, left, depth, next)?;
+    put(out, sign)?;
+    let after = put_pat_operand(out, right, depth, middle)?;
+    put(out, b")")?;
+    Ok(after)
+}
+
+// Members with their remainder, between two words.
+#[cycle(print)]
+fn put_pat_list(
+    out: &mut Vec<u8>,
+    opening: &[u8],
+    members: &[TermPat],
+    ending: TermRest,
+    closing: &[u8],
+    depth: usize,
+    next: usize,
+) -> Result<usize, AllocError>
+    requires { HasRoom depth next out.old.items }
+    ensures text { OnOk result (Holds IsFine (all pat) (trees members.now) → out.new.items ≡ out.old.items ++ (opening.now ++ (members_text pat members.now ending depth next ++ closing.now))) }
+    ensures next { IfOk result (λ m. Holds IsFine (all pat) (trees members.now) → m ≡ next + length (bound_all (trees members.now)) + length (bound (leaf (rest ending)))) }
+    ensures room { IfOk result (λ m. HasRoom next m out.new.items) }
+    ensures grows { OnOk result (length out.old.items ≤ length out.new.items) }
+{
+    put(out, opening)?;
+    let middle = put_pats(out, members, depth, next)?;
+    let after = put_rest(out, members.len(), b" ", b"...", ending, middle)?;
+    put(out, closing)?;
+    Ok(after)
+}
+
+#[cycle(print)]
+fn put_pat_map(
+    out: &mut Vec<u8>,
+    pairs: &[(TermPat, TermPat)],
+    ending: TermRest,
+    depth: usize,
+    next: usize,
+) -> Result<usize, AllocError>
+    requires { HasRoom depth next out.old.items }
+    ensures text { OnOk result (Holds IsFine (all (pair_of pat)) (trees (map pair_tree pairs.now)) → out.new.items ≡ out.old.items ++ (codes "{" ++ (members_text (pair_of pat) (map pair_tree pairs.now) ending depth next ++ codes "}"))) }
+    ensures next { IfOk result (λ m. Holds IsFine (all (pair_of pat)) (trees (map pair_tree pairs.now)) → m ≡ next + length (bound_all (trees (map pair_tree pairs.now))) + length (bound (leaf (rest ending)))) }
+    ensures room { IfOk result (λ m. HasRoom next m out.new.items) }
+    ensures grows { OnOk result (length out.old.items ≤ length out.new.items) }
+{
+    put(out, b"{")?;
+    let middle = put_pat_pairs(out, pairs, depth, next)?;
+    let after = put_rest(out, pairs.len(), b" ", b"...", ending, middle)?;
+    put(out, b"}")?;
+    Ok(after)
+}
+
+#[cycle(print)]
+fn put_pat_tuple(
+    out: &mut Vec<u8>,
+    members: &[TermPat],
+    depth: usize,
+    next: usize,
+) -> Result<usize, AllocError>
+    requires { HasRoom depth next out.old.items }
+    ensures text { OnOk result (Formed IsFine name_part (many tuple members.now) → out.new.items ≡ out.old.items ++ text_of pat_part (many tuple members.now) depth next) }
+    ensures next { IfOk result (λ m. Formed IsFine name_part (many tuple members.now) → m ≡ next + length (bound (many tuple members.now))) }
+    ensures room { IfOk result (λ m. HasRoom next m out.new.items) }
+    ensures grows { OnOk result (length out.old.items ≤ length out.new.items) }
+{
+    put(out, b"(")?;
+    let after = put_pats(out, members, depth, next)?;
+    put(out, tuple_end(members.len()))?;
+    Ok(after)
+}
+
+#[cycle(print)]
+fn put_pat_send(
+    out: &mut Vec<u8>,
+    channel: &TermPat,
+    args: &[TermPat],
+    persistent: bool,
+    depth: usize,
+    next: usize,
+) -> Result<usize, AllocError>
+    requires { HasRoom depth next out.old.items }
+    ensures text { OnOk result (Formed IsFine name_part (two (send persistent) channel.now (many row args.now)) → out.new.items ≡ out.old.items ++ text_of pat_part (two (send persistent) channel.now (many row args.now)) depth next) }
+    ensures next { IfOk result (λ m. Formed IsFine name_part (two (send persistent) channel.now (many row args.now)) → m ≡ next + length (bound (two (send persistent) channel.now (many row args.now)))) }
+    ensures room { IfOk result (λ m. HasRoom next m out.new.items) }
+    ensures grows { OnOk result (length out.old.items ≤ length out.new.items) }
+{
+    let middle = put_name_pat(out, channel, depth, next)?;
+    put(out, send_marks(persistent))?;
+    let after = put_pats(out, args, depth, middle)?;
+    put(out, b")")?;
+    Ok(after)
+}
+
+#[cycle(print)]
+fn put_pat_bundle(
+    out: &mut Vec<u8>,
+    rights: Rights,
+    body: &TermPat,
+    depth: usize,
+    next: usize,
+) -> Result<usize, AllocError>
+    requires { HasRoom depth next out.old.items }
+    ensures text { OnOk result (Formed IsFine name_part (one (bundle rights) body.now) → out.new.items ≡ out.old.items ++ text_of pat_part (one (bundle rights) body.now) depth next) }
+    ensures next { IfOk result (λ m. Formed IsFine name_part (one (bundle rights) body.now) → m ≡ next + length (bound (one (bundle rights) body.now))) }
+    ensures room { IfOk result (λ m. HasRoom next m out.new.items) }
+    ensures grows { OnOk result (length out.old.items ≤ length out.new.items) }
+{
+    put(out, rights_word(rights))?;
+    put(out, b"{ ")?;
+    let after = put_pat(out, body, depth, next)?;
+    put(out, b" }")?;
+    Ok(after)
+}
+
+// A closed form, whose variables are numbered from the scope outside the pattern.
+#[cycle(print)]
+fn put_closed(
+    out: &mut Vec<u8>,
+    part: &Part,
+    depth: usize,
+    next: usize,
+) -> Result<usize, AllocError>
+    requires room { HasRoom depth next out.old.items }
+    requires ordered { IsOrdered (part_tree part.now) }
+    ensures text { OnOk result (Formed IsFine name_part (part_tree part.now) → out.new.items ≡ out.old.items ++ text_of pat_part (part_tree part.now) depth next) }
+    ensures next { IfOk result (λ m. Formed IsFine name_part (part_tree part.now) → m ≡ next + length (bound (part_tree part.now))) }
+    ensures room { IfOk result (λ m. HasRoom next m out.new.items) }
+    ensures grows { OnOk result (length out.old.items ≤ length out.new.items) }
+{
+    look_inside(part);
+    put_part(out, part, depth)?;
+    Ok(next)
+}
+
+// What may be a closed form in a pattern is a part of a process: a tuple, a send or a bundle of
+// processes is none of patterns.
+fn look_inside(p: &Part)
+    ensures { Formed IsFine name_part (part_tree p.now) → IsClosedForm p.now }
+{
+    match p {
+        Part::Tuple(members) => look_at_first(members),
+        Part::Send { channel, .. } => look_at(channel),
+        Part::Bundle { body, .. } => look_at(body),
+        _ => {}
+    }
+}
+
+fn look_at_first(members: &[Term])
+    ensures { Holds IsFine (all pat) (trees members.now) → members.now ≡ [] }
+{
+    if !members.is_empty() {
+        look_at(&members[0]);
+    }
+}
+
+// A process is no pattern.
+fn look_at(t: &Term)
+    ensures names { Formed IsFine name_pat t.now → ⊥ }
+    ensures processes { Formed IsFine pat t.now → ⊥ }
+{
+    let _parts = t.parts();
+}
+
+// Whether a part of a pattern is a name pattern by itself.
+pub(crate) fn is_bare_part(p: &PatPart) -> bool
+    ensures { result ≡ is_bare_name (label_of (pat_part_tree p.now)) }
+{
+    match p {
+        PatPart::Wild => true,
+        PatPart::NameVar => true,
+        _ => false,
+    }
+}

@@ -1,0 +1,205 @@
+// The texts of patterns. Each function gives the number of the next variable.
+ghost use Rattle.std.specs.Prelude.{◌≡◌, ◌++◌, ◌+◌, ◌≤◌, ℕ, List, cond, map, length, codes, IfOk, OnOk};
+ghost use Rattle.calculus.specs.Form.{all, name_pat, pat, pair_of, name_part, pat_part};
+ghost use Rattle.calculus.specs.Printed.{operand_text, name_pattern_text, separated};
+ghost use Rattle.calculus.specs.Shape.{held};
+ghost use Rattle.calculus.specs.Tree.{trees};
+ghost use Rattle.calculus.specs.Variables.{bound, bound_all};
+ghost use Rattle.calculus.proofs.Formed.{Formed, Holds};
+ghost use Rattle.calculus.proofs.Tails.{IsFine};
+ghost use Rattle.rho_term.specs.Normal.{AreNormal};
+ghost use Rattle.rho_term.specs.Parts.{pat_part_tree, pair_tree};
+ghost use Rattle.rho_printer.specs.Texts.{HasRoom, text_of, texts_of};
+
+use crate::pattern_parts::{is_bare_part, is_pattern_atom_part, put_pat_part};
+use crate::words::{put, separate};
+use rho_term::{PatPart, TermPat};
+use std::alloc::AllocError;
+
+#[cycle(print)]
+pub(crate) fn put_pat(
+    out: &mut Vec<u8>,
+    t: &TermPat,
+    depth: usize,
+    next: usize,
+) -> Result<usize, AllocError>
+    requires { HasRoom depth next out.old.items }
+    ensures text { OnOk result (Formed IsFine name_pat t.now → out.new.items ≡ out.old.items ++ text_of pat t.now depth next) }
+    ensures next { IfOk result (λ m. Formed IsFine name_pat t.now → m ≡ next + length (bound t.now)) }
+    ensures room { IfOk result (λ m. HasRoom next m out.new.items) }
+    ensures grows { OnOk result (length out.old.items ≤ length out.new.items) }
+{
+    let parts = t.parts();
+    if parts.is_empty() {
+        put(out, b"Nil")?;
+        return Ok(next);
+    }
+    put_pat_parts(out, parts, depth, next)
+}
+
+#[cycle(print)]
+fn put_pat_parts(
+    out: &mut Vec<u8>,
+    parts: &[PatPart],
+    depth: usize,
+    next: usize,
+) -> Result<usize, AllocError>
+    requires room { HasRoom depth next out.old.items }
+    requires normal { AreNormal (trees (map pat_part_tree parts.now)) }
+    ensures text { OnOk result (Holds IsFine (all name_part) (trees (map pat_part_tree parts.now)) → out.new.items ≡ out.old.items ++ separated (codes " | ") (texts_of pat_part (map pat_part_tree parts.now) depth next)) }
+    ensures next { IfOk result (λ m. Holds IsFine (all name_part) (trees (map pat_part_tree parts.now)) → m ≡ next + length (bound_all (trees (map pat_part_tree parts.now)))) }
+    ensures room { IfOk result (λ m. HasRoom next m out.new.items) }
+    ensures grows { OnOk result (length out.old.items ≤ length out.new.items) }
+{
+    let mut number = next;
+    for i in 0..parts.len() {
+        separate(out, i, b" | ")?;
+        number = put_pat_part(out, &parts[i], depth, number)?;
+    }
+    Ok(number)
+}
+
+// Whether a pattern is one part that needs no braces.
+fn is_pattern_atom(t: &TermPat) -> bool
+    ensures { (x : List ℕ) → operand_text (held t.now) x ≡ cond result x (codes "{" ++ (x ++ codes "}")) }
+{
+    match t.parts() {
+        [single] => is_pattern_atom_part(single),
+        _ => false,
+    }
+}
+
+// A pattern where an operand stands.
+#[cycle(print)]
+pub(crate) fn put_pat_operand(
+    out: &mut Vec<u8>,
+    t: &TermPat,
+    depth: usize,
+    next: usize,
+) -> Result<usize, AllocError>
+    requires { HasRoom depth next out.old.items }
+    ensures text { OnOk result (Formed IsFine name_pat t.now → out.new.items ≡ out.old.items ++ operand_text (held t.now) (text_of pat t.now depth next)) }
+    ensures next { IfOk result (λ m. Formed IsFine name_pat t.now → m ≡ next + length (bound t.now)) }
+    ensures room { IfOk result (λ m. HasRoom next m out.new.items) }
+    ensures grows { OnOk result (length out.old.items ≤ length out.new.items) }
+{
+    if is_pattern_atom(t) {
+        return put_pat(out, t, depth, next);
+    }
+    put(out, b"{")?;
+    let after = put_pat(out, t, depth, next)?;
+    put(out, b"}")?;
+    Ok(after)
+}
+
+// Whether a pattern of names is a variable or the wildcard.
+fn is_bare(t: &TermPat) -> bool
+    ensures { (x : List ℕ) → name_pattern_text (held t.now) x ≡ cond result x (codes "@" ++ operand_text (held t.now) x) }
+{
+    match t.parts() {
+        [single] => is_bare_part(single),
+        _ => false,
+    }
+}
+
+// A pattern of names.
+#[cycle(print)]
+pub(crate) fn put_name_pat(
+    out: &mut Vec<u8>,
+    t: &TermPat,
+    depth: usize,
+    next: usize,
+) -> Result<usize, AllocError>
+    requires { HasRoom depth next out.old.items }
+    ensures text { OnOk result (Formed IsFine name_pat t.now → out.new.items ≡ out.old.items ++ text_of name_pat t.now depth next) }
+    ensures next { IfOk result (λ m. Formed IsFine name_pat t.now → m ≡ next + length (bound t.now)) }
+    ensures room { IfOk result (λ m. HasRoom next m out.new.items) }
+    ensures grows { OnOk result (length out.old.items ≤ length out.new.items) }
+{
+    if is_bare(t) {
+        return put_pat(out, t, depth, next);
+    }
+    put(out, b"@")?;
+    put_pat_operand(out, t, depth, next)
+}
+
+#[cycle(print)]
+pub(crate) fn put_name_pats(
+    out: &mut Vec<u8>,
+    items: &[TermPat],
+    depth: usize,
+    next: usize,
+) -> Result<usize, AllocError>
+    requires { HasRoom depth next out.old.items }
+    ensures text { OnOk result (Holds IsFine (all name_pat) (trees items.now) → out.new.items ≡ out.old.items ++ separated (codes ", ") (texts_of name_pat items.now depth next)) }
+    ensures next { IfOk result (λ m. Holds IsFine (all name_pat) (trees items.now) → m ≡ next + length (bound_all (trees items.now))) }
+    ensures room { IfOk result (λ m. HasRoom next m out.new.items) }
+    ensures grows { OnOk result (length out.old.items ≤ length out.new.items) }
+{
+    let mut number = next;
+    for i in 0..items.len() {
+        separate(out, i, b", ")?;
+        number = put_name_pat(out, &items[i], depth, number)?;
+    }
+    Ok(number)
+}
+
+#[cycle(print)]
+pub(crate) fn put_pats(
+    out: &mut Vec<u8>,
+    items: &[TermPat],
+    depth: usize,
+    next: usize,
+) -> Result<usize, AllocError>
+    requires { HasRoom depth next out.old.items }
+    ensures text { OnOk result (Holds IsFine (all pat) (trees items.now) → out.new.items ≡ out.old.items ++ separated (codes ", ") (texts_of pat items.now depth next)) }
+    ensures next { IfOk result (λ m. Holds IsFine (all pat) (trees items.now) → m ≡ next + length (bound_all (trees items.now))) }
+    ensures room { IfOk result (λ m. HasRoom next m out.new.items) }
+    ensures grows { OnOk result (length out.old.items ≤ length out.new.items) }
+{
+    let mut number = next;
+    for i in 0..items.len() {
+        separate(out, i, b", ")?;
+        number = put_pat(out, &items[i], depth, number)?;
+    }
+    Ok(number)
+}
+
+#[cycle(print)]
+pub(crate) fn put_pat_pairs(
+    out: &mut Vec<u8>,
+    items: &[(TermPat, TermPat)],
+    depth: usize,
+    next: usize,
+) -> Result<usize, AllocError>
+    requires { HasRoom depth next out.old.items }
+    ensures text { OnOk result (Holds IsFine (all (pair_of pat)) (trees (map pair_tree items.now)) → out.new.items ≡ out.old.items ++ separated (codes ", ") (texts_of (pair_of pat) (map pair_tree items.now) depth next)) }
+    ensures next { IfOk result (λ m. Holds IsFine (all (pair_of pat)) (trees (map pair_tree items.now)) → m ≡ next + length (bound_all (trees (map pair_tree items.now)))) }
+    ensures room { IfOk result (λ m. HasRoom next m out.new.items) }
+    ensures grows { OnOk result (length out.old.items ≤ length out.new.items) }
+{
+    let mut number = next;
+    for i in 0..items.len() {
+        separate(out, i, b", ")?;
+        number = put_pat_pair(out, &items[i], depth, number)?;
+    }
+    Ok(number)
+}
+
+#[cycle(print)]
+fn put_pat_pair(
+    out: &mut Vec<u8>,
+    pair: &(TermPat, TermPat),
+    depth: usize,
+    next: usize,
+) -> Result<usize, AllocError>
+    requires { HasRoom depth next out.old.items }
+    ensures text { OnOk result (Formed IsFine (pair_of pat) (pair_tree pair.now) → out.new.items ≡ out.old.items ++ text_of (pair_of pat) (pair_tree pair.now) depth next) }
+    ensures next { IfOk result (λ m. Formed IsFine (pair_of pat) (pair_tree pair.now) → m ≡ next + length (bound (pair_tree pair.now))) }
+    ensures room { IfOk result (λ m. HasRoom next m out.new.items) }
+    ensures grows { OnOk result (length out.old.items ≤ length out.new.items) }
+{
+    let after = put_pat(out, &pair.0, depth, next)?;
+    put(out, b": ")?;
+    put_pat(out, &pair.1, depth, after)
+}

@@ -1,0 +1,170 @@
+// The texts of processes, of names and of the lists in them.
+ghost use Rattle.std.specs.Prelude.{◌≡◌, ◌++◌, ◌≤◌, ℕ, List, cond, codes, map, length, OnOk};
+ghost use Rattle.calculus.specs.Form.{term, part, pair_of};
+ghost use Rattle.calculus.specs.Printed.{operand_text, name_text, block};
+ghost use Rattle.calculus.specs.Shape.{held, only};
+ghost use Rattle.calculus.specs.Tree.{trees};
+ghost use Rattle.calculus.proofs.Formed.{Formed};
+ghost use Rattle.calculus.proofs.Tails.{IsFine};
+ghost use Rattle.rho_term.specs.Normal.{AreNormal};
+ghost use Rattle.rho_term.specs.Parts.{part_tree, pair_tree};
+ghost use Rattle.rho_printer.specs.Texts.{text_of, Writes, WritesAll};
+
+use crate::parts::{is_atom_part, put_part};
+use crate::words::{number_of, put, put_fresh, put_variable, separate};
+use rho_term::{Part, Term};
+use std::alloc::AllocError;
+
+#[cycle(print)]
+pub(crate) fn put_term(out: &mut Vec<u8>, t: &Term, depth: usize) -> Result<(), AllocError>
+    requires { depth ≤ length out.old.items }
+    ensures text { OnOk result (Writes term t.now depth out.old.items out.new.items) }
+    ensures grows { OnOk result (length out.old.items ≤ length out.new.items) }
+{
+    let parts = t.parts();
+    if parts.is_empty() {
+        return put(out, b"Nil");
+    }
+    put_parts(out, parts, depth)
+}
+
+#[cycle(print)]
+fn put_parts(out: &mut Vec<u8>, parts: &[Part], depth: usize) -> Result<(), AllocError>
+    requires room { depth ≤ length out.old.items }
+    requires normal { AreNormal (trees (map part_tree parts.now)) }
+    ensures text { OnOk result (WritesAll (codes " | ") part (map part_tree parts.now) depth out.old.items out.new.items) }
+    ensures grows { OnOk result (length out.old.items ≤ length out.new.items) }
+{
+    for i in 0..parts.len() {
+        separate(out, i, b" | ")?;
+        put_part(out, &parts[i], depth)?;
+    }
+    Ok(())
+}
+
+// Whether a process is one part that needs no braces.
+fn is_atom(t: &Term) -> bool
+    ensures { (x : List ℕ) → operand_text (held t.now) x ≡ cond result x (codes "{" ++ (x ++ codes "}")) }
+{
+    match t.parts() {
+        [single] => is_atom_part(single),
+        _ => false,
+    }
+}
+
+// A process where an operand stands.
+#[cycle(print)]
+pub(crate) fn put_operand(out: &mut Vec<u8>, t: &Term, depth: usize) -> Result<(), AllocError>
+    requires { depth ≤ length out.old.items }
+    ensures text { OnOk result (Formed IsFine term t.now → (n : ℕ) → out.new.items ≡ out.old.items ++ operand_text (held t.now) (text_of term t.now depth n)) }
+    ensures grows { OnOk result (length out.old.items ≤ length out.new.items) }
+{
+    if is_atom(t) {
+        return put_term(out, t, depth);
+    }
+    put_braced(out, t, depth)
+}
+
+#[cycle(print)]
+pub(crate) fn put_braced(out: &mut Vec<u8>, t: &Term, depth: usize) -> Result<(), AllocError>
+    requires { depth ≤ length out.old.items }
+    ensures text { OnOk result (Formed IsFine term t.now → (n : ℕ) → out.new.items ≡ out.old.items ++ (codes "{" ++ (text_of term t.now depth n ++ codes "}"))) }
+    ensures grows { OnOk result (length out.old.items ≤ length out.new.items) }
+{
+    put(out, b"{")?;
+    put_term(out, t, depth)?;
+    put(out, b"}")
+}
+
+// A body: a process in braces, with spaces.
+#[cycle(print)]
+pub(crate) fn put_block(out: &mut Vec<u8>, t: &Term, depth: usize) -> Result<(), AllocError>
+    requires { depth ≤ length out.old.items }
+    ensures text { OnOk result (Formed IsFine term t.now → (n : ℕ) → out.new.items ≡ out.old.items ++ block (text_of term t.now depth n)) }
+    ensures grows { OnOk result (length out.old.items ≤ length out.new.items) }
+{
+    put(out, b"{ ")?;
+    put_term(out, t, depth)?;
+    put(out, b" }")
+}
+
+// The name that quotes a process.
+#[cycle(print)]
+pub(crate) fn put_name(out: &mut Vec<u8>, t: &Term, depth: usize) -> Result<(), AllocError>
+    requires { depth ≤ length out.old.items }
+    ensures text { OnOk result (Formed IsFine term t.now → (n : ℕ) → out.new.items ≡ out.old.items ++ name_text (held t.now) (text_of term t.now depth n)) }
+    ensures grows { OnOk result (length out.old.items ≤ length out.new.items) }
+{
+    match t.parts() {
+        [] => put_quoted(out, t, depth),
+        [_, _, ..] => put_quoted(out, t, depth),
+        [single] => put_name_of(out, single, t, depth),
+    }
+}
+
+// The name that quotes a process of this one part.
+#[cycle(print)]
+fn put_name_of(out: &mut Vec<u8>, p: &Part, t: &Term, depth: usize) -> Result<(), AllocError>
+    requires room { depth ≤ length out.old.items }
+    requires is { t.now ≡ only (part_tree p.now) }
+    ensures text { OnOk result (Formed IsFine term t.now → (n : ℕ) → out.new.items ≡ out.old.items ++ name_text (held t.now) (text_of term t.now depth n)) }
+    ensures grows { OnOk result (length out.old.items ≤ length out.new.items) }
+{
+    match p {
+        Part::NameVar(i) => put_variable(out, number_of(depth, *i)),
+        Part::Fresh(name) => put_fresh(out, name),
+        _ => put_quoted(out, t, depth),
+    }
+}
+
+#[cycle(print)]
+fn put_quoted(out: &mut Vec<u8>, t: &Term, depth: usize) -> Result<(), AllocError>
+    requires { depth ≤ length out.old.items }
+    ensures text { OnOk result (Formed IsFine term t.now → (n : ℕ) → out.new.items ≡ out.old.items ++ (codes "@" ++ operand_text (held t.now) (text_of term t.now depth n))) }
+    ensures grows { OnOk result (length out.old.items ≤ length out.new.items) }
+{
+    put(out, b"@")?;
+    put_operand(out, t, depth)
+}
+
+#[cycle(print)]
+pub(crate) fn put_terms(out: &mut Vec<u8>, items: &[Term], depth: usize) -> Result<(), AllocError>
+    requires { depth ≤ length out.old.items }
+    ensures text { OnOk result (WritesAll (codes ", ") term items.now depth out.old.items out.new.items) }
+    ensures grows { OnOk result (length out.old.items ≤ length out.new.items) }
+{
+    for i in 0..items.len() {
+        separate(out, i, b", ")?;
+        put_term(out, &items[i], depth)?;
+    }
+    Ok(())
+}
+
+#[cycle(print)]
+pub(crate) fn put_pairs(
+    out: &mut Vec<u8>,
+    items: &[(Term, Term)],
+    depth: usize,
+) -> Result<(), AllocError>
+    requires { depth ≤ length out.old.items }
+    ensures text { OnOk result (WritesAll (codes ", ") (pair_of term) (map pair_tree items.now) depth out.old.items out.new.items) }
+    ensures grows { OnOk result (length out.old.items ≤ length out.new.items) }
+{
+    for i in 0..items.len() {
+        separate(out, i, b", ")?;
+        put_pair(out, &items[i], depth)?;
+    }
+    Ok(())
+}
+
+// A key and its value.
+#[cycle(print)]
+fn put_pair(out: &mut Vec<u8>, pair: &(Term, Term), depth: usize) -> Result<(), AllocError>
+    requires { depth ≤ length out.old.items }
+    ensures text { OnOk result (Writes (pair_of term) (pair_tree pair.now) depth out.old.items out.new.items) }
+    ensures grows { OnOk result (length out.old.items ≤ length out.new.items) }
+{
+    put_term(out, &pair.0, depth)?;
+    put(out, b": ")?;
+    put_term(out, &pair.1, depth)
+}

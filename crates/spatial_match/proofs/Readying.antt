@@ -1,0 +1,183 @@
+-- What stands in a closed short tree is closed and short, and what stands in a pattern is known as the pattern is.
+use Rattle.std.proofs.Common.{◌≡◌, ℕ, zero, suc, ◌+◌, ◌<◌, ◌≤◌, ◌^◌, Bool, true, false, cond, List, [], ◌∷◌, ◌++◌, length, map as each, get_or, refl, sym, ap, ◌∙◌, subst, arith, length-append}
+use Rattle.std.specs.Prelude.{⊤, All}
+use Rattle.std.proofs.lemmas.List.Sums.{sum_by-cons}
+use Rattle.calculus.specs.Tree.{Label, Tree, node, trees, par, row, pair, list, tuple, set, dict, send, bundle, pattern, Trees, none, also}
+use Rattle.calculus.specs.Bytes.{joined}
+use Rattle.calculus.specs.Shape.{process, only, held, listed, many, one, two, label_of}
+use Rattle.calculus.specs.Variables.{Sense, is_wide}
+use Rattle.calculus.specs.Order.{IsAscending}
+use Rattle.calculus.specs.Code.{code, codes}
+use Rattle.calculus.specs.CodeLaws.{IsShort}
+use Rattle.calculus.specs.Form.{Sort, term, part, row_of, pair_of, all, Hold, Fits, wides}
+use Rattle.calculus.proofs.Formed.{length-code}
+use Rattle.calculus.proofs.Tails.{length-be32}
+use Rattle.calculus.proofs.Placing.{listed-trees}
+use Rattle.rho_term.specs.Normal.{IsNormal, AreNormal, IsOrdered}
+use Rattle.rho_term.specs.Parts.{part_tree, pair_tree}
+use Rattle.rho_term.specs.declared.term.Part.{Part}
+use Rattle.rho_term.proofs.Trees.{ordered-at}
+use Rattle.spatial_match.specs.Given.{Ready, AllReady, Tries, TriesIn, AllTries}
+use Rattle.spatial_match.specs.Search.{left_from, has, no_wide, AtMostOne}
+use Rattle.spatial_match.specs.Found.{member}
+use Rattle.spatial_match.proofs.Rows.{member-wide}
+
+-- the bytes of the codes of these trees
+abbrev pub bytes_of : List Tree → ℕ
+bytes_of ts = length (joined (codes (trees ts)))
+
+bytes-cons : (t : Tree) (ts : List Tree) → bytes_of (t ∷ ts) ≡ length (code t) + bytes_of ts
+bytes-cons t ts = length-append (code t) (joined (codes (trees ts)))
+
+bytes-at : (ts : List Tree) (i : ℕ) (d : Tree) → i < length ts → length (code (get_or ts i d)) ≤ bytes_of ts
+bytes-at [] i d h = absurd (omega arith)
+bytes-at (t ∷ ts) zero d h = omega (arith, bytes-cons t ts)
+bytes-at (t ∷ ts) (suc i) d h = omega (arith, bytes-cons t ts, bytes-at ts i d (omega arith))
+
+fits-at : (s : Sort) (o : List Sense) (ts : List Tree) (i : ℕ) (d : Tree) → i < length ts → Hold (all s) [] o (trees ts) → Fits s [] (get_or ts i d)
+fits-at s o [] i d h k = absurd (omega arith)
+fits-at s o (t ∷ ts) zero d h k = k.0
+fits-at s o (t ∷ ts) (suc i) d h k = fits-at s o ts i d (omega arith) k.1
+
+-- the length of the code of a process of one part
+only-length : (t : Tree) → length (code (only t)) ≡ 4 + length (code t)
+only-length t = omega (arith, length-code par (also t none), bytes-cons t [], length-be32)
+
+-- a part of a process
+pub part-ready : (ts : List Tree) (i : ℕ) (d : Tree) → i < length ts → Ready term (process ts) → Ready term (only (get_or ts i d))
+part-ready ts i d h k = record {
+  closed = (tt, (fits-at part [] ts i d h k.closed.1, tt));
+  short = omega (arith, k.short, only-length (get_or ts i d), length-code par (trees ts), bytes-at ts i d h, length-be32);
+}
+
+pub all-ready : (s : Sort) (o : List Sense) (ts : List Tree) → Hold (all s) [] o (trees ts) → bytes_of ts < 2 ^ 32 → AllReady s ts
+all-ready s o [] h k = tt
+all-ready s o (t ∷ ts) h k = (record { closed = h.0; short = omega (arith, bytes-cons t ts) }, all-ready s o ts h.1 (omega (arith, bytes-cons t ts)))
+
+-- the codes of what a part holds
+inside : (l : Label) (ts : List Tree) → IsShort (only (many l ts)) → bytes_of ts < 2 ^ 32
+inside l ts h = omega (arith, h, only-length (many l ts), length-code l (trees ts))
+
+pub list-ready : (ts : List Tree) → Ready term (only (many list ts)) → AllReady term ts
+list-ready ts h = all-ready term [] ts h.closed.1.0.1 (inside list ts h.short)
+
+pub tuple-ready : (ts : List Tree) → Ready term (only (many tuple ts)) → AllReady term ts
+tuple-ready ts h = all-ready term [] ts h.closed.1.0.1 (inside tuple ts h.short)
+
+pub set-ready : (ts : List Tree) → Ready term (only (many set ts)) → AllReady term ts
+set-ready ts h = all-ready term [] ts h.closed.1.0.1 (inside set ts h.short)
+
+pub map-ready : (ts : List Tree) → Ready term (only (many dict ts)) → AllReady (pair_of term) ts
+map-ready ts h = all-ready (pair_of term) [] ts h.closed.1.0.1 (inside dict ts h.short)
+
+pub channel-ready : (q : Bool) (c : Tree) (xs : List Tree) → Ready term (only (two (send q) c (many row xs))) → Ready term c
+channel-ready q c xs h = record {
+  closed = h.closed.1.0.1.0;
+  short = omega (arith, inside (send q) (c ∷ many row xs ∷ []) h.short, bytes-cons c (many row xs ∷ []));
+}
+
+pub data-ready : (q : Bool) (c : Tree) (xs : List Tree) → Ready term (only (two (send q) c (many row xs))) → AllReady term xs
+data-ready q c xs h =
+    all-ready term [] xs h.closed.1.0.1.1.0.1
+    (omega (arith, inside (send q) (c ∷ many row xs ∷ []) h.short, bytes-cons c (many row xs ∷ []), bytes-cons (many row xs) [], length-code row (trees xs)))
+
+pub body-ready : (l : Label) (b : Tree) → Fits term [] b → Ready term (only (one l b)) → Ready term b
+body-ready l b f h = record { closed = f; short = omega (arith, inside l (b ∷ []) h.short, bytes-cons b []) }
+
+pub key-ready : (a b : Tree) → Ready (pair_of term) (two pair a b) → Ready term a
+key-ready a b h = record { closed = h.closed.1.0; short = omega (arith, h.short, length-code pair (also a (also b none)), bytes-cons a (b ∷ [])) }
+
+pub value-ready : (a b : Tree) → Ready (pair_of term) (two pair a b) → Ready term b
+value-ready a b h =
+    record { closed = h.closed.1.1.0; short = omega (arith, h.short, length-code pair (also a (also b none)), bytes-cons a (b ∷ []), bytes-cons b []) }
+
+pub ready-at : (s : Sort) (ts : List Tree) (i : ℕ) (d : Tree) → i < length ts → AllReady s ts → Ready s (get_or ts i d)
+ready-at s [] i d h k = absurd (omega arith)
+ready-at s (t ∷ ts) zero d h k = k.0
+ready-at s (t ∷ ts) (suc i) d h k = ready-at s ts i d (omega arith) k.1
+
+-- the same for things that stand for trees
+pub ready-of : {A : Type 0} (f : A → Tree) (s : Sort) (xs : List A) (i : ℕ) (d : A) → i < length xs → AllReady s (each f xs) → Ready s (f (get_or xs i d))
+ready-of f s [] i d h k = absurd (omega arith)
+ready-of f s (x ∷ xs) zero d h k = k.0
+ready-of f s (x ∷ xs) (suc i) d h k = ready-of f s xs i d (omega arith) k.1
+
+pub tries-at : (ts : List Tree) (i : ℕ) (d : Tree) → i < length ts → AllTries ts → Tries (get_or ts i d)
+tries-at [] i d h k = absurd (omega arith)
+tries-at (t ∷ ts) zero d h k = k.0
+tries-at (t ∷ ts) (suc i) d h k = tries-at ts i d (omega arith) k.1
+
+pub tries-of : {A : Type 0} (f : A → Tree) (xs : List A) (i : ℕ) (d : A) → i < length xs → AllTries (each f xs) → Tries (f (get_or xs i d))
+tries-of f [] i d h k = absurd (omega arith)
+tries-of f (x ∷ xs) zero d h k = k.0
+tries-of f (x ∷ xs) (suc i) d h k = tries-of f xs i d (omega arith) k.1
+
+in_pattern : (ts : List Tree) → TriesIn pattern (trees ts) → AllTries ts
+in_pattern [] h = tt
+in_pattern (t ∷ ts) h = (h.0, in_pattern ts h.1)
+
+pub pattern-tries : (ts : List Tree) → Tries (many pattern ts) → AllTries ts
+pattern-tries ts h = in_pattern ts h.1
+
+in_tuple : (ts : List Tree) → TriesIn tuple (trees ts) → AllTries ts
+in_tuple [] h = tt
+in_tuple (t ∷ ts) h = (h.0, in_tuple ts h.1)
+
+pub tuple-tries : (ts : List Tree) → Tries (many tuple ts) → AllTries ts
+tuple-tries ts h = in_tuple ts h.1
+
+in_row : (ts : List Tree) → TriesIn row (trees ts) → AllTries ts
+in_row [] h = tt
+in_row (t ∷ ts) h = (h.0, in_row ts h.1)
+
+pub row-tries : (ts : List Tree) → Tries (many row ts) → AllTries ts
+row-tries ts h = in_row ts h.1
+
+not_one : (b : Bool) (n : ℕ) → cond b 1 0 + n ≤ 0 → b ≡ false
+not_one true n h = absurd (omega arith)
+not_one false n h = refl
+
+no_more : (b : Bool) (n : ℕ) → cond b 1 0 + n ≤ 0 → n ≤ 0
+no_more true n h = omega arith
+no_more false n h = omega arith
+
+one_less : (b : Bool) (n : ℕ) → b ≡ true → cond b 1 0 + n ≤ 1 → n ≤ 0
+one_less true n e h = omega arith
+one_less false n e h = cc
+
+fewer : (b : Bool) (n : ℕ) → cond b 1 0 + n ≤ 1 → n ≤ 1
+fewer true n h = omega arith
+fewer false n h = omega arith
+
+-- of parts of which one at most is wide
+module _ {A : Type 0} (f : A → Tree) where
+  count : (x : A) (xs : List A) → wides (each f (x ∷ xs)) ≡ cond (is_wide (label_of (f x))) 1 0 + wides (each f xs)
+  count x xs = sum_by-cons (λ t. cond (is_wide (label_of t)) 1 0) (f x) (each f xs)
+
+  none_wide : (xs : List A) → wides (each f xs) ≤ 0 → no_wide (each (λ x. member (f x)) xs) ≡ true
+  none_wide [] h = refl
+  none_wide (x ∷ xs) h =
+      let b = is_wide (label_of (f x)) in
+      let n = wides (each f xs) in
+      let k : cond b 1 0 + n ≤ 0 = omega (arith, h, count x xs) in
+      ap (λ c. cond c false (no_wide (each (λ (y : A). member (f y)) xs))) (member-wide (f x) ∙ not_one b n k) ∙ none_wide xs (no_more b n k)
+
+  pub one_wide : (xs : List A) → wides (each f xs) ≤ 1 → AtMostOne (each (λ x. member (f x)) xs)
+  one_wide [] h = tt
+  one_wide (x ∷ xs) h =
+      let b = is_wide (label_of (f x)) in
+      let n = wides (each f xs) in
+      let k : cond b 1 0 + n ≤ 1 = omega (arith, h, count x xs) in
+      (λ e. none_wide xs (one_less b n (sym (member-wide (f x)) ∙ e) k), one_wide xs (fewer b n k))
+
+-- the parts that are left are in order inside
+left-normal : (i : ℕ) (us : List ℕ) (ts : List Tree) → AreNormal (trees ts) → AreNormal (trees (left_from i us ts))
+left-normal i us [] h = tt
+left-normal i us (t ∷ ts) h =
+    let P : Bool → Type 0 = λ b. AreNormal (trees (cond b (left_from (suc i) us ts) (t ∷ left_from (suc i) us ts))) in
+    let k = left-normal (suc i) us ts h.1 in
+    elim (has us i) as P [ true ↦ k | false ↦ (h.0, k) ]
+
+pub left-ordered : (us : List ℕ) (ps qs : List Part) → AreNormal (trees (each part_tree ps)) → each part_tree qs ≡ left_from 0 us (each part_tree ps) → All (λ p. IsOrdered (part_tree p)) qs
+left-ordered us ps qs h e k d l =
+    ordered-at part_tree qs k d l (subst (λ (ts : List Tree). AreNormal (trees ts)) (sym e) (left-normal 0 us (each part_tree ps) h))

@@ -1,0 +1,89 @@
+-- One step of the search for the members of a set or map.
+use Rattle.std.proofs.Common.{◌≡◌, ℕ, zero, suc, ◌+◌, ◌<◌, ◌≤◌, Bool, true, false, cond, List, [], ◌∷◌, ◌++◌, length, map as each, drop, get_or, refl, sym, ap, ◌∙◌, subst, arith, append_assoc}
+use Rattle.std.specs.Prelude.{Option, Some, None, is_some, flat_map}
+use Rattle.std.specs.declared.alloc.Global.{Global}
+use Rattle.std.specs.declared.vec.Vec.{Vec}
+use Rattle.std.proofs.lemmas.List.{drop_all}
+use Rattle.calculus.specs.declared.plain.TermRest.{TermRest}
+use Rattle.calculus.specs.declared.plain.TermRest.TheVariants as rests
+use Rattle.calculus.specs.Tree.{Tree, par}
+use Rattle.calculus.specs.Shape.{leaf}
+use Rattle.calculus.specs.Matching.{Bindings, Member, Choice, ways, first_of_all, one_if, is_empty, rest_match}
+use Rattle.spatial_match.specs.Search.{has, left_from, first_way, at_place, member_at, may_rest, MemberWay}
+use Rattle.spatial_match.specs.Found.{IsFirst, IsFirstMembers}
+use Rattle.spatial_match.proofs.Rows.{drop-at}
+use Rattle.spatial_match.proofs.Ways.{later, starts, passes, stops, ends, taken, refused, dead, alive}
+
+module _ (r : TermRest) (made : List Tree → Tree) (all : List Member) (us : List ℕ) (ts : List Tree) (i : ℕ) (h : i < length all) where
+  abbrev m : Member
+  m = member_at i all
+
+  abbrev ms : List Member
+  ms = drop (i + 1) all
+
+  abbrev f : List Tree → Bool
+  f = may_rest r
+
+  pub member-starts : m.wide ≡ false → first_way f (ways (drop i all) (left_from 0 us ts)) ≡ first_way f (later f m ms us ts 0)
+  member-starts e = ap (λ xs. first_way f (ways xs (left_from 0 us ts))) (drop-at all i h) ∙ starts f m ms us ts e
+
+  abbrev Reached : ℕ → Type 0
+  Reached j = first_way f (ways (drop i all) (left_from 0 us ts)) ≡ first_way f (later f m ms us ts j)
+
+  pub member-passes : (j : ℕ) (o : Option (Vec Tree Global)) → j < length ts → is_some o ≡ false → Reached j → IsFirstMembers r made (at_place m ms us ts j) o → Reached (j + 1)
+  member-passes j None l e q w = q ∙ passes f m ms us ts j l w
+  member-passes j (Some v) l e q w = cc
+
+  pub member-stops : (j : ℕ) (o : Option (Vec Tree Global)) → j < length ts → is_some o ≡ true → Reached j → IsFirstMembers r made (at_place m ms us ts j) o
+      → IsFirstMembers r made (ways (drop i all) (left_from 0 us ts)) o
+  member-stops j None l e q w = cc
+  member-stops j (Some v) l e q w = record { bs = w.bs; left = w.left; x = w.x; first = q ∙ stops f m ms us ts j (w.bs, w.left) l w.first; last = w.last; is = w.is }
+
+  pub member-ends : (j : ℕ) → length ts ≤ j → Reached j → first_way f (ways (drop i all) (left_from 0 us ts)) ≡ None
+  member-ends j l q = q ∙ ends f m ms us ts j l
+
+  pub member-taken : (j : ℕ) → has us j ≡ true → first_way f (at_place m ms us ts j) ≡ None
+  member-taken j e = taken f m ms us ts j e
+
+  pub member-refused : (j : ℕ) → first_of_all (m.tries (get_or ts j (leaf par))) ≡ None → first_way f (at_place m ms us ts j) ≡ None
+  member-refused j e = refused f m ms us ts j e
+
+  pub member-dead : (j : ℕ) → first_way f (ways ms (left_from 0 (us ++ j ∷ []) ts)) ≡ None → first_way f (at_place m ms us ts j) ≡ None
+  member-dead j e = dead f m ms us ts j e
+
+  pub member-taking : (j : ℕ) (b v u : Bindings) → has us j ≡ false → first_of_all (m.tries (get_or ts j (leaf par))) ≡ Some b
+      → MemberWay r made (ways ms (left_from 0 (us ++ j ∷ []) ts)) v → u ≡ b ++ v → MemberWay r made (at_place m ms us ts j) u
+  member-taking j b v u e k w q =
+      record {
+        bs = b ∷ w.bs;
+        left = w.left;
+        x = w.x;
+        first = alive f m ms us ts j b (w.bs, w.left) e k w.first;
+        last = w.last;
+        is = q ∙ ap (λ y. b ++ y) w.is ∙ sym (append_assoc b (flat_map (λ (c : Bindings). c) w.bs) w.x);
+      }
+
+one_some : (b : Bool) (v : Bindings) → first_of_all (one_if b) ≡ Some v → b ≡ true
+one_some true v h = refl
+one_some false v h = cc
+
+one_none : (b : Bool) → first_of_all (one_if b) ≡ None → b ≡ false
+one_none true h = cc
+one_none false h = refl
+
+-- all members have chosen, and the remainder takes what is left
+module _ (made : List Tree → Tree) (left : List Tree) where
+  rest_some : (r : TermRest) (v : Bindings) → first_of_all (rest_match r made left) ≡ Some v → may_rest r left ≡ true
+  rest_some rests.No v h = one_some (is_empty left) v h
+  rest_some rests.Var v h = refl
+  rest_some rests.Wild v h = refl
+
+  rest_none : (r : TermRest) → first_of_all (rest_match r made left) ≡ None → may_rest r left ≡ false
+  rest_none rests.No h = one_none (is_empty left) h
+  rest_none rests.Var h = cc
+  rest_none rests.Wild h = cc
+
+  -- what the remainder binds is what is found
+  pub rest-ends : (r : TermRest) (o : Option (Vec Tree Global)) → IsFirst (rest_match r made left) o → IsFirstMembers r made (ways [] left) o
+  rest-ends r None h = ap (λ c. cond c (Some ([], left)) None) (rest_none r h)
+  rest-ends r (Some v) h = record { bs = []; left = left; x = v.items; first = ap (λ c. cond c (Some ([], left)) None) (rest_some r v.items h); last = h; is = refl }

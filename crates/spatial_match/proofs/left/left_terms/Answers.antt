@@ -1,0 +1,29 @@
+use Rattle.std.proofs.Common.{◌≡◌, ◌<◌, ◌+◌, List, [], map, sym, ap, ◌∙◌, subst, arith}
+use Rattle.calculus.specs.Tree.{Tree, trees, par}
+use Rattle.calculus.specs.Shape.{many, held}
+use Rattle.calculus.specs.Order.{IsAscending}
+use Rattle.calculus.specs.Code.{codes}
+use Rattle.rho_term.specs.Parts.{part_tree}
+use Rattle.rho_term.specs.declared.term.Part.{Part}
+use Rattle.spatial_match.specs.Search.{has, left_from}
+use Rattle.spatial_match.proofs.Keeping.{Kept, is-free, is-used, kept-used, kept-free, kept-end}
+use Rattle.spatial_match.proofs.Leaving.{left-ascends}
+use Rattle.spatial_match.proofs.Readying.{left-ordered}
+use Rattle.spatial_match.proofs.Weighing.{term-held, term-normal, term-ascends}
+use Rattle.spatial_match.proofs.left.left_terms.Goals as goal
+use Rattle.spatial_match.proofs.left.left_terms.Goals.{then-is_free+in_ok-term+in_ok-push, else-is_free}
+
+pub loop-j-preserved : goal.loop-j-preserved
+loop-j-preserved c =
+    let us = c.args.used.now in
+    let ps = c.args.terms.now in
+    let j = c.loop-j.j in
+    elim c.if-is_free.branch [
+      | then-is_free+in_ok-term+in_ok-push w ↦
+          let k = kept-free (λ (t : Tree). t) us ps c.loop-j.left.items j w.in_ok-term.term w.index-terms-j.result c.loop-j-test.true
+          (is-free (has us j) (sym w.if-is_free.true ∙ c.is_free.ensures)) (w.in_ok-term.ensures ∙ w.index-terms-j.is) c.loop-j.invariant in
+          subst (λ (vs : List Tree). Kept (λ (t : Tree). t) us ps vs (j + 1)) (sym (ap (λ v. v.items) w.left-is ∙ w.in_ok-push.ensures.items)) k
+      | else-is_free w ↦
+          let k = kept-used (λ (t : Tree). t) us ps c.loop-j.left.items j c.loop-j-test.true (is-used (has us j) (sym w.if-is_free.false ∙ c.is_free.ensures)) c.loop-j.invariant in
+          subst (λ (vs : List Tree). Kept (λ (t : Tree). t) us ps vs (j + 1)) (sym (ap (λ v. v.items) w.left-is)) k
+    ]

@@ -1,0 +1,101 @@
+// The members of a set pattern against those of a set, in the way of thin parts, with a remainder.
+ghost use Rattle.std.specs.Prelude.{◌≡◌, ◌<◌, ◌≤◌, ◌+◌, [], IfOk, drop, length};
+ghost use Rattle.calculus.specs.Code.{codes};
+ghost use Rattle.calculus.specs.Form.{term};
+ghost use Rattle.calculus.specs.Matching.{ways};
+ghost use Rattle.calculus.specs.Order.{IsAscending};
+ghost use Rattle.calculus.specs.Shape.{many, only};
+ghost use Rattle.calculus.specs.Tree.{set, trees};
+ghost use Rattle.spatial_match.specs.Given.{AllReady, AllTries};
+ghost use Rattle.spatial_match.specs.Search.{at_place, left_from, member_at};
+ghost use Rattle.spatial_match.specs.Found.{IsFirstMembers, tried_pats};
+
+use crate::left::{is_free, is_spent, left_terms, with_place};
+use crate::parts::find_whole;
+use crate::split::{found_if, found_one, joined};
+use calculus::TermRest;
+use rho_term::{Part, Term, TermPat};
+use std::alloc::{AllocError, Global};
+
+// The members from number i on. Members before them have used some of the target's.
+#[cycle(find)]
+pub(crate) fn find_members(
+    alloc: Global,
+    pats: &[TermPat],
+    i: usize,
+    rest: TermRest,
+    terms: &[Term],
+    used: &[usize],
+) -> Result<Option<Vec<Term>>, AllocError>
+    requires within { i ≤ length pats.now }
+    requires tries { AllTries pats.now }
+    requires ready { AllReady term terms.now }
+    requires ordered { IsAscending (codes (trees terms.now)) }
+    ensures { IfOk result (λ o. IsFirstMembers rest (λ vs. only (many set vs)) (ways (drop i (tried_pats pats.now)) (left_from 0 used.now terms.now)) o) }
+{
+    if i >= pats.len() {
+        return rest_members(alloc, rest, terms, used);
+    }
+    let _given = pats[i].parts();
+    for j in 0..terms.len() {
+        let found = try_member(alloc, pats, i, rest, terms, used, j)?;
+        if found.is_some() {
+            return Ok(found);
+        }
+    }
+    Ok(None)
+}
+
+// Member number i takes member number j of the target, where that one is not used.
+#[cycle(find)]
+fn try_member(
+    alloc: Global,
+    pats: &[TermPat],
+    i: usize,
+    rest: TermRest,
+    terms: &[Term],
+    used: &[usize],
+    j: usize,
+) -> Result<Option<Vec<Term>>, AllocError>
+    requires within { i < length pats.now }
+    requires target_within { j < length terms.now }
+    requires tries { AllTries pats.now }
+    requires ready { AllReady term terms.now }
+    requires ordered { IsAscending (codes (trees terms.now)) }
+    ensures { IfOk result (λ o. IsFirstMembers rest (λ vs. only (many set vs)) (at_place (member_at i (tried_pats pats.now)) (drop (i + 1) (tried_pats pats.now)) used.now terms.now j) o) }
+{
+    if !is_free(used, j) {
+        return Ok(None);
+    }
+    match find_whole(alloc, &pats[i], &terms[j])? {
+        None => Ok(None),
+        Some(found) => {
+            let next = with_place(alloc, used, j)?;
+            match find_members(alloc, pats, i + 1, rest, terms, &next)? {
+                None => Ok(None),
+                Some(others) => Ok(Some(joined(found, others)?)),
+            }
+        }
+    }
+}
+
+// All members have chosen: the remainder takes what is left, and without one nothing may be left.
+fn rest_members(
+    alloc: Global,
+    rest: TermRest,
+    terms: &[Term],
+    used: &[usize],
+) -> Result<Option<Vec<Term>>, AllocError>
+    requires ready { AllReady term terms.now }
+    requires ordered { IsAscending (codes (trees terms.now)) }
+    ensures { IfOk result (λ o. IsFirstMembers rest (λ vs. only (many set vs)) (ways [] (left_from 0 used.now terms.now)) o) }
+{
+    match rest {
+        TermRest::No => Ok(found_if(alloc, is_spent(terms.len(), used))),
+        TermRest::Wild => Ok(Some(Vec::new(alloc))),
+        TermRest::Var => {
+            let left = left_terms(alloc, terms, used)?;
+            found_one(alloc, Term::from_part(alloc, Part::Set(left))?)
+        }
+    }
+}

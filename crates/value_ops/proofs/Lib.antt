@@ -1,0 +1,6 @@
+pub mod Arguments
+pub mod Characters
+pub mod Cutting
+pub mod Hexadecimal
+pub mod SameCodes
+pub mod Seeing

@@ -1,0 +1,16 @@
+//! Operators and methods on ground values, and equality of any values.
+#![tactic(auto)]
+
+mod equality;
+mod ints;
+pub mod methods;
+pub mod operators;
+pub mod stop;
+#[cfg(test)]
+mod tests;
+mod texts;
+mod values;
+
+pub use methods::text_method;
+pub use operators::{binary, unary};
+pub use stop::OpStop;
