@@ -22,6 +22,7 @@ printed_examples =
       same_process = refl;
       closed_form = refl;
       match_of_an_operator = refl;
+      cases_count_afresh = refl;
       method_on_a_method = refl;
       negation = refl;
       names = refl;

@@ -46,6 +46,8 @@ pub record PrintedExamples : Type 0 where
   pub closed_form : Prints (only (heard (on (num 1) (thin (one not_this (thin (heard (on (num 1) (a_var ∷ []) ∷ []) nil))) ∷ []) ∷ []) nil)) (codes "for (@{~{for (@v0 <- @1) { Nil }}} <- @1) { Nil }")
   -- the text of `if (1 == 2) @1!(1) else @1!(2)`
   pub match_of_an_operator : Prints (only (two match (op_on op.Eq (num 1) (num 2)) (many row (two case (thin (leaf (bool true))) (only (sent (num 1) (num 1 ∷ []))) ∷ two case (thin (leaf (bool false))) (only (sent (num 1) (num 2 ∷ []))) ∷ [])))) (codes "match ((1 == 2)) { (true) => { @1!(1) } (false) => { @1!(2) } }")
+  -- the text of `match 0 { x => @1!(x) y => @2!(y) }`
+  pub cases_count_afresh : Prints (only (two match (num 0) (many row (two case a_var (only (sent (num 1) (the_var 0 ∷ []))) ∷ two case a_var (only (sent (num 2) (the_var 0 ∷ []))) ∷ [])))) (codes "match (0) { (v0) => { @1!(v0) } (v0) => { @2!(v0) } }")
   -- the text of `[1].nth(0).foo(1, 2)`
   pub method_on_a_method : Prints (call (codes "foo") (call (codes "nth") (list_of (num 1 ∷ [])) (num 0 ∷ [])) (num 1 ∷ num 2 ∷ [])) (codes "({([1]).nth(0)}).foo(1, 2)")
   -- the text of `- - 5`

@@ -13,7 +13,7 @@ use Rattle.calculus.specs.declared.plain.TermRest.{TermRest}
 use Rattle.calculus.specs.declared.plain.TermRest.TheVariants as rests
 use Rattle.calculus.specs.declared.plain.Origin.{Origin}
 use Rattle.calculus.specs.declared.plain.Origin.TheVariants as origins
-use Rattle.calculus.specs.Tree.{Label, bool, int, str, uri, bytes, fresh, var, name_var, list, tuple, set, dict, send, receive, new, match, bundle, unary, binary, method, rest, any, some_process, some_name, simple, same, both, either, not_this, list_pattern, set_pattern, map_pattern, Tree, node, Trees, none, also}
+use Rattle.calculus.specs.Tree.{Label, bool, int, str, uri, bytes, fresh, var, name_var, list, tuple, set, dict, send, receive, new, match, case, bundle, unary, binary, method, rest, any, some_process, some_name, simple, same, both, either, not_this, list_pattern, set_pattern, map_pattern, Tree, node, Trees, none, also}
 use Rattle.calculus.specs.Shape.{count, held, listed, label_of, at}
 use Rattle.calculus.specs.Variables.{bound, binders}
 use Rattle.calculus.specs.Form.{Sort, term, part, a_bind, a_case, a_rest, pat, name_pat, row_of, pair_of, Kids, all, these, no_form, kids}
@@ -272,12 +272,13 @@ form_printed a_case l ts d n xs = (codes "(" ++ (text_at 0 xs ++ (codes ") => " 
 form_printed a_rest (rest r) ts d n xs = rest_text r n
 form_printed s l ts d n xs = part_text s l ts d n xs ∷ []
 
--- the number of the first variable bound inside a form: a process in a pattern counts from the scope outside the pattern, and all else goes on with the pattern's next number
+-- the number of the first variable bound inside a form: a process in a pattern and the pattern of a case count from the scope outside the pattern, and all else goes on with the pattern's next number
 abbrev pub first_number : Label → ℕ → ℕ → ℕ
 first_number same d n = d
 first_number (receive k) d n = d
 first_number (new os) d n = d
 first_number match d n = d
+first_number case d n = d
 first_number _ d n = n
 
 abbrev mutual

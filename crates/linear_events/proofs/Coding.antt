@@ -12,7 +12,7 @@ use Rattle.calculus.specs.Seeds.{System, message}
 use Rattle.calculus.specs.Rows.{Row, channels, row_length, system_name, stdout}
 use Rattle.calculus.proofs.CodesAgree.{code_is_congruence}
 use Rattle.events.proofs.Counts.{same_bytes, bytes_same}
-use Rattle.term_code.proofs.Lengths.{size-code}
+use Rattle.term_encoder.proofs.Lengths.{size-code}
 use Rattle.unfold.specs.Offers.{IsLinearRow}
 use Rattle.unfold.proofs.Names.{digest-fits}
 use Rattle.unfold.proofs.Sizes.{send-length, receive-length}

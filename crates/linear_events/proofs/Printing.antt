@@ -21,7 +21,7 @@ use Rattle.events.proofs.Following.{Kept, operation-distinct, operation-there}
 use Rattle.events.proofs.Keeping.{kept-all}
 use Rattle.events.proofs.Spent.{all-past, not-made}
 use Rattle.events.proofs.Making.{among, meetings_are_steps}
-use Rattle.term_code.proofs.Lengths.{size-code}
+use Rattle.term_encoder.proofs.Lengths.{size-code}
 use Rattle.linear_events.specs.Partners.{print_meeting, one_step, after_step}
 use Rattle.linear_events.specs.Laws.{PrintsAreEvents}
 use Rattle.linear_events.proofs.Joining.{printed_of}

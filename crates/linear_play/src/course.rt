@@ -18,7 +18,7 @@ use event_log::LogStep;
 use linear_store::{Met, Store};
 use linear_work::{Pair, id_and_body, id_and_process, work_body, work_source};
 use name_seed::Seed;
-use phlo_meter::Prices;
+use price_table::Prices;
 use rho_term::{Op, Term};
 use std::alloc::{AllocError, Global};
 use std::collections::VecDeque;

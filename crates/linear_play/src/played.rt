@@ -10,7 +10,7 @@ ghost use Rattle.linear_play.specs.Courses.{TakesOne, steps_of, verdict_of};
 use crate::course::Course;
 use calculus::{Digest, FaultKind};
 use event_log::LogStep;
-use phlo_meter::Prices;
+use price_table::Prices;
 use rho_term::{Op, Term};
 use std::alloc::{AllocError, Global};
 

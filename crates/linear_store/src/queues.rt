@@ -7,7 +7,7 @@ ghost use Rattle.linear_store.specs.Queues.{queued, AreFiled, AreOfOneKind, HasN
 use rho_term::Op;
 use std::alloc::{AllocError, Global};
 use std::collections::{BTreeMap, VecDeque};
-use term_code::encode_term;
+use term_encoder::encode_term;
 
 /// Queues by the code of their channel, each from its oldest.
 pub(crate) type Queues = BTreeMap<Vec<u8>, VecDeque<Op>>;

@@ -10,7 +10,7 @@ ghost use Rattle.linear_work.specs.Works.{HasStopped, IsWork};
 
 use calculus::FaultKind;
 use name_seed::Seed;
-use phlo_meter::Prices;
+use price_table::Prices;
 use rho_term::{Op, Term};
 use std::alloc::{AllocError, Global};
 use unfold::{EvalStop, Priced, unfold, unfold_body};

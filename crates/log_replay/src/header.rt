@@ -10,7 +10,7 @@ ghost use Rattle.log_replay.specs.Refusals.{is_of_header, refusal_of};
 use crate::fault::ReplayFault;
 use calculus::Digest;
 use event_log::LogHeader;
-use phlo_meter::{Prices, most_limit};
+use price_table::{Prices, most_limit};
 
 /// The root of the empty state.
 pub(crate) const EMPTY_ROOT: Digest = Digest([0; 32]);

@@ -12,6 +12,3 @@ mod rows;
 
 pub use fault::ReplayFault;
 pub use replayed::{Replayed, replay};
-
-#[cfg(test)]
-mod tests;

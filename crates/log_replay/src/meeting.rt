@@ -11,7 +11,7 @@ use event_log::LogStep;
 use linear_work::Pair;
 use rho_term::Op;
 use std::alloc::{AllocError, Global};
-use term_code::encode_term;
+use term_encoder::encode_term;
 
 /// Whether an operation is a send.
 pub(crate) fn is_send(operation: &Op) -> bool

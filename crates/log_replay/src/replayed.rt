@@ -17,7 +17,7 @@ use crate::header::check_header;
 use calculus::Digest;
 use event_log::Log;
 use linear_play::Verdict;
-use phlo_meter::Prices;
+use price_table::Prices;
 use rho_term::{Op, Term};
 use std::alloc::Global;
 

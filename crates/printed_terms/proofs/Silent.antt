@@ -12,7 +12,8 @@ use Rattle.calculus.specs.Form.{term, part, Kids, all, these, kids}
 use Rattle.calculus.specs.Bare.{names, all_names}
 use Rattle.calculus.specs.Written.{Written, form, Writtens, writtens}
 use Rattle.grammar.specs.Values.{processes, par_of}
-use Rattle.printed_terms.specs.Spelled.{named, in_order_of, first_number, written_as, all_written}
+use Rattle.printed_terms.specs.Spelled.{named, in_order_of, written_as, all_written}
+use Rattle.calculus.specs.Printed.{first_number}
 
 -- each of these binds no name
 abbrev Silent : List Written → Type 0

@@ -10,7 +10,7 @@ use Rattle.calculus.specs.Form.{Sort, term, part, a_bind, a_case, a_rest, pat, n
 use Rattle.calculus.specs.Code.{codes as tree_codes}
 use Rattle.calculus.specs.Normal.{arranged_by}
 use Rattle.calculus.specs.Written.{Form, in_process, in_pattern, around, declare, closed, Written, form, Writtens, no_more, more, writtens, bare_form, form_of_one, form_of}
-use Rattle.calculus.specs.Printed.{variable_text, is_drop, is_bare_name}
+use Rattle.calculus.specs.Printed.{variable_text, is_drop, is_bare_name, first_number}
 use Rattle.grammar.specs.Values.{Side, processes, patterns, on, par_of, variable_of, name_of, bound_of, binder_of, fresh_of, quote_of, drop_of, no_rest, any_rest, rest_of, quoted_of}
 
 -- the side of a part's sort
@@ -90,15 +90,6 @@ form_written a_case l ts d n ws = form_of (around l) ws
 form_written a_rest (rest rests.Var) ts d n ws = rest_of (variable_text n)
 form_written a_rest l ts d n ws = bare_form (around l)
 form_written s l ts d n ws = part_of (side s) l ts d n ws
-
--- the number of the first variable bound inside a form: a process in a pattern and a case count from the scope outside, and all else goes on with the pattern's next number
-abbrev pub first_number : Label → ℕ → ℕ → ℕ
-first_number same d n = d
-first_number (receive k) d n = d
-first_number (new os) d n = d
-first_number match d n = d
-first_number case d n = d
-first_number _ d n = n
 
 abbrev mutual
   -- what the text of a tree of this sort spells with d variables in scope, where the next variable of the pattern around it has the number n

@@ -13,7 +13,7 @@ use crate::limits::limited;
 use crate::operation::{call, operate_one, operate_two};
 use crate::stop::{EvalStop, Priced};
 use coll_ops::{map_of, set_of};
-use phlo_meter::Prices;
+use price_table::Prices;
 use rho_term::{Part, Term};
 use std::alloc::Global;
 use term_sort::make_par;

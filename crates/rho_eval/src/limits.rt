@@ -1,14 +1,14 @@
 // Prices under a cap, and the limits on heights and codes.
 ghost use Rattle.std.specs.Prelude.{◌≡◌, ◌≤◌, ◌<◌, ◌+◌, ◌*◌, ◌-◌, ◌^◌, MatchResult, ℕ};
-ghost use Rattle.term_code.specs.Sizes.{in_u64};
+ghost use Rattle.term_encoder.specs.Sizes.{in_u64};
 ghost use Rattle.calculus.specs.Outcome.{free, within_limits};
 ghost use Rattle.rho_eval.specs.Outcomes.{Came, Stopped};
 
 use crate::stop::{EvalStop, Priced};
 use calculus::FaultKind;
-use phlo_meter::Prices;
+use price_table::Prices;
 use rho_term::Term;
-use term_code::code_len;
+use term_encoder::code_len;
 
 /// The greatest height of a process.
 const MOST_HEIGHT: u32 = 400;

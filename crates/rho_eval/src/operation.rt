@@ -9,17 +9,17 @@ ghost use Rattle.calculus.specs.Values.{checked, operated};
 ghost use Rattle.coll_ops.specs.Views.{IsCollection, IsCollectionKind, IsNoEquality};
 ghost use Rattle.rho_eval.specs.Outcomes.{Came, Stopped};
 ghost use Rattle.rho_term.specs.Parts.{part_tree};
-ghost use Rattle.term_code.specs.Sizes.{in_u64};
+ghost use Rattle.term_encoder.specs.Sizes.{in_u64};
 ghost use Rattle.value_ops.specs.Answers.{Answers, IsEquality, IsNoCollection, IsOperand};
 
 use crate::limits::{charge, limited};
 use crate::stop::{EvalStop, Priced};
 use calculus::{BinaryOp, UnaryOp};
 use coll_ops::{coll_binary, coll_method};
-use phlo_meter::Prices;
+use price_table::Prices;
 use rho_term::{Part, Term};
 use std::alloc::Global;
-use term_code::code_len;
+use term_encoder::code_len;
 use value_ops::{OpStop, binary, text_method, unary};
 
 /// An operator on one value, at this price so far.

@@ -1,6 +1,6 @@
 use crate::{EvalStop, evaluate};
 use calculus::FaultKind;
-use phlo_meter::Prices;
+use price_table::Prices;
 use std::alloc::Global;
 use std::test::Fail;
 use term_code::{decode_term, encode_term};

@@ -18,7 +18,7 @@ use crate::prices::PRICE_TEXT;
 use crate::status::{Input, Status};
 use crate::words::Command;
 use event_log::{Log, LogFault, read_log};
-use phlo_meter::{Prices, most_limit};
+use price_table::{Prices, most_limit};
 use rho_lexer::LexFault;
 use rho_outside::{FetchFault, Shelf};
 use rho_parser::ParseFault;

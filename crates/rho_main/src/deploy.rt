@@ -23,7 +23,7 @@ use calculus::Digest;
 use event_log::{Log, LogHeader, write_log};
 use linear_play::{Played, Verdict, play};
 use name_seed::bytes_digest;
-use phlo_meter::Prices;
+use price_table::Prices;
 use rho_outside::{Shelf, Sink};
 use space_row::stored_rows;
 use state_writer::write_rows;

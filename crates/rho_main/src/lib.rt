@@ -13,7 +13,7 @@ mod wording;
 pub mod words;
 
 pub use linear_play::Verdict;
-pub use phlo_meter::Prices;
+pub use price_table::Prices;
 pub use status::{Input, Status};
 pub use top::run;
 pub use words::{Command, Usage, Verb};

@@ -22,7 +22,7 @@ use event_log::MOST_STEPS;
 use linear_play::Verdict;
 use log_replay::{ReplayFault, Replayed, replay as replay_log};
 use name_seed::bytes_digest;
-use phlo_meter::Prices;
+use price_table::Prices;
 use rho_outside::{Shelf, Sink};
 use space_row::stored_rows;
 use state_writer::write_rows;

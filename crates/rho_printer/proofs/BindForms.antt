@@ -18,7 +18,7 @@ use Rattle.rho_term.specs.declared.term.Part.{Part}
 use Rattle.rho_term.specs.declared.term.Part.TheVariants as parts
 use Rattle.rho_term.specs.declared.term.TermBind.{TermBind}
 use Rattle.rho_term.specs.declared.term.TermCase.{TermCase}
-use Rattle.rho_printer.specs.Printed.{printed}
+use Rattle.calculus.specs.Printed.{printed}
 use Rattle.rho_printer.specs.Texts.{text_of, texts_of, left_text, bind_text_of, IsClosedForm, Writes}
 use Rattle.rho_printer.proofs.Rows.{nothing_more, row_printed, single_name_pat, ordered_texts}
 use Rattle.rho_printer.proofs.Forms.{after, shown, no_variables, WritesText}

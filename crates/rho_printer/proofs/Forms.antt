@@ -19,7 +19,7 @@ use Rattle.calculus.proofs.Binding.{no_bound}
 use Rattle.rho_term.specs.Normal.{IsNormal, IsOrdered}
 use Rattle.rho_term.specs.Parts.{part_tree, term_tree, pair_tree}
 use Rattle.rho_term.specs.declared.term.Part.{Part}
-use Rattle.rho_printer.specs.Printed.{printed}
+use Rattle.calculus.specs.Printed.{printed}
 use Rattle.rho_printer.specs.Texts.{text_of, texts_of, binds_texts, Writes, WritesAll}
 use Rattle.rho_printer.proofs.Rows.{nothing_more, row_printed, binds_printed, single_term, single_pair, single_case, each_first, ordered_texts}
 

@@ -9,7 +9,7 @@ use Rattle.calculus.specs.Code.{codes as tree_codes}
 use Rattle.calculus.specs.Form.{Sort, term, part, a_bind, a_case, pat, name_pat, pat_part, name_part, row_of, pair_of, all}
 use Rattle.calculus.specs.Normal.{by_code, placed_by, arranged_by}
 use Rattle.calculus.specs.Printed.{Printed, first_text, in_order_of, bind_texts, parallel_text}
-use Rattle.rho_printer.specs.Printed.{printed, all_printed}
+use Rattle.calculus.specs.Printed.{printed, all_printed}
 use Rattle.rho_printer.specs.Texts.{text_of, texts_of, bind_text_of, binds_texts}
 
 pub nothing_more : (d : ℕ) → d + 0 ≡ d

@@ -12,7 +12,7 @@ use Rattle.calculus.proofs.Formed.{Formed, Holds}
 use Rattle.calculus.proofs.Tails.{IsFine}
 use Rattle.rho_term.specs.declared.term.Part.{Part}
 use Rattle.rho_term.specs.declared.term.Part.TheVariants as parts
-use Rattle.rho_printer.specs.Printed.{printed}
+use Rattle.calculus.specs.Printed.{printed}
 
 -- the text of a tree that prints one text
 abbrev pub text_of : Sort → Tree → ℕ → ℕ → List ℕ

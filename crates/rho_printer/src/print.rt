@@ -1,7 +1,7 @@
 // Terms as their printed texts.
 ghost use Rattle.std.specs.Prelude.{◌≡◌, IfOk};
 ghost use Rattle.calculus.specs.Form.{IsClosed};
-ghost use Rattle.rho_printer.specs.Printed.{printed_text};
+ghost use Rattle.calculus.specs.Printed.{printed_text};
 
 use crate::terms::put_term;
 use rho_term::Term;

@@ -1,4 +1,6 @@
 pub mod Parts
 pub mod Normal
 pub mod Measures
+pub mod Sizes
+pub mod Faults
 pub mod Falls

@@ -5,6 +5,8 @@
 #![tactic(auto)]
 
 mod copy;
+mod faults;
+mod lengths;
 mod measure;
 pub mod op;
 pub mod term;

@@ -1,12 +1,17 @@
-ghost use Rattle.std.specs.Prelude.{◌≡◌, All, IfOk};
+ghost use Rattle.std.specs.Prelude.{◌≡◌, ◌≤◌, true, All, IfOk};
 ghost use Rattle.calculus.specs.Tree.{par};
 ghost use Rattle.calculus.specs.Shape.{leaf, only};
+ghost use Rattle.calculus.specs.Form.{term, part};
 ghost use Rattle.calculus.specs.Size.{height};
 ghost use Rattle.rho_term.specs.Parts.{part_tree, pat_part_tree, bind_tree, term_tree, pat_tree};
 ghost use Rattle.rho_term.specs.Normal.{IsNormal, IsOrdered};
 ghost use Rattle.rho_term.specs.Measures.{in_u32};
+ghost use Rattle.rho_term.specs.Sizes.{in_u64, size as code_size};
+ghost use Rattle.rho_term.specs.Faults.{faults};
 
 use crate::copy::{copy_bind, copy_part, copy_pat, copy_term};
+use crate::faults::{part_faults, parts_faults};
+use crate::lengths::{part_len, parts_len};
 use crate::measure::{parts_height, pat_parts_height};
 use calculus::{BinaryOp, Digest, Ground, Kind, Origin, Rights, Simple, TermRest, UnaryOp};
 use std::alloc::{AllocError, Global};
@@ -21,6 +26,8 @@ use std::marker::Model;
 pub struct Term {
     parts: Vec<Part>,
     height: u32,
+    fault_count: u32,
+    code_length: u64,
 }
 
 /// A part of a process.
@@ -154,10 +161,14 @@ impl Model for Term {
     ghost use Rattle.rho_term.specs.Parts.{term_tree};
     ghost use Rattle.rho_term.specs.Normal.{IsNormal};
     ghost use Rattle.rho_term.specs.Measures.{in_u32};
+    ghost use Rattle.rho_term.specs.Sizes.{in_u64, size as code_size};
+    ghost use Rattle.rho_term.specs.Faults.{faults};
+    ghost use Rattle.calculus.specs.Form.{term};
+    ghost use Rattle.std.specs.Prelude.{◌≤◌};
 
     ghost view = { λ a. term_tree a.parts.items };
 
-    ghost invariant = { λ a. IsNormal (term_tree a.parts.items) × (a.height ≡ in_u32 (height_of (term_tree a.parts.items))) };
+    ghost invariant = { λ a. IsNormal (term_tree a.parts.items) × (a.height ≡ in_u32 (height_of (term_tree a.parts.items))) × (a.code_length ≡ in_u64 (code_size (term_tree a.parts.items))) × (in_u32 (faults term (term_tree a.parts.items)) ≤ a.fault_count) };
 
     ghost size = { weight };
 
@@ -195,6 +206,8 @@ impl Term {
         Term {
             parts: Vec::new(alloc),
             height: 0,
+            fault_count: 0,
+            code_length: 4,
         }
     }
 
@@ -206,7 +219,14 @@ impl Term {
         ensures { result ≡ term_tree parts.items }
     {
         let height = parts_height(&parts);
-        Term { parts, height }
+        let fault_count = parts_faults(&parts);
+        let code_length = parts_len(&parts);
+        Term {
+            parts,
+            height,
+            fault_count,
+            code_length,
+        }
     }
 
     /// The process of this one part. Members of a set or a map that it is ascend in their codes. Want
@@ -244,13 +264,42 @@ impl Term {
         self.height
     }
 
+    /// How many bytes its code has, or the greatest `u64` where it has more. It was counted when the
+    /// process was made.
+    pub fn code_len(&self) -> u64
+        ensures { result ≡ in_u64 (code_size self.now) }
+    {
+        self.code_length
+    }
+
+    /// Whether it is known to be without a fault: without an empty tuple, and with forms of their
+    /// sorts alone in its patterns. It was seen when the process was made.
+    pub fn is_faultless(&self) -> bool
+        ensures faults { result ≡ true → faults term self.now ≡ 0 }
+        ensures normal { IsNormal self.now }
+    {
+        self.fault_count == 0
+    }
+
+    // How many faults it has at most, as far as a u32 goes.
+    pub(crate) fn faults(&self) -> u32
+        ensures faults { in_u32 (faults term self.now) ≤ result }
+        ensures normal { IsNormal self.now }
+    {
+        self.fault_count
+    }
+
     // The same process from parts that stand for the same trees.
     pub(crate) fn with_parts(&self, parts: Vec<Part>) -> Term
         requires { term_tree parts.items ≡ self.now }
         ensures { result ≡ self.now }
     {
-        let height = self.height;
-        Term { parts, height }
+        Term {
+            parts,
+            height: self.height,
+            fault_count: self.fault_count,
+            code_length: self.code_length,
+        }
     }
 
     /// An equal process. Want of memory is the one error.
@@ -294,6 +343,21 @@ impl Part {
         ensures { IfOk result (λ p. part_tree p ≡ part_tree self.now) }
     {
         copy_part(alloc, self)
+    }
+
+    /// How many bytes its code has, or the greatest `u64` where it has more.
+    pub fn code_len(&self) -> u64
+        ensures { result ≡ in_u64 (code_size (part_tree self.now)) }
+    {
+        part_len(self)
+    }
+
+    /// Whether it is known to be without a fault, as a process is.
+    pub fn is_faultless(&self) -> bool
+        ensures faults { result ≡ true → faults part (part_tree self.now) ≡ 0 }
+        ensures normal { IsOrdered (part_tree self.now) → IsNormal (part_tree self.now) }
+    {
+        part_faults(self) == 0
     }
 }
 

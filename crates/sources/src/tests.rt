@@ -2,7 +2,7 @@
 use crate::{SourceFault, read_source};
 use std::alloc::{AllocError, Global};
 use std::test::Fail;
-use term_code::encode_term;
+use term_encoder::encode_term;
 
 /// Ground values and collections, with the code of their normal term and its height.
 const VALUES: [(&[u8], &str); 24] = [

@@ -14,7 +14,7 @@ use rho_term::{Op, Part, Term, TermBind};
 use sha2::{Digest as _, Sha256};
 use state_writer::StoredRow;
 use std::alloc::{AllocError, Global};
-use term_code::{encode_part, encode_term};
+use term_encoder::{encode_part, encode_term};
 
 // The first byte of the row of a send, and of that of a receive.
 const SEND: u8 = 0x01;

@@ -1,5 +1,3 @@
-pub mod Codes
-pub mod Lengths
 pub mod Numbers
 pub mod Rows
 pub mod Bags

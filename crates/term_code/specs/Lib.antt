@@ -1,6 +1,6 @@
-pub mod Sizes
-pub mod Keys
 pub mod Scopes
 pub mod Texts
 pub mod Reading
 pub mod Wide
+pub use Rattle.term_encoder.specs.Sizes
+pub use Rattle.term_encoder.specs.Keys

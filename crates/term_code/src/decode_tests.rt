@@ -1,10 +1,10 @@
 use crate::decode::decode_term;
-use crate::encode::encode_term;
 use crate::fault::CodeFault;
 use crate::samples::CODES;
 use std::alloc::{AllocError, Global};
 use std::process::Abort;
 use std::test::Fail;
+use term_encoder::encode_term;
 
 // The bytes that these digits spell are refused so.
 fn check_fault(rt: &impl Abort, alloc: Global, digits: &str, want: CodeFault) -> Result<(), Fail> {

@@ -1,24 +1,17 @@
-//! The canonical bytes of normal terms, their lengths, and the keys that are digests of them.
+//! The canonical codes of normal terms: terms are written, measured and read, and keys are digests of codes.
 #![tactic(auto)]
 
 mod decode;
 #[cfg(test)]
 mod decode_tests;
-pub mod encode;
 pub mod fault;
 mod fields;
-pub mod keys;
-pub mod length;
 mod patterns;
 mod reader;
 #[cfg(test)]
 mod samples;
-#[cfg(test)]
-mod tests;
 mod text;
 
 pub use decode::decode_term;
-pub use encode::{encode_part, encode_term};
 pub use fault::CodeFault;
-pub use keys::{group_key, shard_of};
-pub use length::code_len;
+pub use term_encoder::{code_len, encode_part, encode_term, group_key, shard_of};

@@ -5,3 +5,4 @@ pub mod Forms
 pub mod Closed
 pub mod FromScopes
 pub mod ExamplesOrder
+pub mod Faultless

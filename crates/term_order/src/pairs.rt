@@ -27,8 +27,9 @@ pub(crate) fn pairs_order(xs: &[(Term, Term)], ys: &[(Term, Term)]) -> Ordering
     Ordering::Equal
 }
 
+/// The order of the codes of two keys with their values that suit.
 #[cycle(order)]
-fn pair_order(a: &(Term, Term), b: &(Term, Term)) -> Ordering
+pub fn pair_order(a: &(Term, Term), b: &(Term, Term)) -> Ordering
     ensures { ComparesAs (pair_of term) (pair_tree a.now) (pair_tree b.now) result }
 {
     let by_key = term_order(&a.0, &b.0);

@@ -35,8 +35,9 @@ pub(crate) fn parts_order(xs: &[Part], ys: &[Part]) -> Ordering
     Ordering::Equal
 }
 
+/// The order of the codes of two parts of processes that suit.
 #[cycle(order)]
-pub(crate) fn part_order(a: &Part, b: &Part) -> Ordering
+pub fn part_order(a: &Part, b: &Part) -> Ordering
     ensures { ComparesAs part (part_tree a.now) (part_tree b.now) result }
 {
     match a {

@@ -18,8 +18,9 @@ pub fn cmp_terms(a: &Term, b: &Term) -> Ordering
     parts_order(a.parts(), b.parts())
 }
 
+/// The order of the codes of two processes that suit.
 #[cycle(order)]
-pub(crate) fn term_order(a: &Term, b: &Term) -> Ordering
+pub fn term_order(a: &Term, b: &Term) -> Ordering
     ensures { ComparesAs term a.now b.now result }
 {
     parts_order(a.parts(), b.parts())

@@ -10,9 +10,9 @@ use Rattle.calculus.specs.Variables.{bound_all, binders}
 use Rattle.calculus.specs.Normal.{ascending, made_node}
 use Rattle.calculus.specs.Substitution.{Change, change, change_all, changed, the_one, put}
 use Rattle.calculus.proofs.Placing.{listed-trees}
-use Rattle.term_code.proofs.Lengths.{size-code}
+use Rattle.term_encoder.proofs.Lengths.{size-code}
 use Rattle.rho_term.specs.Measures.{in_u32}
-use Rattle.term_code.specs.Sizes.{in_u64, head_size, size, sizes}
+use Rattle.term_encoder.specs.Sizes.{in_u64, head_size, size, sizes}
 use Rattle.term_sort.specs.Bound.{bound_counts}
 use Rattle.term_sort.specs.Filled.{value_parts, filled, all_filled, IsFormLabel}
 use Rattle.term_sort.specs.Extent.{filled_height, filled_size, filled_heights, filled_sizes, IsHeight, IsLength, AreHeights, AreLengths}

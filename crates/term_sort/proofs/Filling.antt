@@ -19,7 +19,7 @@ use Rattle.rho_term.specs.declared.term.Part.{Part}
 use Rattle.rho_term.specs.declared.term.Part.TheVariants as part
 use Rattle.rho_term.specs.declared.term.PatPart.{PatPart}
 use Rattle.rho_term.specs.declared.term.PatPart.TheVariants as pat
-use Rattle.term_code.specs.Sizes.{in_u64}
+use Rattle.term_encoder.specs.Sizes.{in_u64}
 use Rattle.term_sort.specs.Bound.{bound_counts}
 use Rattle.term_sort.specs.Filled.{value_parts, filled, all_filled, IsFormLabel, IsForm, Becomes, AllBecome, Adds}
 use Rattle.term_sort.proofs.Made.{ordered-made}

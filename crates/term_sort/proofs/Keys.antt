@@ -9,7 +9,7 @@ pub decided : (b : Bool) → (b ≡ true) ⊎ (b ≡ false)
 decided true = inl refl
 decided false = inr refl
 
-map-self : {X : Type 0} (xs : List X) → map (λ x. x) xs ≡ xs
+pub map-self : {X : Type 0} (xs : List X) → map (λ x. x) xs ≡ xs
 map-self [] = refl
 map-self (x ∷ xs) = ap (λ ys. x ∷ ys) (map-self xs)
 

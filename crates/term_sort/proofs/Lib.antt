@@ -4,3 +4,4 @@ pub mod Made
 pub mod Binding
 pub mod Filling
 pub mod Extending
+pub mod Seen

@@ -8,9 +8,11 @@ use Rattle.std.specs.Ordering.{is_lt, is_le, ordering_reverse}
 use Rattle.std.specs.declared.cmp.Ordering.{Ordering}
 use Rattle.std.specs.declared.cmp.Ordering.TheVariants.{Less, Equal, Greater}
 use Rattle.calculus.specs.Order.{up_to, byte_cmp}
-use Rattle.calculus.specs.Normal.{arranged_by}
+use Rattle.calculus.specs.Tree.{Tree}
+use Rattle.calculus.specs.Code.{code}
+use Rattle.calculus.specs.Normal.{arranged_by, ascending}
 use Rattle.calculus.proofs.Ordered.{up_to_total, up_to_both, up_to_trans}
-use Rattle.term_sort.proofs.Keys.{put_in, sort_in, Up, put-none, put-front, put-further, sort-none, sort-cons, up-sort, arranged-with}
+use Rattle.term_sort.proofs.Keys.{map-self, put_in, sort_in, Up, put-none, put-front, put-further, sort-none, sort-cons, up-sort, arranged-with}
 
 turned : (o : Ordering) → not (is_lt o) ≡ is_le (ordering_reverse o)
 turned Less = refl
@@ -157,3 +159,8 @@ module _ {X : Type 0} (k : X → List ℕ) where
   pub arranged : {Y : Type 0} (g : X → Y) (xs ys : List X) → IsSortedBy low ys → IsStableBy low xs ys → map g ys ≡ arranged_by (map (λ y. (k y, g y)) xs)
   arranged g xs ys up stable =
       ap (map g) (unique ys (sort_in k xs) (up-from ys up) (up-sort k xs) (λ x. stable x ∙ sym (filter-sort x xs))) ∙ sym (arranged-with k g xs)
+
+-- what a stable sort by codes gives is what the definitions arrange by codes
+pub ascends-stably : (ts us : List Tree) → IsSortedBy (low code) us → IsStableBy (low code) ts us → us ≡ ascending ts
+unfolding ascending
+ascends-stably ts us up stable = sym (map-self us) ∙ arranged code (λ t. t) ts us up stable

@@ -3,7 +3,7 @@ use Rattle.std.specs.Prelude.{◌≡◌, ℕ, ◌+◌, max, List, [], ◌∷◌}
 use Rattle.calculus.specs.Tree.{Tree, trees}
 use Rattle.calculus.specs.Size.{heights}
 use Rattle.rho_term.specs.Measures.{in_u32}
-use Rattle.term_code.specs.Sizes.{in_u64, sizes}
+use Rattle.term_encoder.specs.Sizes.{in_u64, sizes}
 use Rattle.term_sort.specs.Filled.{filled}
 
 -- the greatest height of what a tree becomes under d inner variables

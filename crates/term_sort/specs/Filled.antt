@@ -3,7 +3,7 @@ use Rattle.std.specs.Prelude.{◌≡◌, ℕ, List, [], ◌∷◌, ◌++◌, rev
 use Rattle.calculus.specs.Tree.{Label, var, name_var, Tree, trees}
 use Rattle.calculus.specs.Shape.{held, listed, label_of, at}
 use Rattle.calculus.specs.Substitution.{Change, change}
-use Rattle.term_code.specs.Sizes.{in_u64}
+use Rattle.term_encoder.specs.Sizes.{in_u64}
 
 -- the parts of the value of an outer variable: the last value is that of the last variable bound
 abbrev pub value_parts : List Tree → Change

@@ -3,7 +3,7 @@
 ghost use Rattle.std.specs.Prelude.{◌≡◌, ◌+◌, map};
 ghost use Rattle.calculus.specs.Tree.{trees, rest as rest_form};
 ghost use Rattle.rho_term.specs.Parts.{part_tree, pat_part_tree, pair_tree, bind_tree, case_tree};
-ghost use Rattle.term_code.specs.Sizes.{in_u64};
+ghost use Rattle.term_encoder.specs.Sizes.{in_u64};
 ghost use Rattle.term_sort.specs.Bound.{own_count, bound_count, bound_counts};
 
 use rho_term::{Part, PatPart, Term, TermBind, TermPat, TermRest};

@@ -1,4 +1,5 @@
-// Parts, processes and pairs in the order of their codes. Nothing is encoded where there is no second thing.
+// Parts, processes and pairs in the order of their codes. Nothing is encoded where all of them suit, nor
+// where there is no second thing.
 
 ghost use Rattle.std.specs.Prelude.{◌≡◌, map, IfOk, All};
 ghost use Rattle.calculus.specs.Normal.{arranged_by, ascending};
@@ -6,9 +7,12 @@ ghost use Rattle.rho_term.specs.Normal.{IsOrdered};
 ghost use Rattle.rho_term.specs.Parts.{part_tree, pair_tree};
 ghost use Rattle.term_sort.specs.Made.{beside, with_code, part_with_code, pair_with_code};
 
+use crate::compared::{
+    all_pairs_suit, all_parts_suit, all_terms_suit, compared_pairs, compared_parts, compared_terms,
+};
 use rho_term::{Part, Term};
 use std::alloc::{AllocError, Global};
-use term_code::{encode_part, encode_term};
+use term_encoder::{encode_part, encode_term};
 
 /// The parts, ascending in their codes.
 pub(crate) fn sorted_parts(alloc: Global, parts: Vec<Part>) -> Result<Vec<Part>, AllocError>
@@ -18,6 +22,9 @@ pub(crate) fn sorted_parts(alloc: Global, parts: Vec<Part>) -> Result<Vec<Part>,
 {
     if parts.len() < 2 {
         return Ok(parts);
+    }
+    if all_parts_suit(&parts) {
+        return Ok(compared_parts(alloc, parts)?);
     }
     let keyed = with_part_codes(alloc, parts)?;
     Ok(in_order(alloc, keyed)?)
@@ -29,6 +36,9 @@ pub(crate) fn sorted_terms(alloc: Global, terms: Vec<Term>) -> Result<Vec<Term>,
 {
     if terms.len() < 2 {
         return Ok(terms);
+    }
+    if all_terms_suit(&terms) {
+        return Ok(compared_terms(alloc, terms)?);
     }
     let keyed = with_codes(alloc, terms)?;
     Ok(in_order(alloc, keyed)?)
@@ -43,6 +53,9 @@ pub(crate) fn sorted_pairs(
 {
     if pairs.len() < 2 {
         return Ok(pairs);
+    }
+    if all_pairs_suit(&pairs) {
+        return Ok(compared_pairs(alloc, pairs)?);
     }
     let keyed = with_pair_codes(alloc, pairs)?;
     Ok(in_order(alloc, keyed)?)

@@ -8,19 +8,19 @@ ghost use Rattle.calculus.specs.Substitution.{put};
 ghost use Rattle.calculus.specs.Tree.{trees};
 ghost use Rattle.rho_term.specs.Measures.{in_u32};
 ghost use Rattle.rho_term.specs.Parts.{part_tree, pat_part_tree, ground_tree, pair_tree, bind_tree, case_tree};
-ghost use Rattle.term_code.specs.Sizes.{in_u64, size, sizes};
+ghost use Rattle.term_encoder.specs.Sizes.{in_u64, size, sizes};
 ghost use Rattle.term_sort.specs.Filled.{IsForm};
 ghost use Rattle.term_sort.specs.Extent.{filled_height, filled_size, IsHeight, IsLength, AreHeights, AreLengths};
 
 use crate::bound::{binds_bound, pat_bound, plus, term_bound};
 use calculus::Ground;
 use rho_term::{Part, PatPart, Term, TermBind, TermCase, TermPat};
-use term_code::code_len;
+use term_encoder::code_len;
 
 /// The height and the code length in bytes of the process that `substitute` makes of this body and
 /// these values, each the greatest number of its type where it is greater. It takes no memory.
 ///
-/// A value is measured anew at each use of its variable.
+/// A value is not walked: it keeps its height and its length.
 pub fn put_size(body: &Term, values: &[Term]) -> (u32, u64)
     ensures height { result.0 ≡ in_u32 (height (put values.now body.now)) }
     ensures length { result.1 ≡ in_u64 (length (code (put values.now body.now))) }

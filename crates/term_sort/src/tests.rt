@@ -6,7 +6,7 @@ use calculus::{Ground, Kind};
 use rho_term::{Origin, Part, PatPart, Term, TermBind, TermPat, TermRest};
 use std::alloc::{AllocError, Global};
 use std::test::Fail;
-use term_code::{code_len, encode_term};
+use term_encoder::{code_len, encode_term};
 
 fn int(alloc: Global, n: i64) -> Result<Term, AllocError> {
     Term::from_part(alloc, Part::Ground(Ground::Int(n)))
@@ -81,6 +81,12 @@ fn samples(alloc: Global) -> Result<Vec<(Term, &'static str)>, AllocError> {
     let pairs =
         "000000012300000003000000011180000000000000010000000111800000000000000100000001118000000000000001000000011180000000000000020000000111800000000000000200000001118000000000000001";
     samples.push((map(alloc)?, pairs))?;
+    let empty = Part::Tuple(Vec::new(alloc));
+    let number = Part::Ground(Ground::Int(1));
+    samples.push((
+        pair(alloc, empty, number)?,
+        "000000021180000000000000012100000000",
+    ))?;
     Ok(samples)
 }
 
@@ -237,6 +243,32 @@ fn deep_values_are_put_in(rt: HostRuntime) -> Result<(), Fail> {
     assert_eq!(rt; term.height(), 401);
     assert_eq!(rt;
         put_size(&body, values.as_slice()) == (401, code_len(&term)),
+        true
+    );
+    Ok(())
+}
+
+// Sets of two members, nested 300 deep around a process.
+fn nested(alloc: Global, inner: Term) -> Result<Term, AllocError> {
+    let mut term = inner;
+    for n in 0..300_i64 {
+        let mut members = Vec::new(alloc);
+        members.push(term)?;
+        members.push(int(alloc, n)?)?;
+        term = one(alloc, Part::Set(members))?;
+    }
+    Ok(term)
+}
+
+#[test]
+fn values_are_put_into_deep_sets(rt: HostRuntime) -> Result<(), Fail> {
+    let alloc = rt.alloc();
+    let body = nested(alloc, one(alloc, Part::Var(0))?)?;
+    let values = values(alloc, nested(alloc, int(alloc, 5)?)?)?;
+    let term = substitute(alloc, &body, values.as_slice())?;
+    assert_eq!(rt; term.height(), 600);
+    assert_eq!(rt;
+        put_size(&body, values.as_slice()) == (600, code_len(&term)),
         true
     );
     Ok(())

@@ -14,13 +14,19 @@ use Rattle.calculus.specs.Outcome.{Prices, fails, free, pure}
 use Rattle.calculus.specs.Values.{value}
 use Rattle.calculus.specs.Rows.{Row, row_length}
 use Rattle.calculus.specs.Unfolding.{new_index, sorted_receive, row_limits}
+use Rattle.calculus.proofs.Binding.{no_bound}
+use Rattle.calculus.proofs.FromFits.{formed, fine}
+use Rattle.calculus.proofs.Tails.{IsFine}
 use Rattle.rho_term.specs.Normal.{IsNormal}
-use Rattle.term_code.proofs.Forms.{no_variables}
 use Rattle.unfold.specs.Linear.{is_variable, is_linear}
 use Rattle.unfold.specs.Works.{receive_work}
 use Rattle.unfold.proofs.Same.{same}
 use Rattle.unfold.proofs.Sizes.{one_bind}
 use Rattle.unfold.proofs.Sending.{opened-linear}
+
+-- a process binds no variable outside itself
+no_variables : (v : Scope) (t : Tree) → Fits term v t → bound t ≡ []
+no_variables v t h = no_bound IsFine term t tt (formed IsFine fine term v t h)
 
 -- a linear receive on this channel
 abbrev pub received : Tree → Label → Tree → Tree

@@ -12,8 +12,8 @@ use Rattle.calculus.specs.Code.{code}
 use Rattle.calculus.specs.Outcome.{gives, fails, within_limits}
 use Rattle.calculus.specs.Rows.{Row, row_length}
 use Rattle.calculus.specs.Unfolding.{a_row, row_limits}
-use Rattle.term_code.specs.Sizes.{size}
-use Rattle.term_code.proofs.Lengths.{size-code}
+use Rattle.term_encoder.specs.Sizes.{size}
+use Rattle.term_encoder.proofs.Lengths.{size-code}
 use Rattle.std.proofs.lemmas.Bool.{false≢true}
 use Rattle.unfold.specs.Linear.{is_variable}
 use Rattle.unfold.specs.Limits.{size_fault}

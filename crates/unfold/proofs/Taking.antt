@@ -22,7 +22,7 @@ use Rattle.calculus.specs.Unfolding.{Thing, sorted_receive, row_limits}
 use Rattle.rho_term.specs.declared.op.Op.{Op}
 use Rattle.rho_term.specs.Measures.{in_u32}
 use Rattle.rho_term.specs.Normal.{IsNormal}
-use Rattle.term_code.specs.Sizes.{in_u64}
+use Rattle.term_encoder.specs.Sizes.{in_u64}
 use Rattle.unfold.specs.declared.stop.EvalStop.{EvalStop}
 use Rattle.unfold.specs.declared.stop.EvalStop.TheVariants.{Fault, Over}
 use Rattle.unfold.specs.Linear.{is_variable, is_linear, is_linear_part}

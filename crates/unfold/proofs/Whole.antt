@@ -11,7 +11,7 @@ use Rattle.calculus.specs.Outcome.{Prices, Answer, gives, fails, Outcome, within
 use Rattle.calculus.specs.Unfolding.{Thing, rows_of, Unfolds, unfold_in, unfold_within}
 use Rattle.rho_term.specs.declared.op.Op.{Op}
 use Rattle.rho_term.specs.Measures.{in_u32}
-use Rattle.term_code.specs.Sizes.{in_u64}
+use Rattle.term_encoder.specs.Sizes.{in_u64}
 use Rattle.unfold.specs.declared.stop.EvalStop.{EvalStop}
 use Rattle.unfold.specs.declared.stop.EvalStop.TheVariants.{Fault, Over, NoMemory}
 use Rattle.unfold.specs.Limits.{size_fault}

@@ -10,7 +10,7 @@ ghost use Rattle.unfold.specs.Limits.{size_fault};
 use crate::stop::EvalStop;
 use calculus::FaultKind;
 use rho_term::Term;
-use term_code::code_len;
+use term_encoder::code_len;
 
 /// The greatest height of a process.
 const MOST_HEIGHT: u32 = 400;

@@ -14,10 +14,10 @@ use crate::limits::{add_cost, check_size, checked_len};
 use crate::stop::EvalStop;
 use calculus::Kind;
 use name_seed::Seed;
-use phlo_meter::Prices;
+use price_table::Prices;
 use rho_term::{Op, Term, TermBind};
 use std::alloc::Global;
-use term_code::code_len;
+use term_encoder::code_len;
 
 /// The price so far, and what is offered so far.
 #[derive(Drop)]

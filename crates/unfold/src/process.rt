@@ -14,7 +14,7 @@ use crate::limits::add_cost;
 use crate::offers::{Work, offer_receive, offer_send};
 use crate::stop::EvalStop;
 use name_seed::Seed;
-use phlo_meter::Prices;
+use price_table::Prices;
 use rho_term::{Origin, Part, Term};
 use std::alloc::{AllocError, Global};
 use term_sort::substitute;

@@ -12,7 +12,7 @@ use crate::offers::Work;
 use crate::process::offer_process;
 use crate::stop::{EvalStop, Priced};
 use name_seed::Seed;
-use phlo_meter::Prices;
+use price_table::Prices;
 use rho_term::{Op, Term};
 use std::alloc::Global;
 use term_sort::{put_size, substitute};

@@ -1,6 +1,6 @@
 use Rattle.std.proofs.Common.{◌≡◌, ◌+◌, length, drop, take, sum_by}
 use Rattle.calculus.specs.Code.{code}
-use Rattle.term_code.specs.Sizes.{in_u64}
+use Rattle.term_encoder.specs.Sizes.{in_u64}
 use Rattle.rho_eval.proofs.operation.bytes_of.Given as goal
 
 abbrev pub invariant-loop-term : goal.invariant-loop-term

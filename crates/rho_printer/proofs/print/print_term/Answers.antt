@@ -2,7 +2,7 @@ use Rattle.std.proofs.Common.{◌++◌, [], ap, ◌∙◌}
 use Rattle.calculus.specs.Form.{term}
 use Rattle.calculus.proofs.FromFits.{formed, fine}
 use Rattle.calculus.proofs.Tails.{IsFine}
-use Rattle.rho_printer.specs.Printed.{printed_text}
+use Rattle.calculus.specs.Printed.{printed_text}
 use Rattle.rho_printer.specs.Texts.{text_of}
 use Rattle.rho_printer.proofs.print.print_term.Goals as goal
 

@@ -1,7 +1,7 @@
 use Rattle.std.proofs.Common.{◌≡◌, ◌+◌, ◌^◌, ◌<◌, map, drop}
 use Rattle.calculus.specs.Tree.{trees}
 use Rattle.rho_term.specs.Parts.{bind_tree}
-use Rattle.term_code.specs.Sizes.{in_u64}
+use Rattle.term_encoder.specs.Sizes.{in_u64}
 use Rattle.term_sort.specs.Bound.{bound_counts}
 use Rattle.term_sort.proofs.bound.binds_bound.Given as goal
 

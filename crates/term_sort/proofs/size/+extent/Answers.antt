@@ -5,7 +5,7 @@ use Rattle.std.proofs.lemmas.List.{length-map}
 use Rattle.calculus.specs.Tree.{weight, weights, trees, fresh, var, name_var, list, tuple, set, dict, pair, send, receive, bind, new, match, case, bundle, unary, binary, method, pattern, rest, any, some_process, some_name, simple, same, both, either, not_this, list_pattern, set_pattern, map_pattern, par}
 use Rattle.rho_term.specs.Parts.{part_tree, pat_part_tree, pair_tree, bind_tree, case_tree}
 use Rattle.rho_term.proofs.Trees.{weight-at, tree-at}
-use Rattle.term_code.specs.Sizes.{in_u64}
+use Rattle.term_encoder.specs.Sizes.{in_u64}
 use Rattle.term_sort.specs.Filled.{IsForm}
 use Rattle.term_sort.specs.Extent.{IsHeight, IsLength, AreHeights}
 use Rattle.term_sort.proofs.Filling.{part-form, pat_part-form}

@@ -1,5 +1,5 @@
 use Rattle.std.proofs.Common.{arith}
-use Rattle.term_code.proofs.Lengths.{size-code}
+use Rattle.term_encoder.proofs.Lengths.{size-code}
 use Rattle.term_sort.proofs.Extending.{parts-size, parts-height}
 use Rattle.term_sort.proofs.size.add_value.Goals as goal
 

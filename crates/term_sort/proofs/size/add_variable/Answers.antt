@@ -2,7 +2,7 @@ use Rattle.std.proofs.Common.{arith, ap, sym, ◌≡◌, ◌-◌, ◌∙◌, rev
 use Rattle.calculus.specs.Shape.{at, held}
 use Rattle.calculus.specs.Size.{heights}
 use Rattle.calculus.specs.Tree.{trees}
-use Rattle.term_code.specs.Sizes.{sizes}
+use Rattle.term_encoder.specs.Sizes.{sizes}
 use Rattle.term_sort.proofs.Filling.{value-read, value-past}
 use Rattle.term_sort.proofs.size.add_variable.Goals as goal
 

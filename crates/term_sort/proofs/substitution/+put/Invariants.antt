@@ -2,7 +2,7 @@ use Rattle.std.proofs.Common.{◌≡◌, ℕ, ◌++◌, ◌*◌, ◌+◌, map, d
 use Rattle.calculus.specs.Tree.{trees, weight, weights}
 use Rattle.rho_term.specs.Normal.{IsOrdered}
 use Rattle.rho_term.specs.Parts.{part_tree, pat_part_tree, pair_tree, bind_tree, case_tree}
-use Rattle.term_code.specs.Sizes.{in_u64}
+use Rattle.term_encoder.specs.Sizes.{in_u64}
 use Rattle.term_sort.specs.Filled.{all_filled}
 use Rattle.term_sort.proofs.substitution.+put.Given as goal
 

@@ -8,7 +8,7 @@ use Rattle.rho_term.specs.Normal.{IsOrdered}
 use Rattle.rho_term.specs.Parts.{part_tree, pat_part_tree, pat_tree, pair_tree, bind_tree, case_tree}
 use Rattle.rho_term.specs.declared.term.PatPart.TheVariants.{NameVar}
 use Rattle.term_code.specs.Scopes.{senses_of}
-use Rattle.term_code.proofs.Codes.{length-map}
+use Rattle.term_encoder.proofs.Codes.{length-map}
 use Rattle.term_code.proofs.Rows.{row-done, row-done_trees}
 use Rattle.term_code.proofs.Bags.{bag-done, bag-done_trees, process-done}
 use Rattle.term_code.proofs.Forms.{reads-at, tuple-form, tuple_pattern-form, receive-form, new-form, match-form}

@@ -1,0 +1,35 @@
+use Rattle.std.proofs.Common.{arith, ap, map, ◌≤◌}
+use Rattle.calculus.specs.Tree.{weight, weights, trees}
+use Rattle.rho_term.specs.Parts.{pat_part_tree, pair_tree, bind_tree, case_tree}
+use Rattle.rho_term.proofs.Trees.{weight-at, tree-at}
+use Rattle.rho_term.proofs.lengths.+len.Goals as goal
+
+pub pat_len-pat_part_len-requires : goal.pat_len-pat_part_len-requires
+pat_len-pat_part_len-requires t c =
+    let w : weight (pat_part_tree c.part-item.result) ≤ weights (trees (map pat_part_tree c.parts-parts.result.now)) = rw c.part-item.is (weight-at pat_part_tree _ _ _ c.loop-part-test.true) in
+    (omega (arith, w, ap weight c.parts-parts.ensures.parts), tt)
+
+pub pats_len-pat_len-requires : goal.pats_len-pat_len-requires
+pats_len-pat_len-requires t c =
+    let w : weight c.pat-item.result ≤ weights (trees c.deref-pat-items.result.now) = rw c.pat-item.is (tree-at _ _ _ c.loop-pat-test.true) in
+    (omega (arith, w, ap (λ xs. weights (trees xs)) c.deref-pat-items.ensures.value), tt)
+
+pub pat_pairs_len-pat_len-requires : goal.pat_pairs_len-pat_len-requires
+pat_pairs_len-pat_len-requires t c =
+    let w : weight (pair_tree c.pair-item.result) ≤ weights (trees (map pair_tree c.deref-pair-items.result.now)) = rw c.pair-item.is (weight-at pair_tree _ _ _ c.loop-pair-test.true) in
+    (omega (arith, w, ap (λ xs. weights (trees (map pair_tree xs))) c.deref-pair-items.ensures.value), tt)
+
+pub pat_pairs_len-pat_len-requires-in-loop-pair : goal.pat_pairs_len-pat_len-requires-in-loop-pair
+pat_pairs_len-pat_len-requires-in-loop-pair t c =
+    let w : weight (pair_tree c.pair-item.result) ≤ weights (trees (map pair_tree c.deref-pair-items.result.now)) = rw c.pair-item.is (weight-at pair_tree _ _ _ c.loop-pair-test.true) in
+    (omega (arith, w, ap (λ xs. weights (trees (map pair_tree xs))) c.deref-pair-items.ensures.value), tt)
+
+pub binds_len-pats_len-requires : goal.binds_len-pats_len-requires
+binds_len-pats_len-requires t c =
+    let w : weight (bind_tree c.bind-item.result) ≤ weights (trees (map bind_tree c.deref-bind-items.result.now)) = rw c.bind-item.is (weight-at bind_tree _ _ _ c.loop-bind-test.true) in
+    (omega (arith, w, ap (λ xs. weights (trees (map bind_tree xs))) c.deref-bind-items.ensures.value), tt)
+
+pub cases_len-pat_len-requires : goal.cases_len-pat_len-requires
+cases_len-pat_len-requires t c =
+    let w : weight (case_tree c.case-item.result) ≤ weights (trees (map case_tree c.deref-case-items.result.now)) = rw c.case-item.is (weight-at case_tree _ _ _ c.loop-case-test.true) in
+    (omega (arith, w, ap (λ xs. weights (trees (map case_tree xs))) c.deref-case-items.ensures.value), tt)
