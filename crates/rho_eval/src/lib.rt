@@ -8,6 +8,3 @@ pub mod stop;
 
 pub use evaluation::evaluate;
 pub use stop::{EvalStop, Priced};
-
-#[cfg(test)]
-mod tests;

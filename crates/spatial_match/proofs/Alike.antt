@@ -1,6 +1,6 @@
 -- Which ground values, closed forms and processes are congruent.
-use Rattle.std.proofs.Common.{◌≡◌, ℕ, ◌<◌, ◌+◌, Bool, true, false, cond, List, [], ◌∷◌, length, refl, sym, ap, ◌∙◌, subst, arith}
-use Rattle.std.specs.Prelude.{◌&&◌, eqb, count_by, IsTrue}
+use Rattle.std.proofs.Common.{◌≡◌, ℕ, ◌+◌, Bool, true, false, cond, List, [], ◌∷◌, length, refl, sym, ap, ◌∙◌, subst, arith}
+use Rattle.std.specs.Prelude.{◌&&◌, eqb, IsTrue}
 use Rattle.std.specs.Str.{bytes_eq}
 use Rattle.std.specs.Ordering.{is_eq}
 use Rattle.std.specs.declared.cmp.Ordering.{Ordering}
@@ -8,7 +8,7 @@ use Rattle.std.specs.declared.cmp.Ordering.TheVariants.{Less, Equal, Greater}
 use Rattle.std.proofs.lemmas.Bool.Decides.{nat_tests}
 use Rattle.calculus.specs.declared.plain.Ground.{Ground}
 use Rattle.calculus.specs.declared.plain.Ground.TheVariants as ground_forms
-use Rattle.calculus.specs.Tree.{Label, Tree, node, Trees, none, also, plain}
+use Rattle.calculus.specs.Tree.{Tree, node, plain}
 use Rattle.calculus.specs.Shape.{label_of, only, held, listed}
 use Rattle.calculus.specs.Order.{byte_cmp}
 use Rattle.calculus.specs.Code.{code}
@@ -72,7 +72,7 @@ is-true b h = h
 from-true : (b : Bool) → b ≡ true → IsTrue b
 from-true b h = h
 
-is-equal : (o : Ordering) → is_eq o ≡ true → o ≡ Equal
+pub is-equal : (o : Ordering) → is_eq o ≡ true → o ≡ Equal
 is-equal Less h = cc
 is-equal Equal h = refl
 is-equal Greater h = cc

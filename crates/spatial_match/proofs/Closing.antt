@@ -1,5 +1,5 @@
 -- Closed short patterns are known as the search wants them.
-use Rattle.std.proofs.Common.{◌≡◌, ℕ, ◌+◌, ◌<◌, ◌≤◌, ◌^◌, Bool, true, false, cond, List, [], ◌∷◌, ◌++◌, length, refl, sym, ap, ◌∙◌, subst, arith, length-append, inl, inr, ⊎_elim}
+use Rattle.std.proofs.Common.{◌≡◌, ℕ, ◌+◌, ◌<◌, ◌^◌, Bool, true, false, cond, List, [], ◌∷◌, length, refl, sym, subst, arith, length-append, inl, inr, ⊎_elim}
 use Rattle.std.specs.Prelude.{⊤, ◌⊎◌, leb}
 use Rattle.calculus.specs.declared.plain.TermRest.{TermRest}
 use Rattle.calculus.specs.Tree.{Label, Tree, node, trees, par, row, bool, int, str, uri, bytes, pair, bind, receive, new, match, tuple, send, bundle, pattern, rest, any, some_process, some_name, simple, same, both, either, not_this, list_pattern, set_pattern, map_pattern, Trees, none, also}
@@ -7,10 +7,10 @@ use Rattle.calculus.specs.Bytes.{joined}
 use Rattle.calculus.specs.Shape.{only, count, listed, leaf, many, three}
 use Rattle.calculus.specs.Code.{code, codes}
 use Rattle.calculus.specs.CodeLaws.{IsShort}
-use Rattle.calculus.specs.Form.{Sort, term, a_rest, a_bind, pat, name_pat, pat_part, name_part, row_of, pair_of, all, Hold, Fits}
+use Rattle.calculus.specs.Form.{a_rest, a_bind, pat, name_pat, pat_part, name_part, row_of, pair_of, all, Hold, Fits}
 use Rattle.calculus.proofs.Formed.{length-code}
 use Rattle.calculus.proofs.Tails.{length-be32}
-use Rattle.spatial_match.specs.Given.{Ready, Tries, TriesIn, AllTries, IsClosedPattern}
+use Rattle.spatial_match.specs.Given.{Tries, TriesIn, AllTries, IsClosedPattern}
 
 -- the bytes of the codes of these trees
 abbrev sum : Trees → ℕ

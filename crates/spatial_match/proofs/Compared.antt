@@ -1,11 +1,10 @@
 -- Which forms of a pattern are compared with their targets.
-use Rattle.std.proofs.Common.{◌≡◌, ◌<◌, ◌≤◌, ◌+◌, Bool, List, [], ◌∷◌, length, get_or, refl, sym, ap, ◌∙◌, subst, arith}
-use Rattle.calculus.specs.Tree.{Label, Tree, node, trees, par, tuple, Trees, none, also}
-use Rattle.calculus.specs.Shape.{label_of, many, listed, only}
+use Rattle.std.proofs.Common.{◌≡◌, ◌<◌, ◌≤◌, Bool, List, [], ◌∷◌, length, get_or, refl, sym, ap, ◌∙◌, subst, arith}
+use Rattle.calculus.specs.Tree.{Label, Tree, node, par, tuple}
+use Rattle.calculus.specs.Shape.{label_of, many, only}
 use Rattle.calculus.specs.Form.{term}
 use Rattle.calculus.specs.Congruence.{congruent}
 use Rattle.calculus.specs.Matching.{one_if}
-use Rattle.calculus.specs.declared.plain.Ground.{Ground}
 use Rattle.calculus.specs.declared.plain.Ground.TheVariants as ground_forms
 use Rattle.calculus.specs.declared.plain.Rights.{Rights}
 use Rattle.rho_term.specs.Parts.{part_tree}

@@ -1,8 +1,8 @@
 -- The first of a list of matches.
-use Rattle.std.proofs.Common.{◌≡◌, ℕ, Bool, true, false, cond, List, [], ◌∷◌, ◌++◌, map as each, refl, sym, ap, ◌∙◌, subst}
-use Rattle.std.specs.Prelude.{◌||◌, ◌&&◌, not, Option, Some, None, flat_map}
+use Rattle.std.proofs.Common.{◌≡◌, Bool, true, false, cond, List, [], ◌∷◌, ◌++◌, refl, ap, ◌∙◌, subst}
+use Rattle.std.specs.Prelude.{Option, Some, None, flat_map}
 use Rattle.calculus.specs.Tree.{Tree}
-use Rattle.calculus.specs.Matching.{Bindings, Member, Choice, both_of, one_if, some_match, first_of_all}
+use Rattle.calculus.specs.Matching.{Bindings, Member, Choice, both_of, some_match, first_of_all}
 use Rattle.std.specs.declared.alloc.Global.{Global}
 use Rattle.std.specs.declared.vec.Vec.{Vec}
 use Rattle.calculus.specs.declared.plain.TermRest.{TermRest}

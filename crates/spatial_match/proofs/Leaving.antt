@@ -1,14 +1,14 @@
 -- What is left of a process: it is closed, short and in order, as the process is.
-use Rattle.std.proofs.Common.{◌≡◌, ℕ, zero, suc, ◌+◌, ◌<◌, ◌≤◌, ◌^◌, Bool, true, false, cond, List, [], ◌∷◌, ◌++◌, length, map as each, refl, sym, ap, ◌∙◌, subst, arith, length-append}
-use Rattle.std.specs.Prelude.{⊤, eqb}
+use Rattle.std.proofs.Common.{◌≡◌, ℕ, suc, ◌+◌, ◌≤◌, Bool, true, false, cond, List, [], ◌∷◌, length, map as each, refl, sym, ap, ◌∙◌, subst, arith, length-append}
+use Rattle.std.specs.Prelude.{eqb}
 use Rattle.std.proofs.lemmas.Bool.{eqb-true}
-use Rattle.calculus.specs.Tree.{Tree, node, trees, par, Trees, none, also}
+use Rattle.calculus.specs.Tree.{Tree, node, trees, par}
 use Rattle.calculus.specs.Bytes.{joined}
-use Rattle.calculus.specs.Shape.{process, held, listed, many}
+use Rattle.calculus.specs.Shape.{process, held}
 use Rattle.calculus.specs.Order.{up_to, IsAscending, IsBelowFirst}
 use Rattle.calculus.specs.Code.{code, codes}
 use Rattle.calculus.specs.CodeLaws.{IsShort}
-use Rattle.calculus.specs.Form.{Sort, term, part, all, Hold, Fits}
+use Rattle.calculus.specs.Form.{term, part, all, Hold, Fits}
 use Rattle.calculus.specs.Normal.{placed_by, by_code, ascending}
 use Rattle.calculus.proofs.Formed.{length-code}
 use Rattle.calculus.proofs.Tails.{length-be32}

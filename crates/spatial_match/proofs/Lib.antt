@@ -13,3 +13,4 @@ pub mod Closing
 pub mod Weighing
 pub mod Compared
 pub mod Shaping
+pub mod Repeating

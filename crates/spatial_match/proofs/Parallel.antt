@@ -1,13 +1,13 @@
 -- Matches of a parallel pattern, from the ways of its parts.
-use Rattle.std.proofs.Common.{◌≡◌, ℕ, zero, suc, ◌+◌, ◌<◌, ◌≤◌, Bool, true, false, cond, List, [], ◌∷◌, ◌++◌, length, map as each, drop, refl, sym, ap, ◌∙◌, subst, arith, add-one}
-use Rattle.std.specs.Prelude.{◌||◌, ◌&&◌, Option, Some, None, flat_map, ⊤}
+use Rattle.std.proofs.Common.{◌≡◌, Bool, true, false, cond, List, [], ◌∷◌, ◌++◌, map as each, refl, sym, ap, ◌∙◌, subst}
+use Rattle.std.specs.Prelude.{◌||◌, ◌&&◌, Some, None, flat_map}
 use Rattle.calculus.specs.Tree.{Tree}
 use Rattle.calculus.specs.Shape.{process}
 use Rattle.calculus.specs.Normal.{ascending}
 use Rattle.calculus.specs.Matching.{Bindings, Member, Choice, Matcher, both_of, completed, has_wide, is_empty, some_match, first_of_all, ways, parts_match}
-use Rattle.spatial_match.specs.Search.{first_way, member_at, woven, IsWhole, WideIs, no_wide, AtMostOne}
+use Rattle.spatial_match.specs.Search.{first_way, woven, IsWhole, WideIs}
 use Rattle.spatial_match.specs.Found.{wides_take, may_leave}
-use Rattle.spatial_match.proofs.Firsts.{by_cases, both_first, first-both, no_first, some-none, some-some, none_gives, some_gives}
+use Rattle.spatial_match.proofs.Firsts.{by_cases, both_first, first-both, none_gives, some_gives}
 
 both-none : (xs : List Bindings) (ys : List Bindings) → ys ≡ [] → both_of xs ys ≡ []
 both-none [] ys e = refl

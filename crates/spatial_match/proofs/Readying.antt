@@ -1,20 +1,18 @@
 -- What stands in a closed short tree is closed and short, and what stands in a pattern is known as the pattern is.
-use Rattle.std.proofs.Common.{◌≡◌, ℕ, zero, suc, ◌+◌, ◌<◌, ◌≤◌, ◌^◌, Bool, true, false, cond, List, [], ◌∷◌, ◌++◌, length, map as each, get_or, refl, sym, ap, ◌∙◌, subst, arith, length-append}
-use Rattle.std.specs.Prelude.{⊤, All}
+use Rattle.std.proofs.Common.{◌≡◌, ℕ, zero, suc, ◌+◌, ◌<◌, ◌≤◌, ◌^◌, Bool, true, false, cond, List, [], ◌∷◌, length, map as each, get_or, refl, sym, ap, ◌∙◌, subst, arith, length-append}
+use Rattle.std.specs.Prelude.{All}
 use Rattle.std.proofs.lemmas.List.Sums.{sum_by-cons}
-use Rattle.calculus.specs.Tree.{Label, Tree, node, trees, par, row, pair, list, tuple, set, dict, send, bundle, pattern, Trees, none, also}
+use Rattle.calculus.specs.Tree.{Label, Tree, trees, par, row, pair, list, tuple, set, dict, send, pattern, none, also}
 use Rattle.calculus.specs.Bytes.{joined}
-use Rattle.calculus.specs.Shape.{process, only, held, listed, many, one, two, label_of}
+use Rattle.calculus.specs.Shape.{process, only, many, one, two, label_of}
 use Rattle.calculus.specs.Variables.{Sense, is_wide}
-use Rattle.calculus.specs.Order.{IsAscending}
 use Rattle.calculus.specs.Code.{code, codes}
 use Rattle.calculus.specs.CodeLaws.{IsShort}
-use Rattle.calculus.specs.Form.{Sort, term, part, row_of, pair_of, all, Hold, Fits, wides}
+use Rattle.calculus.specs.Form.{Sort, term, part, pair_of, all, Hold, Fits, wides}
 use Rattle.calculus.proofs.Formed.{length-code}
 use Rattle.calculus.proofs.Tails.{length-be32}
-use Rattle.calculus.proofs.Placing.{listed-trees}
 use Rattle.rho_term.specs.Normal.{IsNormal, AreNormal, IsOrdered}
-use Rattle.rho_term.specs.Parts.{part_tree, pair_tree}
+use Rattle.rho_term.specs.Parts.{part_tree}
 use Rattle.rho_term.specs.declared.term.Part.{Part}
 use Rattle.rho_term.proofs.Trees.{ordered-at}
 use Rattle.spatial_match.specs.Given.{Ready, AllReady, Tries, TriesIn, AllTries}
@@ -26,7 +24,7 @@ use Rattle.spatial_match.proofs.Rows.{member-wide}
 abbrev pub bytes_of : List Tree → ℕ
 bytes_of ts = length (joined (codes (trees ts)))
 
-bytes-cons : (t : Tree) (ts : List Tree) → bytes_of (t ∷ ts) ≡ length (code t) + bytes_of ts
+pub bytes-cons : (t : Tree) (ts : List Tree) → bytes_of (t ∷ ts) ≡ length (code t) + bytes_of ts
 bytes-cons t ts = length-append (code t) (joined (codes (trees ts)))
 
 bytes-at : (ts : List Tree) (i : ℕ) (d : Tree) → i < length ts → length (code (get_or ts i d)) ≤ bytes_of ts
@@ -40,7 +38,7 @@ fits-at s o (t ∷ ts) zero d h k = k.0
 fits-at s o (t ∷ ts) (suc i) d h k = fits-at s o ts i d (omega arith) k.1
 
 -- the length of the code of a process of one part
-only-length : (t : Tree) → length (code (only t)) ≡ 4 + length (code t)
+pub only-length : (t : Tree) → length (code (only t)) ≡ 4 + length (code t)
 only-length t = omega (arith, length-code par (also t none), bytes-cons t [], length-be32)
 
 -- a part of a process
@@ -55,7 +53,7 @@ all-ready s o [] h k = tt
 all-ready s o (t ∷ ts) h k = (record { closed = h.0; short = omega (arith, bytes-cons t ts) }, all-ready s o ts h.1 (omega (arith, bytes-cons t ts)))
 
 -- the codes of what a part holds
-inside : (l : Label) (ts : List Tree) → IsShort (only (many l ts)) → bytes_of ts < 2 ^ 32
+pub inside : (l : Label) (ts : List Tree) → IsShort (only (many l ts)) → bytes_of ts < 2 ^ 32
 inside l ts h = omega (arith, h, only-length (many l ts), length-code l (trees ts))
 
 pub list-ready : (ts : List Tree) → Ready term (only (many list ts)) → AllReady term ts
@@ -169,6 +167,11 @@ module _ {A : Type 0} (f : A → Tree) where
       let n = wides (each f xs) in
       let k : cond b 1 0 + n ≤ 1 = omega (arith, h, count x xs) in
       (λ e. none_wide xs (one_less b n (sym (member-wide (f x)) ∙ e) k), one_wide xs (fewer b n k))
+
+pub normal-at : {A : Type 0} (f : A → Tree) (xs : List A) (i : ℕ) (d : A) → i < length xs → AreNormal (trees (each f xs)) → IsNormal (f (get_or xs i d))
+normal-at f [] i d h n = absurd (omega arith)
+normal-at f (x ∷ xs) zero d h n = n.0
+normal-at f (x ∷ xs) (suc i) d h n = normal-at f xs i d (omega arith) n.1
 
 -- the parts that are left are in order inside
 left-normal : (i : ℕ) (us : List ℕ) (ts : List Tree) → AreNormal (trees ts) → AreNormal (trees (left_from i us ts))

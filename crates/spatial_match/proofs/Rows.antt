@@ -1,14 +1,12 @@
 -- Members of a row by their numbers.
-use Rattle.std.proofs.Common.{◌≡◌, ℕ, zero, suc, ◌+◌, ◌<◌, ◌≤◌, Bool, true, false, cond, List, [], ◌∷◌, ◌++◌, length, map as each, drop, get_or, refl, sym, ap, ◌∙◌, subst, arith, add-one}
-use Rattle.std.specs.Prelude.{◌||◌, ◌&&◌, Option, Some, None, ⊤}
-use Rattle.std.proofs.lemmas.List.{length-map, drop_all}
-use Rattle.calculus.specs.Tree.{Tree, node, trees, Trees, none, also}
+use Rattle.std.proofs.Common.{◌≡◌, ℕ, zero, suc, ◌+◌, ◌<◌, ◌≤◌, Bool, true, false, cond, List, [], ◌∷◌, length, map as each, drop, get_or, refl, ap, ◌∙◌, arith, add-one}
+use Rattle.std.specs.Prelude.{◌||◌, ◌&&◌, Some, ⊤}
+use Rattle.calculus.specs.Tree.{Tree, node, trees}
 use Rattle.calculus.specs.Shape.{process, label_of}
 use Rattle.calculus.specs.Variables.{is_wide}
-use Rattle.calculus.specs.Matching.{Bindings, Member, piece, pieces, wholes, has_wide, is_empty, some_match, first_of_all}
+use Rattle.calculus.specs.Matching.{Bindings, Member, pieces, wholes, has_wide, is_empty, some_match, first_of_all}
 use Rattle.spatial_match.specs.Search.{member_at, no_wide, AtMostOne, WideIs}
 use Rattle.spatial_match.specs.Found.{member, wides_take, may_leave}
-use Rattle.spatial_match.proofs.Firsts.{some-none, some-some}
 
 drop-suc : (ms : List Member) (i : ℕ) → i < length ms → drop i ms ≡ member_at i ms ∷ drop (suc i) ms
 drop-suc [] i h = absurd (omega arith)

@@ -1,5 +1,5 @@
 -- Matches of sets, maps and rows, from what is found one after another.
-use Rattle.std.proofs.Common.{◌≡◌, ℕ, zero, suc, ◌+◌, ◌<◌, ◌≤◌, Bool, true, false, cond, List, [], ◌∷◌, ◌++◌, length, map as each, drop, get_or, refl, sym, ap, ◌∙◌, subst, arith, add-one, append_assoc}
+use Rattle.std.proofs.Common.{◌≡◌, ℕ, ◌+◌, ◌<◌, ◌≤◌, false, List, [], ◌∷◌, ◌++◌, length, drop, get_or, refl, sym, ap, ◌∙◌, add-one, append_assoc}
 use Rattle.std.specs.Prelude.{Option, Some, None, flat_map}
 use Rattle.std.specs.declared.alloc.Global.{Global}
 use Rattle.std.specs.declared.vec.Vec.{Vec}
@@ -10,8 +10,8 @@ use Rattle.calculus.specs.declared.plain.TermRest.TheVariants as rests
 use Rattle.calculus.specs.Tree.{Tree, par}
 use Rattle.calculus.specs.Shape.{leaf}
 use Rattle.calculus.specs.Normal.{ascending}
-use Rattle.calculus.specs.Matching.{Bindings, Member, Choice, both_of, one_if, is_empty, first_of_all, ways, rest_match, members_match, items_match, first_items_match}
-use Rattle.spatial_match.specs.Search.{first_way, member_at, may_rest, MemberWay}
+use Rattle.calculus.specs.Matching.{Bindings, Member, Choice, both_of, one_if, first_of_all, ways, rest_match, members_match, items_match, first_items_match}
+use Rattle.spatial_match.specs.Search.{member_at, may_rest}
 use Rattle.spatial_match.specs.Found.{IsFirst, IsFirstMembers}
 use Rattle.spatial_match.proofs.Firsts.{both_first, first-both, none_gives, some_gives}
 use Rattle.spatial_match.proofs.Rows.{drop-at}

@@ -1,5 +1,5 @@
 -- All matches of the forms of patterns, as they are searched for.
-use Rattle.std.proofs.Common.{◌≡◌, ℕ, Bool, true, false, cond, List, [], ◌∷◌, length, map as each, refl, sym, ap, ◌∙◌, subst}
+use Rattle.std.proofs.Common.{◌≡◌, Bool, true, false, List, [], map as each, refl, sym, ap, ◌∙◌, subst}
 use Rattle.std.specs.Prelude.{Option, Result, Ok, Err, IfOk}
 use Rattle.std.specs.declared.alloc.Global.{Global}
 use Rattle.std.specs.declared.vec.Vec.{Vec}
@@ -10,7 +10,7 @@ use Rattle.calculus.specs.Shape.{leaf, held, many, two, only}
 use Rattle.calculus.specs.Order.{IsAscending}
 use Rattle.calculus.specs.Code.{codes}
 use Rattle.calculus.specs.Operators.{of_list}
-use Rattle.calculus.specs.Matching.{Bindings, Member, both_of, ways, pieces, wholes, items_match, first_items_match, members_match}
+use Rattle.calculus.specs.Matching.{Member, both_of, ways, pieces, wholes, items_match, first_items_match, members_match}
 use Rattle.calculus.proofs.Placing.{listed-trees}
 use Rattle.rho_term.specs.Parts.{pair_tree, part_tree}
 use Rattle.rho_term.specs.declared.term.Part.{Part}

@@ -1,26 +1,22 @@
 -- One step of the search for the parts of a parallel pattern.
-use Rattle.std.proofs.Common.{◌≡◌, ℕ, zero, suc, ◌+◌, ◌<◌, ◌≤◌, Bool, true, false, cond, List, [], ◌∷◌, ◌++◌, length, map as each, drop, get_or, refl, sym, ap, ◌∙◌, subst, arith}
-use Rattle.std.specs.Prelude.{Option, Some, None, option_map, is_some, flat_map}
-use Rattle.std.specs.declared.alloc.Global.{Global}
-use Rattle.std.specs.declared.vec.Vec.{Vec}
-use Rattle.std.proofs.lemmas.List.{drop_all}
-use Rattle.calculus.specs.declared.plain.TermRest.{TermRest}
-use Rattle.calculus.specs.Tree.{Tree, par, pattern, trees}
-use Rattle.calculus.specs.Shape.{leaf, process, held, many}
+use Rattle.std.proofs.Common.{◌≡◌, ℕ, ◌+◌, ◌<◌, ◌≤◌, Bool, true, false, cond, List, [], ◌∷◌, ◌++◌, length, drop, get_or, sym, ap, ◌∙◌, subst}
+use Rattle.std.specs.Prelude.{Option, Some, None, option_map, is_some}
+use Rattle.calculus.specs.Tree.{Tree, par, trees}
+use Rattle.calculus.specs.Shape.{leaf, process, held}
 use Rattle.calculus.specs.Order.{IsAscending}
 use Rattle.calculus.specs.Code.{codes}
 use Rattle.calculus.specs.Normal.{ascending}
-use Rattle.calculus.specs.Matching.{Bindings, Member, Choice, ways, first_of_all, some_match, is_empty, parts_match}
+use Rattle.calculus.specs.Matching.{Bindings, Member, Choice, ways, first_of_all, is_empty, parts_match}
 use Rattle.rho_term.specs.Parts.{pat_part_tree, pat_tree}
 use Rattle.rho_term.specs.declared.term.PatPart.{PatPart}
 use Rattle.spatial_match.specs.declared.split.Split.{Split}
-use Rattle.spatial_match.specs.Search.{has, left_from, first_way, at_place, member_at, woven, IsWhole, WideIs, AtMostOne, no_wide, may_rest, MemberWay}
-use Rattle.spatial_match.specs.Found.{IsFirst, IsFirstWay, Way, IsFirstMembers, found, member, tried, may_leave, remaining}
+use Rattle.spatial_match.specs.Search.{has, left_from, first_way, at_place, Repeats, FailedBefore, member_at, woven, WideIs, AtMostOne, no_wide}
+use Rattle.spatial_match.specs.Found.{IsFirstWay, Way, found, tried, may_leave, remaining}
 use Rattle.spatial_match.proofs.Firsts.{some-none, some-some}
 use Rattle.spatial_match.proofs.Parallel.{parts_none, parts_some, passes_test}
 use Rattle.spatial_match.proofs.Leaving.{left-ascends, ascending-same, held-remaining}
 use Rattle.spatial_match.proofs.Rows.{drop-at, wholes-each, NoneBefore, none-all, may-none, may-one, none_is, one_is, alone-after}
-use Rattle.spatial_match.proofs.Ways.{later, starts, passes, stops, ends, taken, refused, dead, alive, around}
+use Rattle.spatial_match.proofs.Ways.{later, starts, passes, stops, ends, none-failed, next-failed, repeated, taken, refused, dead, alive, around}
 
 module _ (all : List Member) (us : List ℕ) (ts : List Tree) (i : ℕ) (h : i < length all) where
   abbrev m : Member
@@ -46,6 +42,16 @@ module _ (all : List Member) (us : List ℕ) (ts : List Tree) (i : ℕ) (h : i <
   pub part-passes : (j : ℕ) (o : Option Split) → j < length ts → is_some o ≡ false → Reached j → IsFirstWay all (drop i all) (at_place m ms us ts j) o → Reached (j + 1)
   part-passes j None l e r w = r ∙ passes f m ms us ts j l w
   part-passes j (Some s) l e r w = cc
+
+  pub part-none-failed : FailedBefore f m ms us ts 0
+  part-none-failed = none-failed f m ms us ts
+
+  pub part-next-failed : (j : ℕ) (o : Option Split) → is_some o ≡ false → IsFirstWay all (drop i all) (at_place m ms us ts j) o → FailedBefore f m ms us ts (j + 1)
+  part-next-failed j None e w = next-failed f m ms us ts j w
+  part-next-failed j (Some s) e w = cc
+
+  pub part-repeated : (j : ℕ) → j < length ts → Repeats us ts j → FailedBefore f m ms us ts j → first_way f (at_place m ms us ts j) ≡ None
+  part-repeated j l r b = repeated f m ms us ts j l r b
 
   -- a target is taken
   pub part-stops : (j : ℕ) (o : Option Split) → j < length ts → is_some o ≡ true → Reached j → IsFirstWay all (drop i all) (at_place m ms us ts j) o

@@ -1,18 +1,17 @@
 -- One step of the search for the members of a set or map.
-use Rattle.std.proofs.Common.{◌≡◌, ℕ, zero, suc, ◌+◌, ◌<◌, ◌≤◌, Bool, true, false, cond, List, [], ◌∷◌, ◌++◌, length, map as each, drop, get_or, refl, sym, ap, ◌∙◌, subst, arith, append_assoc}
+use Rattle.std.proofs.Common.{◌≡◌, ℕ, ◌+◌, ◌<◌, ◌≤◌, Bool, true, false, cond, List, [], ◌∷◌, ◌++◌, length, drop, get_or, refl, sym, ap, ◌∙◌, append_assoc}
 use Rattle.std.specs.Prelude.{Option, Some, None, is_some, flat_map}
 use Rattle.std.specs.declared.alloc.Global.{Global}
 use Rattle.std.specs.declared.vec.Vec.{Vec}
-use Rattle.std.proofs.lemmas.List.{drop_all}
 use Rattle.calculus.specs.declared.plain.TermRest.{TermRest}
 use Rattle.calculus.specs.declared.plain.TermRest.TheVariants as rests
 use Rattle.calculus.specs.Tree.{Tree, par}
 use Rattle.calculus.specs.Shape.{leaf}
-use Rattle.calculus.specs.Matching.{Bindings, Member, Choice, ways, first_of_all, one_if, is_empty, rest_match}
-use Rattle.spatial_match.specs.Search.{has, left_from, first_way, at_place, member_at, may_rest, MemberWay}
+use Rattle.calculus.specs.Matching.{Bindings, Member, ways, first_of_all, one_if, is_empty, rest_match}
+use Rattle.spatial_match.specs.Search.{has, left_from, first_way, at_place, Repeats, FailedBefore, member_at, may_rest, MemberWay}
 use Rattle.spatial_match.specs.Found.{IsFirst, IsFirstMembers}
 use Rattle.spatial_match.proofs.Rows.{drop-at}
-use Rattle.spatial_match.proofs.Ways.{later, starts, passes, stops, ends, taken, refused, dead, alive}
+use Rattle.spatial_match.proofs.Ways.{later, starts, passes, stops, ends, none-failed, next-failed, repeated, taken, refused, dead, alive}
 
 module _ (r : TermRest) (made : List Tree → Tree) (all : List Member) (us : List ℕ) (ts : List Tree) (i : ℕ) (h : i < length all) where
   abbrev m : Member
@@ -33,6 +32,16 @@ module _ (r : TermRest) (made : List Tree → Tree) (all : List Member) (us : Li
   pub member-passes : (j : ℕ) (o : Option (Vec Tree Global)) → j < length ts → is_some o ≡ false → Reached j → IsFirstMembers r made (at_place m ms us ts j) o → Reached (j + 1)
   member-passes j None l e q w = q ∙ passes f m ms us ts j l w
   member-passes j (Some v) l e q w = cc
+
+  pub member-none-failed : FailedBefore f m ms us ts 0
+  member-none-failed = none-failed f m ms us ts
+
+  pub member-next-failed : (j : ℕ) (o : Option (Vec Tree Global)) → is_some o ≡ false → IsFirstMembers r made (at_place m ms us ts j) o → FailedBefore f m ms us ts (j + 1)
+  member-next-failed j None e w = next-failed f m ms us ts j w
+  member-next-failed j (Some v) e w = cc
+
+  pub member-repeated : (j : ℕ) → j < length ts → Repeats us ts j → FailedBefore f m ms us ts j → first_way f (at_place m ms us ts j) ≡ None
+  member-repeated j l q b = repeated f m ms us ts j l q b
 
   pub member-stops : (j : ℕ) (o : Option (Vec Tree Global)) → j < length ts → is_some o ≡ true → Reached j → IsFirstMembers r made (at_place m ms us ts j) o
       → IsFirstMembers r made (ways (drop i all) (left_from 0 us ts)) o

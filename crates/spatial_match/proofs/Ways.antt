@@ -1,5 +1,5 @@
 -- A search among ways, one target after another.
-use Rattle.std.proofs.Common.{◌≡◌, ℕ, zero, suc, ◌+◌, ◌<◌, ◌≤◌, Bool, true, false, cond, List, [], ◌∷◌, ◌++◌, length, map as each, drop, get_or, refl, sym, ap, ◌∙◌, arith, eq-eqb, add-one}
+use Rattle.std.proofs.Common.{◌≡◌, ℕ, zero, suc, ◌+◌, ◌<◌, ◌≤◌, Bool, true, false, cond, List, [], ◌∷◌, ◌++◌, length, map as each, drop, get_or, refl, sym, ap, ◌∙◌, subst, arith, eq-eqb, add-one}
 use Rattle.std.specs.Prelude.{◌||◌, eqb, Option, Some, None, flat_map, option_map}
 use Rattle.std.proofs.Math.Seq.{drop-cons}
 use Rattle.std.proofs.lemmas.List.{drop_all}
@@ -7,7 +7,7 @@ use Rattle.std.proofs.lemmas.Bool.Decides.{nat_tests}
 use Rattle.calculus.specs.Tree.{Tree, par}
 use Rattle.calculus.specs.Shape.{leaf}
 use Rattle.calculus.specs.Matching.{Bindings, Member, Choice, choices, ways, first_of_all}
-use Rattle.spatial_match.specs.Search.{has, left_from, first_way, trial, at_place}
+use Rattle.spatial_match.specs.Search.{has, left_from, first_way, trial, at_place, Repeats, FailedBefore}
 
 -- the one answer, or else the other
 abbrev pub or_else : Option Choice → Option Choice → Option Choice
@@ -163,6 +163,25 @@ choices-left us i (t ∷ ts) =
     let ih = choices-left us (suc i) ts in
     by_cases (has us i) (choose-taken us i t ts ih) (choose-free us i t ts ih)
 
+-- of two equal targets side by side it is one which is used
+swapped-here : (us : List ℕ) (i : ℕ) (t u : Tree) (vs : List Tree) → has us i ≡ false → has us (suc i) ≡ false → t ≡ u → one_used us i (t ∷ u ∷ vs) i ≡ one_used us i (t ∷ u ∷ vs) (suc i)
+swapped-here us i t u vs h k e =
+    sym (free-self us i t (u ∷ vs)) ∙ left-free us (suc i) u vs k ∙ ap (λ x. x ∷ left_from (suc (suc i)) us vs) (sym e)
+    ∙ ap (λ xs. t ∷ xs) (free-self us (suc i) u vs) ∙ free-more us i (suc i) t (u ∷ vs) h (omega arith)
+
+swapped : (us : List ℕ) (i d k : ℕ) (ts : List Tree) → k ≡ i + d → has us k ≡ false → has us (suc k) ≡ false → suc d < length ts → get_or ts d (leaf par) ≡ get_or ts (suc d) (leaf par)
+    → one_used us i ts k ≡ one_used us i ts (suc k)
+swapped us i d k [] q h l n e = absurd (omega arith)
+swapped us i d k (t ∷ []) q h l n e = absurd (omega arith)
+swapped us i zero k (t ∷ u ∷ vs) q h l n e =
+    let P : ℕ → Type 0 = λ x. one_used us i (t ∷ u ∷ vs) x ≡ one_used us i (t ∷ u ∷ vs) (suc x) in
+    let z : i ≡ k = omega (arith, q) in
+    subst P z (swapped-here us i t u vs (subst (λ x. has us x ≡ false) (sym z) h) (subst (λ x. has us (suc x) ≡ false) (sym z) l) e)
+swapped us i (suc d) k (t ∷ u ∷ vs) q h l n e =
+    let ih = swapped us (suc i) d k (u ∷ vs) (omega (arith, q)) h l (omega arith) e in
+    by_cases (has us i) (λ b. sym (taken-more us i k t (u ∷ vs) b) ∙ ih ∙ taken-more us i (suc k) t (u ∷ vs) b)
+    (λ b. sym (free-more us i k t (u ∷ vs) b (omega (arith, q))) ∙ ap (λ xs. t ∷ xs) ih ∙ free-more us i (suc k) t (u ∷ vs) b (omega (arith, q)))
+
 module _ (f : List Tree → Bool) (m : Member) (ms : List Member) (us : List ℕ) (ts : List Tree) where
   -- the ways of the targets from number j on
   abbrev pub later : ℕ → List Choice
@@ -211,6 +230,31 @@ module _ (f : List Tree → Bool) (m : Member) (ms : List Member) (us : List ℕ
   alive j b w h k l =
       ap (λ c. first_way f (cond c [] (trial m ms (get_or ts j (leaf par), one_used us 0 ts j)))) h
       ∙ a_match f (ways ms (one_used us 0 ts j)) (m.tries (get_or ts j (leaf par))) b w k l
+
+  -- before the first target there is none
+  pub none-failed : FailedBefore f m ms us ts 0
+  none-failed k e = absurd (omega (arith, e))
+
+  pub next-failed : (j : ℕ) → first_way f (at_place m ms us ts j) ≡ None → FailedBefore f m ms us ts (j + 1)
+  next-failed j h k e =
+      let q : j ≡ k = omega (arith, e) in
+      subst (λ i. first_way f (at_place m ms us ts i) ≡ None) q h
+
+  -- a target fails where the one before it, which equals it, has failed
+  pub repeated : (j : ℕ) → j < length ts → Repeats us ts j → FailedBefore f m ms us ts j → first_way f (at_place m ms us ts j) ≡ None
+  repeated j l r b =
+      let k = r.before in
+      let z : suc k ≡ j = omega (arith, r.next) in
+      let x = get_or ts k (leaf par) in
+      let y = get_or ts j (leaf par) in
+      by_cases (has us j) (λ u. taken j u)
+      (λ u.
+      let s = swapped us 0 k k ts (omega arith) r.free (subst (λ n. has us n ≡ false) (sym z) u) (omega (arith, l, z)) (subst (λ n. x ≡ get_or ts n (leaf par)) (sym z) r.same) in
+      let e = ap (λ c. cond c [] (trial m ms (x, one_used us 0 ts k))) r.free
+      ∙ ap (λ v. trial m ms (v, one_used us 0 ts k)) r.same
+      ∙ ap (λ vs. trial m ms (y, vs)) (subst (λ n. one_used us 0 ts k ≡ one_used us 0 ts n) z s)
+      ∙ sym (ap (λ c. cond c [] (trial m ms (y, one_used us 0 ts j))) u) in
+      ap (first_way f) (sym e) ∙ b k r.next)
 
 -- a wide member chooses nothing
 pub around : (f : List Tree → Bool) (m : Member) (ms : List Member) (ts : List Tree) → m.wide ≡ true

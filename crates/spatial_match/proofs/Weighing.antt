@@ -1,19 +1,20 @@
 -- The nodes of one tree of a row, beside the number of trees there.
-use Rattle.std.proofs.Common.{◌≡◌, ℕ, zero, suc, ◌+◌, ◌<◌, ◌≤◌, List, [], ◌∷◌, length, map as each, get_or, refl, sym, ap, ◌∙◌, subst, arith}
-use Rattle.calculus.specs.Tree.{Tree, node, trees, weight, weights, par, pattern}
-use Rattle.calculus.specs.Shape.{held, many, process}
+use Rattle.std.proofs.Common.{◌≡◌, ℕ, zero, suc, ◌+◌, ◌<◌, ◌≤◌, List, [], ◌∷◌, length, map as each, get_or, sym, ap, ◌∙◌, subst, arith}
+use Rattle.std.proofs.lemmas.List.{length-map, get_or-map}
+use Rattle.calculus.specs.Tree.{Tree, node, trees, weight, weights, par}
+use Rattle.calculus.specs.Shape.{held, leaf, process}
 use Rattle.calculus.specs.Code.{codes}
 use Rattle.calculus.specs.Order.{IsAscending}
-use Rattle.calculus.specs.Form.{term, wides}
+use Rattle.calculus.specs.Form.{wides}
 use Rattle.calculus.proofs.Placing.{listed-trees}
-use Rattle.rho_term.specs.Normal.{IsNormal, AreNormal, IsOrdered}
+use Rattle.rho_term.specs.Normal.{IsNormal, AreNormal}
 use Rattle.rho_term.specs.Parts.{part_tree, pat_part_tree, pat_tree, term_tree}
 use Rattle.rho_term.specs.declared.term.Part.{Part}
 use Rattle.rho_term.specs.declared.term.PatPart.{PatPart}
-use Rattle.spatial_match.specs.Given.{Ready, Tries, PartsTry}
-use Rattle.spatial_match.specs.Search.{AtMostOne, left_from}
-use Rattle.spatial_match.specs.Found.{tried, remaining}
-use Rattle.spatial_match.proofs.Readying.{pattern-tries, one_wide, part-ready}
+use Rattle.spatial_match.specs.Given.{Tries, PartsTry}
+use Rattle.spatial_match.specs.Search.{AtMostOne}
+use Rattle.spatial_match.specs.Found.{tried}
+use Rattle.spatial_match.proofs.Readying.{pattern-tries, one_wide}
 
 pub weight-pos : (t : Tree) → 1 ≤ weight t
 weight-pos (node l ts) = omega arith
@@ -62,3 +63,10 @@ module _ (t : Tree) (ps : List Part) (e : t ≡ term_tree ps) where
 
   pub term-process : t ≡ process (held t)
   term-process = e ∙ ap process (sym term-held)
+
+-- part number j of a process
+pub target_at : (t : Tree) (ps : List Part) (j : ℕ) (p : Part) → t ≡ term_tree ps → j < length ps → p ≡ get_or ps j p → get_or (held t) j (leaf par) ≡ part_tree p
+target_at t ps j p e h g = ap (λ (ts : List Tree). get_or ts j (leaf par)) (term-held t ps e) ∙ get_or-map part_tree ps j p (leaf par) h ∙ ap part_tree (sym g)
+
+pub held_length : (t : Tree) (ps : List Part) → t ≡ term_tree ps → length (held t) ≡ length ps
+held_length t ps e = ap length (term-held t ps e) ∙ length-map ps part_tree

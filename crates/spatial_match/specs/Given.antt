@@ -1,6 +1,6 @@
 -- What is known of a target and of a pattern that are put together.
 use Rattle.std.specs.Prelude.{◌≤◌, length, List, [], ◌∷◌, ⊤, ◌⊎◌, map as each}
-use Rattle.calculus.specs.Tree.{Label, par, row, bool, int, str, uri, bytes, receive, new, match, tuple, send, bundle, pair, pattern, rest, any, some_process, some_name, simple, same, both, either, not_this, list_pattern, set_pattern, map_pattern, Tree, node, Trees, none, also}
+use Rattle.calculus.specs.Tree.{Label, row, bool, int, str, uri, bytes, receive, new, match, tuple, send, bundle, pair, pattern, rest, any, some_process, some_name, simple, same, both, either, not_this, list_pattern, set_pattern, map_pattern, Tree, node, Trees, none, also}
 use Rattle.calculus.specs.Shape.{at, held, only}
 use Rattle.calculus.specs.CodeLaws.{IsShort}
 use Rattle.calculus.specs.Form.{Sort, term, pat, name_pat, wides, Fits}

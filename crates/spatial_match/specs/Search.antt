@@ -1,5 +1,5 @@
 -- A search among the ways in which members choose targets.
-use Rattle.std.specs.Prelude.{◌≡◌, ℕ, zero, suc, Bool, true, false, cond, eqb, ◌||◌, List, [], ◌∷◌, ◌++◌, ⊤, Option, Some, None, map as each, flat_map, slice_index_or}
+use Rattle.std.specs.Prelude.{◌≡◌, ℕ, zero, suc, ◌+◌, Bool, true, false, cond, eqb, ◌||◌, List, [], ◌∷◌, ◌++◌, ⊤, Option, Some, None, map as each, flat_map, slice_index_or}
 use Rattle.calculus.specs.declared.plain.TermRest.{TermRest}
 use Rattle.calculus.specs.declared.plain.TermRest.TheVariants as rests
 use Rattle.calculus.specs.Tree.{Tree, par}
@@ -28,6 +28,17 @@ trial m ms c = flat_map (λ b. each (λ w. (b ∷ w.0, w.1)) (ways ms c.1)) (m.t
 -- those in which it takes target number j, unless that one is taken
 abbrev pub at_place : Member → List Member → List ℕ → List Tree → ℕ → List Choice
 at_place m ms us ts j = cond (has us j) [] (trial m ms (slice_index_or ts j (leaf par), left_from 0 (us ++ j ∷ []) ts))
+
+-- a target is equal to the one before it, which is not taken
+pub record Repeats (us : List ℕ) (ts : List Tree) (j : ℕ) : Type 0 where
+  pub before : ℕ
+  pub next : j ≡ before + 1
+  pub free : has us before ≡ false
+  pub same : slice_index_or ts before (leaf par) ≡ slice_index_or ts j (leaf par)
+
+-- no way in which the member takes the target before this one passes a test
+abbrev pub FailedBefore : (List Tree → Bool) → Member → List Member → List ℕ → List Tree → ℕ → Type 0
+FailedBefore f m ms us ts j = (k : ℕ) → j ≡ k + 1 → first_way f (at_place m ms us ts k) ≡ None
 
 -- member number i
 abbrev pub member_at : ℕ → List Member → Member

@@ -10,6 +10,7 @@ pub mod matches;
 mod members;
 mod pairs;
 mod parts;
+mod repeats;
 mod split;
 
 pub use matches::{first_match, match_bind};

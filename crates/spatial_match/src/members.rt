@@ -7,11 +7,12 @@ ghost use Rattle.calculus.specs.Order.{IsAscending};
 ghost use Rattle.calculus.specs.Shape.{many, only};
 ghost use Rattle.calculus.specs.Tree.{set, trees};
 ghost use Rattle.spatial_match.specs.Given.{AllReady, AllTries};
-ghost use Rattle.spatial_match.specs.Search.{at_place, left_from, member_at};
+ghost use Rattle.spatial_match.specs.Search.{FailedBefore, at_place, left_from, may_rest, member_at};
 ghost use Rattle.spatial_match.specs.Found.{IsFirstMembers, tried_pats};
 
 use crate::left::{is_free, is_spent, left_terms, with_place};
 use crate::parts::find_whole;
+use crate::repeats::repeats_member;
 use crate::split::{found_if, found_one, joined};
 use calculus::TermRest;
 use rho_term::{Part, Term, TermPat};
@@ -46,7 +47,8 @@ pub(crate) fn find_members(
     Ok(None)
 }
 
-// Member number i takes member number j of the target, where that one is not used.
+// Member number i takes member number j of the target, where that one is not used. It has failed with
+// the target's one before that.
 #[cycle(find)]
 fn try_member(
     alloc: Global,
@@ -59,12 +61,16 @@ fn try_member(
 ) -> Result<Option<Vec<Term>>, AllocError>
     requires within { i < length pats.now }
     requires target_within { j < length terms.now }
+    requires failed { FailedBefore (may_rest rest) (member_at i (tried_pats pats.now)) (drop (i + 1) (tried_pats pats.now)) used.now terms.now j }
     requires tries { AllTries pats.now }
     requires ready { AllReady term terms.now }
     requires ordered { IsAscending (codes (trees terms.now)) }
     ensures { IfOk result (λ o. IsFirstMembers rest (λ vs. only (many set vs)) (at_place (member_at i (tried_pats pats.now)) (drop (i + 1) (tried_pats pats.now)) used.now terms.now j) o) }
 {
     if !is_free(used, j) {
+        return Ok(None);
+    }
+    if repeats_member(terms, used, j) {
         return Ok(None);
     }
     match find_whole(alloc, &pats[i], &terms[j])? {

@@ -8,11 +8,12 @@ ghost use Rattle.calculus.specs.Shape.{many, only};
 ghost use Rattle.calculus.specs.Tree.{dict, trees};
 ghost use Rattle.rho_term.specs.Parts.{pair_tree};
 ghost use Rattle.spatial_match.specs.Given.{AllReady, AllTries, Ready, Tries};
-ghost use Rattle.spatial_match.specs.Search.{at_place, left_from, member_at};
+ghost use Rattle.spatial_match.specs.Search.{FailedBefore, at_place, left_from, may_rest, member_at};
 ghost use Rattle.spatial_match.specs.Found.{IsFirst, IsFirstMembers, found, tried_pairs};
 
 use crate::left::{is_free, is_spent, left_pairs, with_place};
 use crate::parts::find_whole;
+use crate::repeats::repeats_pair;
 use crate::split::{found_if, found_one, joined};
 use calculus::TermRest;
 use rho_term::{Part, Term, TermPat};
@@ -46,7 +47,8 @@ pub(crate) fn find_pairs(
     Ok(None)
 }
 
-// Pair number i takes pair number j of the target, where that one is not used.
+// Pair number i takes pair number j of the target, where that one is not used. It has failed with
+// the target's one before that.
 #[cycle(find)]
 fn try_pair(
     alloc: Global,
@@ -59,12 +61,16 @@ fn try_pair(
 ) -> Result<Option<Vec<Term>>, AllocError>
     requires within { i < length pats.now }
     requires target_within { j < length pairs.now }
+    requires failed { FailedBefore (may_rest rest) (member_at i (tried_pairs pats.now)) (drop (i + 1) (tried_pairs pats.now)) used.now (map pair_tree pairs.now) j }
     requires tries { AllTries (map pair_tree pats.now) }
     requires ready { AllReady (pair_of term) (map pair_tree pairs.now) }
     requires ordered { IsAscending (codes (trees (map pair_tree pairs.now))) }
     ensures { IfOk result (λ o. IsFirstMembers rest (λ vs. only (many dict vs)) (at_place (member_at i (tried_pairs pats.now)) (drop (i + 1) (tried_pairs pats.now)) used.now (map pair_tree pairs.now) j) o) }
 {
     if !is_free(used, j) {
+        return Ok(None);
+    }
+    if repeats_pair(pairs, used, j) {
         return Ok(None);
     }
     match find_pair(alloc, &pats[i], &pairs[j])? {

@@ -8,11 +8,12 @@ ghost use Rattle.calculus.specs.Variables.{is_wide};
 ghost use Rattle.rho_term.specs.Normal.{AreNormal};
 ghost use Rattle.rho_term.specs.Parts.{pat_part_tree};
 ghost use Rattle.spatial_match.specs.Given.{PartsTry, Ready, Tries};
-ghost use Rattle.spatial_match.specs.Search.{AtMostOne, at_place, left_from, member_at};
-ghost use Rattle.spatial_match.specs.Found.{IsFirst, IsFirstWay, found, remaining, tried};
+ghost use Rattle.spatial_match.specs.Search.{AtMostOne, FailedBefore, at_place, left_from, member_at};
+ghost use Rattle.spatial_match.specs.Found.{IsFirst, IsFirstWay, found, may_leave, remaining, tried};
 
 use crate::forms::find_part;
 use crate::left::{is_free, is_spent, left_term, same_left, with_place};
+use crate::repeats::repeats_part;
 use crate::split::{Split, found_if, found_one, joined, with_thin, with_wide};
 use rho_term::{PatPart, Term, TermPat};
 use std::alloc::{AllocError, Global};
@@ -110,7 +111,8 @@ fn find_around(
     }
 }
 
-// The thin part number i takes part number j of the target, where that one is not used.
+// The thin part number i takes part number j of the target, where that one is not used. It has failed with the
+// target's part before that one.
 #[cycle(find)]
 fn try_part(
     alloc: Global,
@@ -123,6 +125,7 @@ fn try_part(
     requires within { i < length pats.now }
     requires thin { (member_at i (tried pats.now)).wide ≡ false }
     requires target_within { j < length (held target.now) }
+    requires failed { FailedBefore (may_leave (tried pats.now)) (member_at i (tried pats.now)) (drop (i + 1) (tried pats.now)) used.now (held target.now) j }
     requires tries { PartsTry pats.now }
     requires normal { AreNormal (trees (map pat_part_tree pats.now)) }
     requires one_wide { AtMostOne (tried pats.now) }
@@ -130,6 +133,9 @@ fn try_part(
     ensures { IfOk result (λ o. IsFirstWay (tried pats.now) (drop i (tried pats.now)) (at_place (member_at i (tried pats.now)) (drop (i + 1) (tried pats.now)) used.now (held target.now) j) o) }
 {
     if !is_free(used, j) {
+        return Ok(None);
+    }
+    if repeats_part(target, used, j) {
         return Ok(None);
     }
     let parts = target.parts();

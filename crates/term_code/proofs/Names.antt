@@ -1,6 +1,5 @@
 -- Patterns of names, and wide parts of patterns by their tags.
 use Rattle.std.proofs.Common.{◌≡◌, ℕ, ◌-◌, ◌≤◌, Bool, true, false, cond, List, [], ◌∷◌, take, drop, get_or, length, refl, ap, sym, ◌∙◌, arith}
-use Rattle.std.proofs.Math.Seq.{take-length}
 use Rattle.calculus.specs.Bytes.{be32}
 use Rattle.calculus.specs.Tree.{bool, int, str, uri, bytes, tuple, send, receive, new, match, bundle, pattern, any, some_process, some_name, simple, same, both, either, not_this, list_pattern, set_pattern, map_pattern, Tree, node, Trees, none, also}
 use Rattle.calculus.specs.Shape.{leaf, many, label_of}
@@ -35,17 +34,6 @@ name-read {v = v} {t = t} h = record { is = h.is; fits = to_name_pat v t h.fits;
 pub name-variable : (v : Scope) (room : ℕ) (a c : List ℕ) → a ≡ 0 ∷ 0 ∷ 0 ∷ 1 ∷ 0x51 ∷ c → Reads name_pat v room (many pattern (leaf some_name ∷ [])) a c
 unfolding be32
 name-variable v room a c e = record { is = e; fits = ((omega arith, omega arith), ((tt, tt), tt)); low = omega arith }
-
-pub five : (xs : List ℕ) → 5 ≤ length xs → get_or xs 0 0 ≡ 0 → get_or xs 1 0 ≡ 0 → get_or xs 2 0 ≡ 0 → get_or xs 3 0 ≡ 1 → get_or xs 4 0 ≡ 0x51
-    → xs ≡ 0 ∷ 0 ∷ 0 ∷ 1 ∷ 0x51 ∷ take (length xs - 5) (drop 5 xs)
-five (a ∷ b ∷ c ∷ d ∷ f ∷ ys) l p q r s u =
-    let k : length (a ∷ b ∷ c ∷ d ∷ f ∷ ys) - 5 ≡ length ys = omega arith in
-    rw (p, q, r, s, u, k, take-length ys) refl
-five [] l p q r s u = absurd (omega arith)
-five (a ∷ []) l p q r s u = absurd (omega arith)
-five (a ∷ b ∷ []) l p q r s u = absurd (omega arith)
-five (a ∷ b ∷ c ∷ []) l p q r s u = absurd (omega arith)
-five (a ∷ b ∷ c ∷ d ∷ []) l p q r s u = absurd (omega arith)
 
 -- the first byte
 abbrev first : List ℕ → ℕ

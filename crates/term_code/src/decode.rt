@@ -1,17 +1,20 @@
 // Reading of codes: one method for each sort of constituent.
-ghost use Rattle.std.specs.Prelude.{◌≡◌, ◌∷◌, ◌++◌, ◌≤◌, ◌+◌, length, map, IfOk, replicate, ℕ};
+ghost use Rattle.std.specs.Prelude.{◌≡◌, ◌∷◌, ◌++◌, ◌≤◌, ◌+◌, ◌⊎◌, length, map, IfOk, IfErr, replicate, true, ℕ};
+ghost use Rattle.std.specs.Result.{IsErrAnd};
 ghost use Rattle.calculus.specs.Code.{code};
 ghost use Rattle.calculus.specs.Form.{IsClosed, term, part, a_bind, a_case, pat, row_of, pair_of};
 ghost use Rattle.calculus.specs.Shape.{many};
 ghost use Rattle.calculus.specs.Size.{height};
-ghost use Rattle.calculus.specs.Tree.{row};
+ghost use Rattle.calculus.specs.Tree.{Tree, row};
 ghost use Rattle.calculus.specs.Variables.{bound};
 ghost use Rattle.rho_term.specs.Normal.{IsOrdered};
 ghost use Rattle.rho_term.specs.Parts.{part_tree, pair_tree, bind_tree, case_tree};
 ghost use Rattle.term_code.specs.Scopes.{scope_of, senses_of};
 ghost use Rattle.term_code.specs.Reading.{Reads, ReadsBag};
+ghost use Rattle.term_code.specs.Refusing.{Refuses, RefusesRow, RefusesBag, is_form_tag};
 ghost use Rattle.term_code.specs.declared.reader.Sense.TheVariants.{Name};
-ghost use Rattle.term_code.specs.declared.fault.CodeFault.TheVariants.{Short};
+ghost use Rattle.term_code.specs.declared.fault.CodeFault.TheVariants.{Short, NoMemory};
+ghost use Rattle.term_code.specs.Readable.{IsReadable, IsCutCode, at_end};
 
 use crate::fault::CodeFault;
 use crate::reader::{Reader, Sense, check_order, is_form};
@@ -21,14 +24,16 @@ use std::alloc::{AllocError, Global};
 
 /// The closed process, of height at most 400, whose code is exactly these bytes.
 ///
-/// `Short` tells of bytes that end before such a code does, with their length. `NotCanonical` and
-/// `TooDeep` tell of the first place where no code goes on so, or where a part that is no leaf stands
-/// under 400 forms.
+/// Each code of fewer than 2^32 bytes is read, and each proper prefix of one is `Short`, with its length.
+/// `NotCanonical` and `TooDeep` tell of other bytes, with the first place where no code goes on so, or
+/// where a part that is no leaf stands under 400 forms. Want of memory alone is free.
 pub fn decode_term(alloc: Global, bytes: &[u8]) -> Result<Term, CodeFault>
     ensures code { IfOk result (λ t. code t ≡ bytes.now) }
     ensures closed { IfOk result (λ t. IsClosed t) }
     ensures height { IfOk result (λ t. height t ≤ 400) }
     ensures short { (at : ℕ) → result ≡ Err (Short at) → at ≡ length bytes.now }
+    ensures all { (t : Tree) → IsReadable t → code t ≡ bytes.now → IfErr result (λ e. e ≡ NoMemory) }
+    ensures cut { IsCutCode bytes.now → IsErrAnd result (λ e. (e ≡ Short (length bytes.now)) ⊎ (e ≡ NoMemory)) }
 {
     let mut reader = Reader {
         alloc,
@@ -38,8 +43,7 @@ pub fn decode_term(alloc: Global, bytes: &[u8]) -> Result<Term, CodeFault>
     let scope = Vec::new(alloc);
     let term = match reader.term(&scope, 400) {
         Ok(term) => term,
-        Err(CodeFault::Short { .. }) => return Err(CodeFault::Short { at: bytes.len() }),
-        Err(fault) => return Err(fault),
+        Err(fault) => return Err(at_end(fault, bytes.len())),
     };
     if !reader.input.is_empty() {
         return Err(CodeFault::NotCanonical { at: reader.place() });
@@ -47,10 +51,21 @@ pub fn decode_term(alloc: Global, bytes: &[u8]) -> Result<Term, CodeFault>
     Ok(term)
 }
 
+// A fault in so many bytes: where they end early, that is told of their length.
+fn at_end(fault: CodeFault, len: usize) -> CodeFault
+    ensures { result ≡ at_end fault len }
+{
+    match fault {
+        CodeFault::Short { .. } => CodeFault::Short { at: len },
+        other => other,
+    }
+}
+
 impl<'a> Reader<'a> {
     #[cycle(read)]
     pub(crate) fn term(&mut self, scope: &Vec<Sense>, room: u32) -> Result<Term, CodeFault>
-        ensures { IfOk result (λ t. Reads term (scope_of scope.now.items) room t self.old.input.now self.new.input.now) }
+        ensures reads { IfOk result (λ t. Reads term (scope_of scope.now.items) room t self.old.input.now self.new.input.now) }
+        ensures refuses { IfErr result (λ e. Refuses true term (scope_of scope.now.items) room e self.old.input.now) }
     {
         let count = self.number(0, u32::MAX)?;
         let mut parts = Vec::new(self.alloc);
@@ -81,6 +96,7 @@ impl<'a> Reader<'a> {
     ) -> Result<Part, CodeFault>
         ensures reads { IfOk result (λ p. Reads part (scope_of scope.now.items) room (part_tree p) (tag ∷ self.old.input.now) self.new.input.now) }
         ensures ordered { IfOk result (λ p. IsOrdered (part_tree p)) }
+        ensures refuses { IfErr result (λ e. Refuses true part (scope_of scope.now.items) room e (tag ∷ self.old.input.now)) }
     {
         match tag {
             0x15 => Ok(Part::Fresh(self.digest()?)),
@@ -101,8 +117,10 @@ impl<'a> Reader<'a> {
 
     #[cycle(read)]
     fn form(&mut self, tag: u8, at: usize, scope: &Vec<Sense>, room: u32) -> Result<Part, CodeFault>
+        requires { is_form_tag tag ≡ true }
         ensures reads { IfOk result (λ p. Reads part (scope_of scope.now.items) (room + 1) (part_tree p) (tag ∷ self.old.input.now) self.new.input.now) }
         ensures ordered { IfOk result (λ p. IsOrdered (part_tree p)) }
+        ensures refuses { IfErr result (λ e. Refuses true part (scope_of scope.now.items) (room + 1) e (tag ∷ self.old.input.now)) }
     {
         match tag {
             0x20 => Ok(Part::List(self.terms(0, scope, room)?)),
@@ -170,6 +188,7 @@ impl<'a> Reader<'a> {
     fn terms(&mut self, least: u32, scope: &Vec<Sense>, room: u32) -> Result<Vec<Term>, CodeFault>
         ensures reads { IfOk result (λ ts. Reads (row_of term) (scope_of scope.now.items) room (many row ts.items) self.old.input.now self.new.input.now) }
         ensures least { IfOk result (λ ts. least ≤ length ts.items) }
+        ensures refuses { IfErr result (λ e. RefusesRow true term (scope_of scope.now.items) room least 0xFFFFFFFF e self.old.input.now) }
     {
         let count = self.number(least, u32::MAX)?;
         let mut terms = Vec::new(self.alloc);
@@ -183,7 +202,8 @@ impl<'a> Reader<'a> {
     // Processes whose codes ascend.
     #[cycle(read)]
     fn members(&mut self, scope: &Vec<Sense>, room: u32) -> Result<Vec<Term>, CodeFault>
-        ensures { IfOk result (λ ts. ReadsBag term (scope_of scope.now.items) room ts.items self.old.input.now self.new.input.now) }
+        ensures reads { IfOk result (λ ts. ReadsBag term (scope_of scope.now.items) room ts.items self.old.input.now self.new.input.now) }
+        ensures refuses { IfErr result (λ e. RefusesBag term (scope_of scope.now.items) room e self.old.input.now) }
     {
         let count = self.number(0, u32::MAX)?;
         let mut terms = Vec::new(self.alloc);
@@ -202,7 +222,8 @@ impl<'a> Reader<'a> {
     // Pairs whose codes ascend.
     #[cycle(read)]
     fn pairs(&mut self, scope: &Vec<Sense>, room: u32) -> Result<Vec<(Term, Term)>, CodeFault>
-        ensures { IfOk result (λ ps. ReadsBag (pair_of term) (scope_of scope.now.items) room (map pair_tree ps.items) self.old.input.now self.new.input.now) }
+        ensures reads { IfOk result (λ ps. ReadsBag (pair_of term) (scope_of scope.now.items) room (map pair_tree ps.items) self.old.input.now self.new.input.now) }
+        ensures refuses { IfErr result (λ e. RefusesBag (pair_of term) (scope_of scope.now.items) room e self.old.input.now) }
     {
         let count = self.number(0, u32::MAX)?;
         let mut pairs = Vec::new(self.alloc);
@@ -231,6 +252,7 @@ impl<'a> Reader<'a> {
         ensures bound { IfOk result (λ bs. senses_of found.new.items ≡ senses_of found.old.items ++ bound (many row (map bind_tree bs.items))) }
         ensures some { IfOk result (λ bs. 1 ≤ length bs.items) }
         ensures few { IfOk result (λ bs. length bs.items ≤ 16) }
+        ensures refuses { IfErr result (λ e. RefusesRow true a_bind (scope_of scope.now.items) room 1 16 e self.old.input.now) }
     {
         let count = self.number(1, 16)?;
         let mut binds = Vec::new(self.alloc);
@@ -252,6 +274,7 @@ impl<'a> Reader<'a> {
     fn cases(&mut self, scope: &Vec<Sense>, room: u32) -> Result<Vec<TermCase>, CodeFault>
         ensures reads { IfOk result (λ cs. Reads (row_of a_case) (scope_of scope.now.items) room (many row (map case_tree cs.items)) self.old.input.now self.new.input.now) }
         ensures some { IfOk result (λ cs. 1 ≤ length cs.items) }
+        ensures refuses { IfErr result (λ e. RefusesRow true a_case (scope_of scope.now.items) room 1 0xFFFFFFFF e self.old.input.now) }
     {
         let count = self.number(1, u32::MAX)?;
         let mut cases = Vec::new(self.alloc);

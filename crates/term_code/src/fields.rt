@@ -1,5 +1,5 @@
 // Fields of codes of one kind each.
-ghost use Rattle.std.specs.Prelude.{◌≡◌, ◌++◌, ◌∷◌, ◌+ℤ◌, pos, nat_abs, ◌^◌, IfOk, IsTrue, ◌≤◌, length, string_bytes, map};
+ghost use Rattle.std.specs.Prelude.{◌≡◌, ◌++◌, ◌∷◌, ◌+ℤ◌, pos, nat_abs, ◌^◌, ℕ, List, IfOk, IfErr, IsTrue, ◌≤◌, ◌<◌, length, string_bytes, map};
 ghost use Rattle.calculus.specs.Bytes.{be32, be64};
 ghost use Rattle.calculus.specs.Code.{byte_of, code, text};
 ghost use Rattle.calculus.specs.Meaning.{ground_label};
@@ -11,6 +11,7 @@ ghost use Rattle.calculus.specs.Kinds.{rest_number, kind_number, rights_number, 
 ghost use Rattle.calculus.specs.Form.{HasVariable, IsDigest, IsBytes, IsPlain, Sort, Scope};
 ghost use Rattle.term_code.specs.Scopes.{scope_of, sense_of, senses_of};
 ghost use Rattle.term_code.specs.Texts.{HasForm};
+ghost use Rattle.term_code.specs.Refusing.{Denies, RefusesByte, RefusesGround, RefusesOrigins, RefusesRest};
 
 use crate::fault::CodeFault;
 use crate::reader::{Reader, Sense, number_bounds};
@@ -20,14 +21,16 @@ use std::str;
 
 impl<'a> Reader<'a> {
     pub(crate) fn boolean(&mut self) -> Result<bool, CodeFault>
-        ensures { IfOk result (λ x. self.old.input.now ≡ byte_of x ∷ self.new.input.now) }
+        ensures is { IfOk result (λ x. self.old.input.now ≡ byte_of x ∷ self.new.input.now) }
+        ensures refuses { IfErr result (λ e. RefusesByte 1 e self.old.input.now) }
     {
         let byte = self.flag(1)?;
         Ok(byte == 1)
     }
 
     pub(crate) fn kind(&mut self) -> Result<Kind, CodeFault>
-        ensures { IfOk result (λ x. self.old.input.now ≡ kind_number x ∷ self.new.input.now) }
+        ensures is { IfOk result (λ x. self.old.input.now ≡ kind_number x ∷ self.new.input.now) }
+        ensures refuses { IfErr result (λ e. RefusesByte 2 e self.old.input.now) }
     {
         match self.flag(2)? {
             0 => Ok(Kind::Linear),
@@ -37,7 +40,8 @@ impl<'a> Reader<'a> {
     }
 
     pub(crate) fn rights(&mut self) -> Result<Rights, CodeFault>
-        ensures { IfOk result (λ x. self.old.input.now ≡ rights_number x ∷ self.new.input.now) }
+        ensures is { IfOk result (λ x. self.old.input.now ≡ rights_number x ∷ self.new.input.now) }
+        ensures refuses { IfErr result (λ e. RefusesByte 3 e self.old.input.now) }
     {
         match self.flag(3)? {
             0 => Ok(Rights::Neither),
@@ -48,7 +52,8 @@ impl<'a> Reader<'a> {
     }
 
     pub(crate) fn unary_op(&mut self) -> Result<UnaryOp, CodeFault>
-        ensures { IfOk result (λ x. self.old.input.now ≡ unary_op_number x ∷ self.new.input.now) }
+        ensures is { IfOk result (λ x. self.old.input.now ≡ unary_op_number x ∷ self.new.input.now) }
+        ensures refuses { IfErr result (λ e. RefusesByte 1 e self.old.input.now) }
     {
         match self.flag(1)? {
             0 => Ok(UnaryOp::Not),
@@ -57,7 +62,8 @@ impl<'a> Reader<'a> {
     }
 
     pub(crate) fn binary_op(&mut self) -> Result<BinaryOp, CodeFault>
-        ensures { IfOk result (λ x. self.old.input.now ≡ binary_op_number x ∷ self.new.input.now) }
+        ensures is { IfOk result (λ x. self.old.input.now ≡ binary_op_number x ∷ self.new.input.now) }
+        ensures refuses { IfErr result (λ e. RefusesByte 14 e self.old.input.now) }
     {
         match self.flag(14)? {
             0 => Ok(BinaryOp::Or),
@@ -79,7 +85,8 @@ impl<'a> Reader<'a> {
     }
 
     pub(crate) fn simple(&mut self) -> Result<Simple, CodeFault>
-        ensures { IfOk result (λ x. self.old.input.now ≡ simple_number x ∷ self.new.input.now) }
+        ensures is { IfOk result (λ x. self.old.input.now ≡ simple_number x ∷ self.new.input.now) }
+        ensures refuses { IfErr result (λ e. RefusesByte 4 e self.old.input.now) }
     {
         match self.flag(4)? {
             0 => Ok(Simple::Bool),
@@ -93,6 +100,7 @@ impl<'a> Reader<'a> {
     // A remainder, which is a variable only where one may be bound.
     pub(crate) fn remainder(&mut self, binds: bool) -> Result<TermRest, CodeFault>
         ensures is { IfOk result (λ x. self.old.input.now ≡ rest_number x ∷ self.new.input.now) }
+        ensures refuses { IfErr result (λ e. RefusesRest binds e self.old.input.now) }
     {
         let at = self.place();
         match self.flag(2)? {
@@ -116,6 +124,7 @@ impl<'a> Reader<'a> {
     ) -> Result<TermRest, CodeFault>
         ensures is { IfOk result (λ x. self.old.input.now ≡ rest_number x ∷ self.new.input.now) }
         ensures bound { IfOk result (λ x. senses_of found.new.items ≡ senses_of found.old.items ++ bound (leaf (rest x))) }
+        ensures refuses { IfErr result (λ e. RefusesRest binds e self.old.input.now) }
     {
         let rest = self.remainder(binds)?;
         match rest {
@@ -129,7 +138,8 @@ impl<'a> Reader<'a> {
     }
 
     fn origin(&mut self) -> Result<Origin, CodeFault>
-        ensures { IfOk result (λ x. self.old.input.now ≡ origin_number x ∷ self.new.input.now) }
+        ensures is { IfOk result (λ x. self.old.input.now ≡ origin_number x ∷ self.new.input.now) }
+        ensures refuses { IfErr result (λ e. RefusesByte 2 e self.old.input.now) }
     {
         match self.flag(2)? {
             0 => Ok(Origin::Plain),
@@ -144,6 +154,7 @@ impl<'a> Reader<'a> {
     pub(crate) fn origins(&mut self) -> Result<Vec<Origin>, CodeFault>
         ensures is { IfOk result (λ v. self.old.input.now ≡ be32 (length v.items) ++ map origin_number v.items ++ self.new.input.now) }
         ensures some { IfOk result (λ v. 1 ≤ length v.items) }
+        ensures refuses { IfErr result (λ e. RefusesOrigins e self.old.input.now) }
     {
         let count = self.number(1, u32::MAX)?;
         let mut origins = Vec::new(self.alloc);
@@ -157,6 +168,7 @@ impl<'a> Reader<'a> {
     pub(crate) fn ground(&mut self, tag: u8, at: usize) -> Result<Ground, CodeFault>
         ensures is { IfOk result (λ g. tag ∷ self.old.input.now ≡ code (ground_tree g) ++ self.new.input.now) }
         ensures plain { IfOk result (λ g. (s : Sort) (v : Scope) → IsPlain s v (ground_label g) none) }
+        ensures refuses { IfErr result (λ e. RefusesGround e (tag ∷ self.old.input.now)) }
     {
         match tag {
             0x10 => Ok(Ground::Bool(self.boolean()?)),
@@ -171,13 +183,15 @@ impl<'a> Reader<'a> {
     pub(crate) fn digest(&mut self) -> Result<Digest, CodeFault>
         ensures is { IfOk result (λ d. self.old.input.now ≡ d.0 ++ self.new.input.now) }
         ensures digest { IfOk result (λ d. IsDigest d.0) }
+        ensures refuses { IfErr result (λ e. (x : List ℕ) → length x ≡ 32 → Denies e self.old.input.now x) }
     {
         let taken = self.take(32)?;
         Ok(Digest(array_of(taken)))
     }
 
     pub(crate) fn int(&mut self) -> Result<i64, CodeFault>
-        ensures { IfOk result (λ z. self.old.input.now ≡ be64 (nat_abs (z +ℤ pos (2 ^ 63))) ++ self.new.input.now) }
+        ensures is { IfOk result (λ z. self.old.input.now ≡ be64 (nat_abs (z +ℤ pos (2 ^ 63))) ++ self.new.input.now) }
+        ensures refuses { IfErr result (λ e. (n : ℕ) → Denies e self.old.input.now (be64 n)) }
     {
         match self.input {
             [a, b, c, d, e, f, g, h, others @ ..] => {
@@ -192,6 +206,7 @@ impl<'a> Reader<'a> {
     pub(crate) fn bytes(&mut self) -> Result<Vec<u8>, CodeFault>
         ensures is { IfOk result (λ v. self.old.input.now ≡ text v.items ++ self.new.input.now) }
         ensures bytes { IfOk result (λ v. IsBytes v.items) }
+        ensures refuses { IfErr result (λ e. (x : List ℕ) → length x < 2 ^ 32 → Denies e self.old.input.now (text x)) }
     {
         let len = self.number(0, u32::MAX)? as usize;
         let taken = self.take(len)?;
@@ -203,6 +218,7 @@ impl<'a> Reader<'a> {
         ensures is { IfOk result (λ s. self.old.input.now ≡ text (string_bytes s) ++ self.new.input.now) }
         ensures form { IfOk result (λ s. HasForm kind (string_bytes s)) }
         ensures bytes { IfOk result (λ s. IsBytes (string_bytes s)) }
+        ensures refuses { IfErr result (λ e. (x : List ℕ) → HasForm kind x → length x < 2 ^ 32 → Denies e self.old.input.now (text x)) }
     {
         let len = self.number(0, u32::MAX)? as usize;
         let at = self.place();
@@ -229,22 +245,31 @@ impl<'a> Reader<'a> {
     ) -> Result<u32, CodeFault>
         ensures is { IfOk result (λ i. self.old.input.now ≡ be32 i ++ self.new.input.now) }
         ensures has { IfOk result (λ i. HasVariable (scope_of scope.now.items) i (sense_of sense)) }
+        ensures refuses { IfErr result (λ e. (i : ℕ) → i < 2 ^ 32 → HasVariable (scope_of scope.now.items) i (sense_of sense) → Denies e self.old.input.now (be32 i)) }
     {
         let place = self.place();
-        if self.input.len() >= 4 {
-            let index = self.number(0, u32::MAX)?;
-            if has_variable(scope, index, sense) {
-                return Ok(index);
+        if self.input.len() < 4 {
+            if begins_index(scope, sense, self.input) {
+                return Err(CodeFault::Short { at: self.whole });
             }
-        } else if begins_index(scope, sense, self.input) {
-            return Err(CodeFault::Short { at: self.whole });
+            return Err(CodeFault::NotCanonical {
+                at: blamed(scope, sense, at, place),
+            });
         }
-        if scope.contains(&sense) {
-            Err(CodeFault::NotCanonical { at: place })
-        } else {
-            Err(CodeFault::NotCanonical { at })
+        let index = self.number(0, u32::MAX)?;
+        if has_variable(scope, index as usize, sense) {
+            return Ok(index);
         }
+        Err(CodeFault::NotCanonical {
+            at: blamed(scope, sense, at, place),
+        })
     }
+}
+
+// What is blamed for a variable that is not in scope: its index, or its tag where the scope has none of
+// its sense.
+fn blamed(scope: &Vec<Sense>, sense: Sense, tag: usize, index: usize) -> usize {
+    if scope.contains(&sense) { index } else { tag }
 }
 
 fn array_of(bytes: &[u8]) -> [u8; 32]
@@ -264,20 +289,20 @@ fn from_least(n: u64) -> i64
     (n as i128 - 0x8000_0000_0000_0000) as i64
 }
 
-fn has_variable(scope: &Vec<Sense>, index: u32, sense: Sense) -> bool
-    ensures { IsTrue result → HasVariable (scope_of scope.now.items) index (sense_of sense) }
+fn has_variable(scope: &Vec<Sense>, index: usize, sense: Sense) -> bool
+    ensures only { IsTrue result → HasVariable (scope_of scope.now.items) index (sense_of sense) }
+    ensures all { HasVariable (scope_of scope.now.items) index (sense_of sense) → IsTrue result }
 {
-    let index = index as usize;
     index < scope.len() && scope[scope.len() - 1 - index] == sense
 }
 
 // Whether these bytes begin the index of a variable of this sense.
-fn begins_index(scope: &Vec<Sense>, sense: Sense, bytes: &[u8]) -> bool {
+fn begins_index(scope: &Vec<Sense>, sense: Sense, bytes: &[u8]) -> bool
+    ensures { (i : ℕ) (x y : List ℕ) → i < 2 ^ 32 → HasVariable (scope_of scope.now.items) i (sense_of sense) → bytes.now ++ x ≡ be32 i ++ y → IsTrue result }
+{
     let (low, high) = number_bounds(bytes);
-    for index in low..=high {
-        if scope.len() <= index as usize {
-            return false;
-        }
+    let end = scope.len().min(high as usize + 1);
+    for index in low as usize..end {
         if has_variable(scope, index, sense) {
             return true;
         }

@@ -1,5 +1,5 @@
 // Reading of patterns in codes.
-ghost use Rattle.std.specs.Prelude.{◌≡◌, ◌∷◌, ◌++◌, ◌≤◌, ◌+◌, ◌<◌, [], cond, length, map, IfOk};
+ghost use Rattle.std.specs.Prelude.{◌≡◌, ◌∷◌, ◌++◌, ◌≤◌, ◌+◌, ◌<◌, [], cond, length, map, true, false, List, ℕ, IfOk, IfErr, IfSome, IfNone};
 ghost use Rattle.calculus.specs.Form.{pat, name_pat, pat_part, row_of, pair_of};
 ghost use Rattle.calculus.specs.Shape.{many};
 ghost use Rattle.calculus.specs.Tree.{row};
@@ -8,6 +8,7 @@ ghost use Rattle.rho_term.specs.Normal.{IsOrdered};
 ghost use Rattle.rho_term.specs.Parts.{pat_part_tree, pair_tree};
 ghost use Rattle.term_code.specs.Scopes.{scope_of, senses_of};
 ghost use Rattle.term_code.specs.Reading.{Reads};
+ghost use Rattle.term_code.specs.Refusing.{Refuses, RefusesRow, is_pat_form_tag};
 ghost use Rattle.term_code.specs.Wide.{is_wide_tag};
 
 use crate::fault::CodeFault;
@@ -15,7 +16,9 @@ use crate::reader::{Reader, Sense};
 use rho_term::{PatPart, TermPat};
 
 // Whether the byte is the tag of a part of a pattern that is no leaf.
-fn is_pat_form(tag: u8) -> bool {
+fn is_pat_form(tag: u8) -> bool
+    ensures { result ≡ is_pat_form_tag tag }
+{
     matches!(tag, 0x20..=0x23 | 0x30..=0x34 | 0x53..=0x56)
 }
 
@@ -26,6 +29,7 @@ fn more_wide(wide: u32, i: u32, tag: u8, at: usize) -> Result<u32, CodeFault>
     ensures is { IfOk result (λ n. n ≡ wide + cond (is_wide_tag tag) 1 0) }
     ensures one { IfOk result (λ n. n ≤ 1) }
     ensures thin { IfOk result (λ n. i + 1 ≤ 8 + n) }
+    ensures many { IfErr result (λ e. wide + cond (is_wide_tag tag) 1 0 ≤ 1 → i + 1 ≤ 8 + (wide + cond (is_wide_tag tag) 1 0) → ⊥) }
 {
     if 0x50 <= tag && tag <= 0x56 {
         if 0 < wide {
@@ -37,6 +41,27 @@ fn more_wide(wide: u32, i: u32, tag: u8, at: usize) -> Result<u32, CodeFault>
         return Err(CodeFault::NotCanonical { at });
     }
     Ok(wide)
+}
+
+// What follows the code of a name variable alone, where one may be bound and these bytes begin with it.
+fn after_name_variable(binds: bool, bytes: &[u8]) -> Option<&[u8]>
+    ensures binds { IfSome result (λ others. binds ≡ true) }
+    ensures some { IfSome result (λ others. bytes.now ≡ 0 ∷ 0 ∷ 0 ∷ 1 ∷ 0x51 ∷ others.now) }
+    ensures none { IfNone result (binds ≡ true → (y : List ℕ) → bytes.now ≡ 0 ∷ 0 ∷ 0 ∷ 1 ∷ 0x51 ∷ y → ⊥) }
+{
+    if !binds {
+        return None;
+    }
+    match bytes {
+        [a, b, c, d, tag, others @ ..] => {
+            if u32::from_be_bytes([*a, *b, *c, *d]) == 1 && *tag == 0x51 {
+                Some(others)
+            } else {
+                None
+            }
+        }
+        _ => None,
+    }
 }
 
 impl<'a> Reader<'a> {
@@ -52,6 +77,7 @@ impl<'a> Reader<'a> {
     ) -> Result<TermPat, CodeFault>
         ensures reads { IfOk result (λ t. Reads pat (scope_of scope.now.items) room t self.old.input.now self.new.input.now) }
         ensures bound { IfOk result (λ t. senses_of found.new.items ≡ senses_of found.old.items ++ bound t) }
+        ensures refuses { IfErr result (λ e. Refuses binds pat (scope_of scope.now.items) room e self.old.input.now) }
     {
         let count = self.number(0, 9)?;
         let mut parts = Vec::new(self.alloc);
@@ -80,15 +106,18 @@ impl<'a> Reader<'a> {
     ) -> Result<TermPat, CodeFault>
         ensures reads { IfOk result (λ t. Reads name_pat (scope_of scope.now.items) room t self.old.input.now self.new.input.now) }
         ensures bound { IfOk result (λ t. senses_of found.new.items ≡ senses_of found.old.items ++ bound t) }
+        ensures refuses { IfErr result (λ e. Refuses binds name_pat (scope_of scope.now.items) room e self.old.input.now) }
     {
-        if binds && let [0, 0, 0, 1, 0x51, others @ ..] = self.input {
-            self.input = others;
-            found.push(Sense::Name)?;
-            let mut parts = Vec::new(self.alloc);
-            parts.push(PatPart::NameVar)?;
-            return Ok(TermPat::new(parts));
+        match after_name_variable(binds, self.input) {
+            Some(others) => {
+                self.input = others;
+                found.push(Sense::Name)?;
+                let mut parts = Vec::new(self.alloc);
+                parts.push(PatPart::NameVar)?;
+                Ok(TermPat::new(parts))
+            }
+            None => self.pat(binds, scope, found, room),
         }
-        self.pat(binds, scope, found, room)
     }
 
     // The part of a pattern that goes on so after its tag, which stands at this place.
@@ -105,6 +134,7 @@ impl<'a> Reader<'a> {
         ensures reads { IfOk result (λ p. Reads pat_part (scope_of scope.now.items) room (pat_part_tree p) (tag ∷ self.old.input.now) self.new.input.now) }
         ensures ordered { IfOk result (λ p. IsOrdered (pat_part_tree p)) }
         ensures bound { IfOk result (λ p. senses_of found.new.items ≡ senses_of found.old.items ++ bound (pat_part_tree p)) }
+        ensures refuses { IfErr result (λ e. Refuses binds pat_part (scope_of scope.now.items) room e (tag ∷ self.old.input.now)) }
     {
         match tag {
             0x50 => {
@@ -145,9 +175,12 @@ impl<'a> Reader<'a> {
         found: &mut Vec<Sense>,
         room: u32,
     ) -> Result<PatPart, CodeFault>
+        requires form { is_pat_form_tag tag ≡ true }
+        requires not_closed { (0x31 ≤ tag) → (tag ≤ 0x33) → ⊥ }
         ensures reads { IfOk result (λ p. Reads pat_part (scope_of scope.now.items) (room + 1) (pat_part_tree p) (tag ∷ self.old.input.now) self.new.input.now) }
         ensures ordered { IfOk result (λ p. IsOrdered (pat_part_tree p)) }
         ensures bound { IfOk result (λ p. senses_of found.new.items ≡ senses_of found.old.items ++ bound (pat_part_tree p)) }
+        ensures refuses { IfErr result (λ e. Refuses binds pat_part (scope_of scope.now.items) (room + 1) e (tag ∷ self.old.input.now)) }
     {
         match tag {
             0x20 => {
@@ -202,6 +235,7 @@ impl<'a> Reader<'a> {
     fn free_pat(&mut self, scope: &Vec<Sense>, room: u32) -> Result<TermPat, CodeFault>
         ensures reads { IfOk result (λ t. Reads pat (scope_of scope.now.items) room t self.old.input.now self.new.input.now) }
         ensures bound { IfOk result (λ t. bound t ≡ []) }
+        ensures refuses { IfErr result (λ e. Refuses false pat (scope_of scope.now.items) room e self.old.input.now) }
     {
         let at = self.place();
         let mut found = Vec::new(self.alloc);
@@ -227,6 +261,7 @@ impl<'a> Reader<'a> {
         ensures bound { IfOk result (λ ts. senses_of found.new.items ≡ senses_of found.old.items ++ bound (many row ts.items)) }
         ensures least { IfOk result (λ ts. least ≤ length ts.items) }
         ensures most { IfOk result (λ ts. length ts.items ≤ most) }
+        ensures refuses { IfErr result (λ e. RefusesRow binds pat (scope_of scope.now.items) room least most e self.old.input.now) }
     {
         let count = self.number(least, most)?;
         let mut pats = Vec::new(self.alloc);
@@ -246,6 +281,7 @@ impl<'a> Reader<'a> {
     ) -> Result<Vec<TermPat>, CodeFault>
         ensures reads { IfOk result (λ ts. Reads (row_of name_pat) (scope_of scope.now.items) room (many row ts.items) self.old.input.now self.new.input.now) }
         ensures bound { IfOk result (λ ts. senses_of found.new.items ≡ senses_of found.old.items ++ bound (many row ts.items)) }
+        ensures refuses { IfErr result (λ e. RefusesRow true name_pat (scope_of scope.now.items) room 0 0xFFFFFFFF e self.old.input.now) }
     {
         let count = self.number(0, u32::MAX)?;
         let mut pats = Vec::new(self.alloc);
@@ -268,6 +304,7 @@ impl<'a> Reader<'a> {
         ensures reads { IfOk result (λ ps. Reads (row_of (pair_of pat)) (scope_of scope.now.items) room (many row (map pair_tree ps.items)) self.old.input.now self.new.input.now) }
         ensures bound { IfOk result (λ ps. senses_of found.new.items ≡ senses_of found.old.items ++ bound (many row (map pair_tree ps.items))) }
         ensures few { IfOk result (λ ps. length ps.items ≤ 8) }
+        ensures refuses { IfErr result (λ e. RefusesRow binds (pair_of pat) (scope_of scope.now.items) room 0 8 e self.old.input.now) }
     {
         let count = self.number(0, 8)?;
         let mut pairs = Vec::new(self.alloc);

@@ -1,8 +1,9 @@
 // What stands in codes beside processes: bytes, flags, numbers, texts and variables.
-ghost use Rattle.std.specs.Prelude.{◌≡◌, ◌++◌, ◌∷◌, ◌≤◌, ℕ, List, length, true, IfOk, take};
+ghost use Rattle.std.specs.Prelude.{◌≡◌, ◌++◌, ◌∷◌, ◌≤◌, ◌<◌, ◌^◌, ℕ, List, length, true, IfOk, IfErr, take};
 ghost use Rattle.calculus.specs.Bytes.{be32};
 ghost use Rattle.calculus.specs.Order.{up_to};
 ghost use Rattle.calculus.specs.Form.{IsBytes};
+ghost use Rattle.term_code.specs.Refusing.{Denies, RefusesByte, RefusesNumber, is_form_tag};
 
 use crate::fault::CodeFault;
 use std::alloc::Global;
@@ -30,7 +31,8 @@ impl<'a> Reader<'a> {
     }
 
     pub(crate) fn byte(&mut self) -> Result<u8, CodeFault>
-        ensures { IfOk result (λ b. self.old.input.now ≡ b ∷ self.new.input.now) }
+        ensures is { IfOk result (λ b. self.old.input.now ≡ b ∷ self.new.input.now) }
+        ensures refuses { IfErr result (λ e. (c : List ℕ) → 0 < length c → Denies e self.old.input.now c) }
     {
         match self.input {
             [first, others @ ..] => {
@@ -46,6 +48,7 @@ impl<'a> Reader<'a> {
         ensures is { IfOk result (λ s. self.old.input.now ≡ s.now ++ self.new.input.now) }
         ensures long { IfOk result (λ s. length s.now ≡ n) }
         ensures bytes { IfOk result (λ s. IsBytes s.now) }
+        ensures refuses { IfErr result (λ e. (c : List ℕ) → length c ≡ n → Denies e self.old.input.now c) }
     {
         if self.input.len() < n {
             return Err(CodeFault::Short { at: self.whole });
@@ -64,6 +67,7 @@ impl<'a> Reader<'a> {
     ) -> Result<&'a [u8], CodeFault>
         ensures code { IfOk result (λ c. (d : List ℕ) → start.now ≡ d ++ self.now.input.now → c.now ≡ d) }
         ensures up { IfOk result (λ c. up_to last.now c.now ≡ true) }
+        ensures down { IfErr result (λ e. (d : List ℕ) → start.now ≡ d ++ self.now.input.now → up_to last.now d ≡ true → ⊥) }
     {
         let code = &start[..start.len().saturating_sub(self.input.len())];
         if last.cmp(code) == Ordering::Greater {
@@ -76,6 +80,7 @@ impl<'a> Reader<'a> {
     pub(crate) fn flag(&mut self, most: u8) -> Result<u8, CodeFault>
         ensures is { IfOk result (λ b. self.old.input.now ≡ b ∷ self.new.input.now) }
         ensures few { IfOk result (λ b. b ≤ most) }
+        ensures refuses { IfErr result (λ e. RefusesByte most e self.old.input.now) }
     {
         let at = self.place();
         let byte = self.byte()?;
@@ -90,6 +95,7 @@ impl<'a> Reader<'a> {
         ensures is { IfOk result (λ n. self.old.input.now ≡ be32 n ++ self.new.input.now) }
         ensures least { IfOk result (λ n. least ≤ n) }
         ensures most { IfOk result (λ n. n ≤ most) }
+        ensures refuses { IfErr result (λ e. RefusesNumber least most e self.old.input.now) }
     {
         let at = self.place();
         let (low, high) = number_bounds(self.input);
@@ -111,20 +117,20 @@ impl<'a> Reader<'a> {
 }
 
 // Bytes that fall below the code before them are no code there, whatever follows the byte that does.
-pub(crate) fn check_order(last: &[u8], bytes: &[u8], at: usize) -> Result<(), CodeFault> {
-    for (old, new) in last.iter().zip(bytes) {
-        if *new < *old {
-            return Err(CodeFault::NotCanonical { at });
-        }
-        if *old < *new {
-            return Ok(());
-        }
+pub(crate) fn check_order(last: &[u8], bytes: &[u8], at: usize) -> Result<(), CodeFault>
+    ensures { IfErr result (λ e. (c : List ℕ) → up_to last.now c ≡ true → Denies e bytes.now c) }
+{
+    let both = last.len().min(bytes.len());
+    if front(last, both).cmp(front(bytes, both)) == Ordering::Greater {
+        return Err(CodeFault::NotCanonical { at });
     }
     Ok(())
 }
 
 // Whether the byte is the tag of a part of a process that is no leaf.
-pub(crate) fn is_form(tag: u8) -> bool {
+pub(crate) fn is_form(tag: u8) -> bool
+    ensures { result ≡ is_form_tag tag }
+{
     matches!(tag, 0x20..=0x23 | 0x30..=0x34 | 0x40..=0x42)
 }
 
@@ -137,7 +143,9 @@ fn front(bytes: &[u8], n: usize) -> &[u8]
 }
 
 // The least and the greatest number whose four bytes begin with these, or are the first four.
-pub(crate) fn number_bounds(bytes: &[u8]) -> (u32, u32) {
+pub(crate) fn number_bounds(bytes: &[u8]) -> (u32, u32)
+    ensures { (n : ℕ) (x y : List ℕ) → n < 2 ^ 32 → bytes.now ++ x ≡ be32 n ++ y → (result.0 ≤ n) × (n ≤ result.1) }
+{
     match bytes {
         [] => (0, u32::MAX),
         [a] => (

@@ -1,9 +1,9 @@
 // Texts in codes: strings, Uris and names of methods.
-ghost use Rattle.std.specs.Prelude.{◌≡◌, IsTrue, IsUtf8};
+ghost use Rattle.std.specs.Prelude.{◌≡◌, ◌<◌, ◌++◌, ◌&&◌, ℕ, List, length, nat_lt, leb, IsTrue, IsUtf8};
 ghost use Rattle.std.specs.List.{list_all, list_any};
 ghost use Rattle.std.specs.Str.{bytes_eq};
 ghost use Rattle.calculus.specs.Form.{is_letter, goes_on_word, is_word, keys, all_go_on};
-ghost use Rattle.term_code.specs.Texts.{HasForm};
+ghost use Rattle.term_code.specs.Texts.{HasForm, BeginsText, EndsClear, character_len, begins_word};
 
 use std::str;
 
@@ -42,7 +42,8 @@ const KEYS: [&[u8]; 21] = [
 
 /// Whether bytes are such a text.
 pub(crate) fn is_text(kind: TextKind, bytes: &[u8]) -> bool
-    ensures { IsTrue result → HasForm kind bytes.now }
+    ensures only { IsTrue result → HasForm kind bytes.now }
+    ensures all { HasForm kind bytes.now → IsTrue result }
 {
     match kind {
         TextKind::Str => is_utf8(bytes),
@@ -52,40 +53,65 @@ pub(crate) fn is_text(kind: TextKind, bytes: &[u8]) -> bool
 }
 
 /// Whether bytes begin such a text of `len` bytes, which is longer than they are.
-pub(crate) fn begins_text(kind: TextKind, bytes: &[u8], len: usize) -> bool {
+pub(crate) fn begins_text(kind: TextKind, bytes: &[u8], len: usize) -> bool
+    requires { length bytes.now < len }
+    ensures only { IsTrue result → BeginsText kind bytes.now len }
+    ensures all { BeginsText kind bytes.now len → IsTrue result }
+{
     match kind {
         TextKind::Str => begins_utf8(bytes, len),
         TextKind::Uri => begins_utf8(bytes, len) && !bytes.contains(&b'`'),
-        TextKind::Word => begins_word(bytes, len),
+        TextKind::Word => begins_word(bytes),
     }
 }
 
 fn is_utf8(bytes: &[u8]) -> bool
-    ensures { IsTrue result → IsUtf8 bytes.now }
+    ensures only { IsTrue result → IsUtf8 bytes.now }
+    ensures all { IsUtf8 bytes.now → IsTrue result }
 {
     str::from_utf8(bytes).is_ok()
 }
 
 // A character that the bytes end in has to end within the length.
-fn begins_utf8(bytes: &[u8], len: usize) -> bool {
+fn begins_utf8(bytes: &[u8], len: usize) -> bool
+    requires { length bytes.now < len }
+    ensures only { IsTrue result → EndsClear bytes.now len }
+    ensures all { (x : List ℕ) → IsUtf8 (bytes.now ++ x) → length (bytes.now ++ x) ≡ len → IsTrue result }
+{
     match str::from_utf8(bytes) {
         Ok(_) => true,
         Err(fault) => {
             let valid = fault.valid_up_to();
-            let cut = bytes.get(valid..).unwrap_or(&[]);
-            fault.error_len().is_none() && character_len(cut) <= len.saturating_sub(valid)
+            fault.error_len().is_none() && is_cut(&bytes[valid..], len - valid)
         }
     }
 }
 
+// Whether a character begins so that has more bytes, of at most this number.
+fn is_cut(bytes: &[u8], room: usize) -> bool
+    ensures { result ≡ (nat_lt (length bytes.now) (character_len bytes.now) && leb (character_len bytes.now) room) }
+{
+    let whole = character_len(bytes);
+    bytes.len() < whole && whole <= room
+}
+
 // How many bytes the character has that these bytes begin.
-fn character_len(bytes: &[u8]) -> usize {
+fn character_len(bytes: &[u8]) -> usize
+    ensures { result ≡ character_len bytes.now }
+{
     match bytes {
-        [0..=0x7F, ..] => 1,
-        [0x80..=0xDF, ..] => 2,
-        [0xE0..=0xEF, ..] => 3,
-        [_, ..] => 4,
         [] => 0,
+        [first, ..] => {
+            if *first < 0x80 {
+                1
+            } else if *first < 0xE0 {
+                2
+            } else if *first < 0xF0 {
+                3
+            } else {
+                4
+            }
+        }
     }
 }
 
@@ -129,11 +155,12 @@ fn is_word(bytes: &[u8]) -> bool
     }
 }
 
-fn begins_word(bytes: &[u8], len: usize) -> bool {
+// Whether more bytes make these a word.
+fn begins_word(bytes: &[u8]) -> bool
+    ensures { result ≡ begins_word bytes.now }
+{
     match bytes {
         [] => true,
-        [first, others @ ..] => {
-            (is_letter(*first) || (*first == b'_' && 1 < len)) && all_go_on(others)
-        }
+        [first, others @ ..] => (is_letter(*first) || *first == b'_') && all_go_on(others),
     }
 }

@@ -1,12 +1,12 @@
-use Rattle.std.proofs.Common.{◌≡◌, ℕ, zero, suc, ◌+◌, ◌*◌, ◌<◌, ◌≤◌, Bool, true, false, List, [], ◌∷◌, ◌++◌, drop, get_or, length, map, refl, sym, ap, ◌∙◌, subst, arith, rules}
-use Rattle.std.specs.Prelude.{Option, Some, None, IfOk, IsSomeAnd, MatchOption, is_some, not}
+use Rattle.std.proofs.Common.{◌≡◌, ℕ, zero, suc, ◌+◌, ◌<◌, ◌≤◌, Bool, true, false, List, [], ◌∷◌, drop, get_or, length, map, refl, sym, ap, ◌∙◌, subst, arith, rules}
+use Rattle.std.specs.Prelude.{Option, Some, None, IfOk, IsSomeAnd, MatchOption, not}
 use Rattle.std.proofs.Math.Bool.{beq}
 use Rattle.std.specs.declared.alloc.Global.{Global}
 use Rattle.std.specs.declared.vec.Vec.{Vec}
 use Rattle.std.proofs.lemmas.List.{length-map, get_or-map}
 use Rattle.calculus.specs.declared.plain.TermRest.TheVariants as rests
-use Rattle.calculus.specs.Tree.{Tree, trees, weight, weights, par, row, list, tuple, set, dict, send, bundle, pair, rest, pattern, list_pattern, set_pattern, map_pattern}
-use Rattle.calculus.specs.Shape.{held, label_of, leaf, many, one, only, process, two}
+use Rattle.calculus.specs.Tree.{Tree, trees, weight, weights, par, row, tuple, set, dict, bundle, rest, pattern, list_pattern, set_pattern, map_pattern}
+use Rattle.calculus.specs.Shape.{held, label_of, leaf, many, only, two}
 use Rattle.calculus.specs.Code.{codes}
 use Rattle.calculus.specs.Form.{term, pair_of}
 use Rattle.calculus.specs.Matching.{Bindings, both_of, first_items_match, first_of_all, is_empty, ways}
@@ -17,22 +17,22 @@ use Rattle.rho_term.specs.Normal.{IsOrdered}
 use Rattle.rho_term.specs.Parts.{part_tree, pat_part_tree, pair_tree, term_tree}
 use Rattle.rho_term.specs.declared.term.Part.{Part}
 use Rattle.rho_term.specs.declared.term.PatPart.{PatPart}
-use Rattle.rho_term.proofs.Trees.{weight-at, tree-at, ordered-at}
+use Rattle.rho_term.proofs.Trees.{tree-at, ordered-at}
 use Rattle.spatial_match.specs.declared.split.Split.{Split}
 use Rattle.spatial_match.specs.Given.{AllReady, AllTries, Ready, Tries}
-use Rattle.spatial_match.specs.Search.{AtMostOne, has, left_from, first_way, member_at, may_rest, MemberWay, at_place}
-use Rattle.spatial_match.specs.Found.{IsFirst, IsFirstWay, IsFirstMembers, Way, found, member, may_leave, remaining, tried, tried_pats, tried_pairs}
+use Rattle.spatial_match.specs.Search.{AtMostOne, has, left_from, first_way, member_at, may_rest, MemberWay}
+use Rattle.spatial_match.specs.Found.{IsFirst, IsFirstWay, IsFirstMembers, Way, found, may_leave, remaining, tried, tried_pats, tried_pairs}
 use Rattle.spatial_match.proofs.+find.Goals as goal
-use Rattle.spatial_match.proofs.Firsts.{none-of, some-of, no_way-of, way-of, no_members-of, members-of, both-first-none, both-second-none, both-some, and-no-more}
+use Rattle.spatial_match.proofs.Firsts.{none-of, some-of, no_way-of, way-of, no_members-of, members-of, both-second-none, both-some, and-no-more}
 use Rattle.spatial_match.proofs.Keeping.{is-free}
 use Rattle.spatial_match.proofs.Leaving.{remaining-all, whole-ready}
-use Rattle.spatial_match.proofs.Readying.{list-ready, tuple-ready, set-ready, map-ready, channel-ready, data-ready, body-ready, key-ready, value-ready, part-ready, ready-at, ready-of, tries-at, tries-of, tuple-tries, row-tries}
+use Rattle.spatial_match.proofs.Readying.{list-ready, tuple-ready, set-ready, map-ready, channel-ready, data-ready, body-ready, part-ready, ready-at, ready-of, tries-at, tries-of, tuple-tries, row-tries}
 use Rattle.spatial_match.proofs.Rows.{NoneBefore, wide-at, found-at, length-each, length-row, none-next}
-use Rattle.spatial_match.proofs.Sets.{Reaches, reaches-next, reaches-none, reaches-short, items-first}
+use Rattle.spatial_match.proofs.Sets.{Reaches, reaches-next, reaches-none, reaches-short}
 use Rattle.spatial_match.proofs.Shaping.{ok_map, list-found, tuple-found, set-found, map-found, members-found, send-found}
-use Rattle.spatial_match.proofs.Steps.{part-starts, part-passes, part-stops, part-ends, place-refused, place-dead, place-taking, part-around, part-around-none, end-wide-none, end-wide, end-thin-none, end-thin, pattern-none, pattern-some}
-use Rattle.spatial_match.proofs.Taking.{member-starts, member-passes, member-stops, member-ends, member-refused, member-dead, member-taking}
-use Rattle.spatial_match.proofs.Weighing.{weight-beside, weight-pos, tree-beside, heavy, pat-tries, pat-one, pat-normal, term-held, term-ascends, term-normal}
+use Rattle.spatial_match.proofs.Steps.{part-starts, part-none-failed, part-next-failed, part-repeated, part-passes, part-stops, part-ends, place-refused, place-dead, place-taking, part-around, part-around-none, end-wide-none, end-wide, end-thin-none, end-thin, pattern-none, pattern-some}
+use Rattle.spatial_match.proofs.Taking.{member-starts, member-none-failed, member-next-failed, member-repeated, member-passes, member-stops, member-ends, member-refused, member-dead, member-taking}
+use Rattle.spatial_match.proofs.Weighing.{target_at, held_length, weight-beside, weight-pos, tree-beside, heavy, pat-tries, pat-one, pat-normal, term-ascends, term-normal}
 
 -- a target of this part
 ready_as : (p q : Part) → p ≡ q → Ready term (only (part_tree p)) → Ready term (only (part_tree q))
@@ -256,30 +256,40 @@ heavy_row (t ∷ ts) = omega (arith, heavy_row ts, weight-pos t)
 
 pub members::find_members-loop-j-init : goal.members::find_members-loop-j-init
 members::find_members-loop-j-init t c =
-    let l : c.args.i < length c.args.pats.now = omega arith in
-    member-starts c.args.rest (λ vs. only (many set vs)) (tried_pats c.args.pats.now) c.args.used.now c.args.terms.now c.args.i (omega (arith, length-row c.args.pats.now)) (row-thin c.args.pats.now c.args.i c.index-pats-i.result l c.index-pats-i.is (ap label_of c.parts-given.ensures.parts))
+    let l : c.args.i < length c.args.pats.now = omega arith in (
+      member-starts c.args.rest (λ vs. only (many set vs)) (tried_pats c.args.pats.now) c.args.used.now c.args.terms.now c.args.i (omega (arith, length-row c.args.pats.now)) (row-thin c.args.pats.now c.args.i c.index-pats-i.result l c.index-pats-i.is (ap label_of c.parts-given.ensures.parts)),
+      member-none-failed c.args.rest (λ vs. only (many set vs)) (tried_pats c.args.pats.now) c.args.used.now c.args.terms.now c.args.i (omega (arith, length-row c.args.pats.now)),
+    )
 
 pub members::find_members-try_member-requires : goal.members::find_members-try_member-requires
 members::find_members-try_member-requires t c =
     let l : c.args.i < length c.args.pats.now = omega arith in
-    (omega (arith, heavy_row c.args.pats.now), (l, (c.loop-j-test.true, (c.requires.tries, (c.requires.ready, c.requires.ordered)))))
+    (omega (arith, heavy_row c.args.pats.now), (l, (c.loop-j-test.true, (c.loop-j.invariant.1, (c.requires.tries, (c.requires.ready, c.requires.ordered))))))
 
 pub members::find_members-returns-then-is_some : goal.members::find_members-returns-then-is_some
 members::find_members-returns-then-is_some t c =
     let l : c.args.i < length c.args.pats.now = omega arith in
     member-stops c.args.rest (λ vs. only (many set vs)) (tried_pats c.args.pats.now) c.args.used.now c.args.terms.now c.args.i (omega (arith, length-row c.args.pats.now))
-    c.loop-j.j c.in_ok-found.found c.loop-j-test.true (sym c.is_some.ensures ∙ c.if-is_some.true) c.loop-j.invariant c.in_ok-found.ensures
+    c.loop-j.j c.in_ok-found.found c.loop-j-test.true (sym c.is_some.ensures ∙ c.if-is_some.true) c.loop-j.invariant.0 c.in_ok-found.ensures
 
 pub members::find_members-loop-j-preserved : goal.members::find_members-loop-j-preserved
 members::find_members-loop-j-preserved t c =
-    let l : c.args.i < length c.args.pats.now = omega arith in
-    member-passes c.args.rest (λ vs. only (many set vs)) (tried_pats c.args.pats.now) c.args.used.now c.args.terms.now c.args.i (omega (arith, length-row c.args.pats.now))
-    c.loop-j.j c.in_ok-found.found c.loop-j-test.true (sym c.is_some.ensures ∙ c.if-is_some.false) c.loop-j.invariant c.in_ok-found.ensures
+    let l : c.args.i < length c.args.pats.now = omega arith in (
+      member-passes c.args.rest (λ vs. only (many set vs)) (tried_pats c.args.pats.now) c.args.used.now c.args.terms.now c.args.i (omega (arith, length-row c.args.pats.now))
+          c.loop-j.j c.in_ok-found.found c.loop-j-test.true (sym c.is_some.ensures ∙ c.if-is_some.false) c.loop-j.invariant.0 c.in_ok-found.ensures,
+      member-next-failed c.args.rest (λ vs. only (many set vs)) (tried_pats c.args.pats.now) c.args.used.now c.args.terms.now c.args.i (omega (arith, length-row c.args.pats.now))
+          c.loop-j.j c.in_ok-found.found (sym c.is_some.ensures ∙ c.if-is_some.false) c.in_ok-found.ensures,
+    )
 
 pub members::find_members-returns : goal.members::find_members-returns
 members::find_members-returns t c =
     let l : c.args.i < length c.args.pats.now = omega arith in
-    member-ends c.args.rest (λ vs. only (many set vs)) (tried_pats c.args.pats.now) c.args.used.now c.args.terms.now c.args.i (omega (arith, length-row c.args.pats.now)) c.loop-j.j c.loop-j-test.false c.loop-j.invariant
+    member-ends c.args.rest (λ vs. only (many set vs)) (tried_pats c.args.pats.now) c.args.used.now c.args.terms.now c.args.i (omega (arith, length-row c.args.pats.now)) c.loop-j.j c.loop-j-test.false c.loop-j.invariant.0
+
+pub members::try_member-returns-then-repeats_member : goal.members::try_member-returns-then-repeats_member
+members::try_member-returns-then-repeats_member t c =
+    member-repeated c.args.rest (λ vs. only (many set vs)) (tried_pats c.args.pats.now) c.args.used.now c.args.terms.now c.args.i (omega (arith, length-row c.args.pats.now, c.requires.within))
+    c.args.j c.requires.target_within (c.repeats_member.ensures c.if-repeats_member.true) c.requires.failed
 
 pub members::try_member-find_whole-requires : goal.members::try_member-find_whole-requires
 members::try_member-find_whole-requires t c =
@@ -359,30 +369,40 @@ pairs::find_pair-returns-in_ok-joined-in-Some-2 t c =
 
 pub pairs::find_pairs-loop-j-init : goal.pairs::find_pairs-loop-j-init
 pairs::find_pairs-loop-j-init t c =
-    let l : c.args.i < length c.args.pats.now = omega arith in
-    member-starts c.args.rest (λ vs. only (many dict vs)) (tried_pairs c.args.pats.now) c.args.used.now (map pair_tree c.args.pairs.now) c.args.i (omega (arith, length-each pair_tree c.args.pats.now)) (pair_thin c.args.pats.now c.args.i l)
+    let l : c.args.i < length c.args.pats.now = omega arith in (
+      member-starts c.args.rest (λ vs. only (many dict vs)) (tried_pairs c.args.pats.now) c.args.used.now (map pair_tree c.args.pairs.now) c.args.i (omega (arith, length-each pair_tree c.args.pats.now)) (pair_thin c.args.pats.now c.args.i l),
+      member-none-failed c.args.rest (λ vs. only (many dict vs)) (tried_pairs c.args.pats.now) c.args.used.now (map pair_tree c.args.pairs.now) c.args.i (omega (arith, length-each pair_tree c.args.pats.now)),
+    )
 
 pub pairs::find_pairs-try_pair-requires : goal.pairs::find_pairs-try_pair-requires
 pairs::find_pairs-try_pair-requires t c =
     let l : c.args.i < length c.args.pats.now = omega arith in
-    (omega (arith, heavy pair_tree c.args.pats.now), (l, (c.loop-j-test.true, (c.requires.tries, (c.requires.ready, c.requires.ordered)))))
+    (omega (arith, heavy pair_tree c.args.pats.now), (l, (c.loop-j-test.true, (c.loop-j.invariant.1, (c.requires.tries, (c.requires.ready, c.requires.ordered))))))
 
 pub pairs::find_pairs-returns-then-is_some : goal.pairs::find_pairs-returns-then-is_some
 pairs::find_pairs-returns-then-is_some t c =
     let l : c.args.i < length c.args.pats.now = omega arith in
     member-stops c.args.rest (λ vs. only (many dict vs)) (tried_pairs c.args.pats.now) c.args.used.now (map pair_tree c.args.pairs.now) c.args.i (omega (arith, length-each pair_tree c.args.pats.now))
-    c.loop-j.j c.in_ok-found.found (omega (arith, length-map c.args.pairs.now pair_tree)) (sym c.is_some.ensures ∙ c.if-is_some.true) c.loop-j.invariant c.in_ok-found.ensures
+    c.loop-j.j c.in_ok-found.found (omega (arith, length-map c.args.pairs.now pair_tree)) (sym c.is_some.ensures ∙ c.if-is_some.true) c.loop-j.invariant.0 c.in_ok-found.ensures
 
 pub pairs::find_pairs-loop-j-preserved : goal.pairs::find_pairs-loop-j-preserved
 pairs::find_pairs-loop-j-preserved t c =
-    let l : c.args.i < length c.args.pats.now = omega arith in
-    member-passes c.args.rest (λ vs. only (many dict vs)) (tried_pairs c.args.pats.now) c.args.used.now (map pair_tree c.args.pairs.now) c.args.i (omega (arith, length-each pair_tree c.args.pats.now))
-    c.loop-j.j c.in_ok-found.found (omega (arith, length-map c.args.pairs.now pair_tree)) (sym c.is_some.ensures ∙ c.if-is_some.false) c.loop-j.invariant c.in_ok-found.ensures
+    let l : c.args.i < length c.args.pats.now = omega arith in (
+      member-passes c.args.rest (λ vs. only (many dict vs)) (tried_pairs c.args.pats.now) c.args.used.now (map pair_tree c.args.pairs.now) c.args.i (omega (arith, length-each pair_tree c.args.pats.now))
+          c.loop-j.j c.in_ok-found.found (omega (arith, length-map c.args.pairs.now pair_tree)) (sym c.is_some.ensures ∙ c.if-is_some.false) c.loop-j.invariant.0 c.in_ok-found.ensures,
+      member-next-failed c.args.rest (λ vs. only (many dict vs)) (tried_pairs c.args.pats.now) c.args.used.now (map pair_tree c.args.pairs.now) c.args.i (omega (arith, length-each pair_tree c.args.pats.now))
+          c.loop-j.j c.in_ok-found.found (sym c.is_some.ensures ∙ c.if-is_some.false) c.in_ok-found.ensures,
+    )
 
 pub pairs::find_pairs-returns : goal.pairs::find_pairs-returns
 pairs::find_pairs-returns t c =
     let l : c.args.i < length c.args.pats.now = omega arith in
-    member-ends c.args.rest (λ vs. only (many dict vs)) (tried_pairs c.args.pats.now) c.args.used.now (map pair_tree c.args.pairs.now) c.args.i (omega (arith, length-each pair_tree c.args.pats.now)) c.loop-j.j (omega (arith, length-map c.args.pairs.now pair_tree)) c.loop-j.invariant
+    member-ends c.args.rest (λ vs. only (many dict vs)) (tried_pairs c.args.pats.now) c.args.used.now (map pair_tree c.args.pairs.now) c.args.i (omega (arith, length-each pair_tree c.args.pats.now)) c.loop-j.j (omega (arith, length-map c.args.pairs.now pair_tree)) c.loop-j.invariant.0
+
+pub pairs::try_pair-returns-then-repeats_pair : goal.pairs::try_pair-returns-then-repeats_pair
+pairs::try_pair-returns-then-repeats_pair t c =
+    member-repeated c.args.rest (λ vs. only (many dict vs)) (tried_pairs c.args.pats.now) c.args.used.now (map pair_tree c.args.pairs.now) c.args.i (omega (arith, length-each pair_tree c.args.pats.now, c.requires.within))
+    c.args.j (omega (arith, length-map c.args.pairs.now pair_tree, c.requires.target_within)) (c.repeats_pair.ensures c.if-repeats_pair.true) c.requires.failed
 
 pub pairs::try_pair-find_pair-requires : goal.pairs::try_pair-find_pair-requires
 pairs::try_pair-find_pair-requires t c =
@@ -442,13 +462,6 @@ part_wide ps i p b h e g = wide-at pat_part_tree ps i p h ∙ ap (λ (x : PatPar
 
 part_finds : (ps : List PatPart) (i : ℕ) (p : PatPart) (u : Tree) → i < length ps → p ≡ get_or ps i p → (member_at i (tried ps)).tries u ≡ found (pat_part_tree p) u
 part_finds ps i p u h e = found-at pat_part_tree ps i p u h ∙ ap (λ (x : PatPart). found (pat_part_tree x) u) (sym e)
-
--- part number j of a process
-target_at : (t : Tree) (ps : List Part) (j : ℕ) (p : Part) → t ≡ term_tree ps → j < length ps → p ≡ get_or ps j p → get_or (held t) j (leaf par) ≡ part_tree p
-target_at t ps j p e h g = ap (λ (ts : List Tree). get_or ts j (leaf par)) (term-held t ps e) ∙ get_or-map part_tree ps j p (leaf par) h ∙ ap part_tree (sym g)
-
-held_length : (t : Tree) (ps : List Part) → t ≡ term_tree ps → length (held t) ≡ length ps
-held_length t ps e = ap length (term-held t ps e) ∙ length-map ps part_tree
 
 pub parts::find_around-find_parts-requires : goal.parts::find_around-find_parts-requires
 parts::find_around-find_parts-requires t c =
@@ -551,9 +564,11 @@ parts::find_parts-find_around-requires t c =
 
 pub parts::find_parts-loop-j-init : goal.parts::find_parts-loop-j-init
 parts::find_parts-loop-j-init t c =
-    let l : c.args.i < length c.args.pats.now = omega arith in
-    part-starts (tried c.args.pats.now) c.args.used.now (held c.args.target.now) c.args.i (omega (arith, length-each pat_part_tree c.args.pats.now))
-    (part_wide c.args.pats.now c.args.i c.index-pats-i.result false l c.index-pats-i.is (sym c.is_wide.ensures ∙ c.if-is_wide.false))
+    let l : c.args.i < length c.args.pats.now = omega arith in (
+      part-starts (tried c.args.pats.now) c.args.used.now (held c.args.target.now) c.args.i (omega (arith, length-each pat_part_tree c.args.pats.now))
+          (part_wide c.args.pats.now c.args.i c.index-pats-i.result false l c.index-pats-i.is (sym c.is_wide.ensures ∙ c.if-is_wide.false)),
+      part-none-failed (tried c.args.pats.now) c.args.used.now (held c.args.target.now) c.args.i (omega (arith, length-each pat_part_tree c.args.pats.now)),
+    )
 
 pub parts::find_parts-try_part-requires : goal.parts::find_parts-try_part-requires
 parts::find_parts-try_part-requires t c =
@@ -565,7 +580,7 @@ parts::find_parts-try_part-requires t c =
         l,
         (
           part_wide c.args.pats.now c.args.i c.index-pats-i.result false l c.index-pats-i.is (sym c.is_wide.ensures ∙ c.if-is_wide.false),
-          (m, (c.requires.tries, (c.requires.normal, (c.requires.one_wide, c.requires.ready)))),
+          (m, (c.loop-j.invariant.1, (c.requires.tries, (c.requires.normal, (c.requires.one_wide, c.requires.ready))))),
         ),
       ),
     )
@@ -576,22 +591,25 @@ parts::find_parts-returns-then-is_some t c =
     let h = held_length c.args.target.now c.parts-j-end.result.now c.parts-j-end.ensures.parts in
     let m : c.loop-j.j < length (held c.args.target.now) = omega (arith, h) in
     part-stops (tried c.args.pats.now) c.args.used.now (held c.args.target.now) c.args.i (omega (arith, length-each pat_part_tree c.args.pats.now))
-    c.loop-j.j c.in_ok-found.found m (sym c.is_some.ensures ∙ c.if-is_some.true) c.loop-j.invariant c.in_ok-found.ensures
+    c.loop-j.j c.in_ok-found.found m (sym c.is_some.ensures ∙ c.if-is_some.true) c.loop-j.invariant.0 c.in_ok-found.ensures
 
 pub parts::find_parts-loop-j-preserved : goal.parts::find_parts-loop-j-preserved
 parts::find_parts-loop-j-preserved t c =
     let l : c.args.i < length c.args.pats.now = omega arith in
     let h = held_length c.args.target.now c.parts-j-end.result.now c.parts-j-end.ensures.parts in
-    let m : c.loop-j.j < length (held c.args.target.now) = omega (arith, h) in
-    part-passes (tried c.args.pats.now) c.args.used.now (held c.args.target.now) c.args.i (omega (arith, length-each pat_part_tree c.args.pats.now))
-    c.loop-j.j c.in_ok-found.found m (sym c.is_some.ensures ∙ c.if-is_some.false) c.loop-j.invariant c.in_ok-found.ensures
+    let m : c.loop-j.j < length (held c.args.target.now) = omega (arith, h) in (
+      part-passes (tried c.args.pats.now) c.args.used.now (held c.args.target.now) c.args.i (omega (arith, length-each pat_part_tree c.args.pats.now))
+          c.loop-j.j c.in_ok-found.found m (sym c.is_some.ensures ∙ c.if-is_some.false) c.loop-j.invariant.0 c.in_ok-found.ensures,
+      part-next-failed (tried c.args.pats.now) c.args.used.now (held c.args.target.now) c.args.i (omega (arith, length-each pat_part_tree c.args.pats.now))
+          c.loop-j.j c.in_ok-found.found (sym c.is_some.ensures ∙ c.if-is_some.false) c.in_ok-found.ensures,
+    )
 
 pub parts::find_parts-returns : goal.parts::find_parts-returns
 parts::find_parts-returns t c =
     let l : c.args.i < length c.args.pats.now = omega arith in
     let h = held_length c.args.target.now c.parts-j-end.result.now c.parts-j-end.ensures.parts in
     let m : length (held c.args.target.now) ≤ c.loop-j.j = omega (arith, h) in
-    part-ends (tried c.args.pats.now) c.args.used.now (held c.args.target.now) c.args.i (omega (arith, length-each pat_part_tree c.args.pats.now)) c.loop-j.j m c.loop-j.invariant
+    part-ends (tried c.args.pats.now) c.args.used.now (held c.args.target.now) c.args.i (omega (arith, length-each pat_part_tree c.args.pats.now)) c.loop-j.j m c.loop-j.invariant.0
 
 pub parts::find_pat-find_parts-requires : goal.parts::find_pat-find_parts-requires
 parts::find_pat-find_parts-requires t c =
@@ -624,6 +642,11 @@ parts::find_whole-returns t c =
 
 inside_bytes : (j n : ℕ) (xs : List Part) → j < n → n ≡ length xs → j < length xs
 inside_bytes j n xs h e = omega arith
+
+pub parts::try_part-returns-then-repeats_part : goal.parts::try_part-returns-then-repeats_part
+parts::try_part-returns-then-repeats_part t c =
+    part-repeated (tried c.args.pats.now) c.args.used.now (held c.args.target.now) c.args.i (omega (arith, length-each pat_part_tree c.args.pats.now, c.requires.within))
+    c.args.j c.requires.target_within (c.repeats_part.ensures c.if-repeats_part.true) c.requires.failed
 
 pub parts::try_part-offset_bounds-parts-j : goal.parts::try_part-offset_bounds-parts-j
 parts::try_part-offset_bounds-parts-j t c =

@@ -4,7 +4,7 @@ use Rattle.calculus.specs.Shape.{held, many}
 use Rattle.calculus.specs.Matching.{ways}
 use Rattle.calculus.specs.Operators.{of_list}
 use Rattle.rho_term.specs.Parts.{pair_tree, pat_part_tree}
-use Rattle.spatial_match.specs.Search.{first_way, left_from, may_rest, member_at}
+use Rattle.spatial_match.specs.Search.{FailedBefore, first_way, left_from, may_rest, member_at}
 use Rattle.spatial_match.specs.Found.{may_leave, tried, tried_pats, tried_pairs}
 use Rattle.spatial_match.proofs.Rows.{NoneBefore}
 use Rattle.spatial_match.proofs.Sets.{Reaches}
@@ -83,8 +83,9 @@ decreases-pairs::find_pair l = 16 * weight (pair_tree l.pat.now) + 3
 abbrev pub invariant-parts::find_parts-loop-j : goal.invariant-parts::find_parts-loop-j
 invariant-parts::find_parts-loop-j l =
     let all = tried l.pats in
-    first_way (may_leave all) (ways (drop l.i all) (left_from 0 l.used (held l.target)))
-    ≡ first_way (may_leave all) (later (may_leave all) (member_at l.i all) (drop (l.i + 1) all) l.used (held l.target) l.j)
+    (first_way (may_leave all) (ways (drop l.i all) (left_from 0 l.used (held l.target)))
+    ≡ first_way (may_leave all) (later (may_leave all) (member_at l.i all) (drop (l.i + 1) all) l.used (held l.target) l.j))
+    × FailedBefore (may_leave all) (member_at l.i all) (drop (l.i + 1) all) l.used (held l.target) l.j
 
 abbrev pub invariant-parts::find_end-loop-k : goal.invariant-parts::find_end-loop-k
 invariant-parts::find_end-loop-k l = NoneBefore l.k (tried l.pats)
@@ -92,15 +93,17 @@ invariant-parts::find_end-loop-k l = NoneBefore l.k (tried l.pats)
 abbrev pub invariant-members::find_members-loop-j : goal.invariant-members::find_members-loop-j
 invariant-members::find_members-loop-j l =
     let all = tried_pats l.pats in
-    first_way (may_rest l.rest) (ways (drop l.i all) (left_from 0 l.used l.terms))
-    ≡ first_way (may_rest l.rest) (later (may_rest l.rest) (member_at l.i all) (drop (l.i + 1) all) l.used l.terms l.j)
+    (first_way (may_rest l.rest) (ways (drop l.i all) (left_from 0 l.used l.terms))
+    ≡ first_way (may_rest l.rest) (later (may_rest l.rest) (member_at l.i all) (drop (l.i + 1) all) l.used l.terms l.j))
+    × FailedBefore (may_rest l.rest) (member_at l.i all) (drop (l.i + 1) all) l.used l.terms l.j
 
 abbrev pub invariant-pairs::find_pairs-loop-j : goal.invariant-pairs::find_pairs-loop-j
 invariant-pairs::find_pairs-loop-j l =
     let all = tried_pairs l.pats in
     let ts = map pair_tree l.pairs in
-    first_way (may_rest l.rest) (ways (drop l.i all) (left_from 0 l.used ts))
-    ≡ first_way (may_rest l.rest) (later (may_rest l.rest) (member_at l.i all) (drop (l.i + 1) all) l.used ts l.j)
+    (first_way (may_rest l.rest) (ways (drop l.i all) (left_from 0 l.used ts))
+    ≡ first_way (may_rest l.rest) (later (may_rest l.rest) (member_at l.i all) (drop (l.i + 1) all) l.used ts l.j))
+    × FailedBefore (may_rest l.rest) (member_at l.i all) (drop (l.i + 1) all) l.used ts l.j
 
 abbrev pub invariant-forms::find_items-loop-i : goal.invariant-forms::find_items-loop-i
 invariant-forms::find_items-loop-i l = Reaches l.remainder of_list (tried_pats l.pats) l.terms l.i l.found.items

@@ -4,7 +4,7 @@ use Rattle.calculus.specs.Shape.{many}
 use Rattle.rho_term.specs.Parts.{part_tree}
 use Rattle.rho_term.specs.declared.term.Part.{Part}
 use Rattle.spatial_match.specs.Given.{Tries}
-use Rattle.spatial_match.proofs.Compared.{no_send, no_bundle, others}
+use Rattle.spatial_match.proofs.Compared.{no_send, others}
 use Rattle.spatial_match.proofs.forms.know_form.Goals as goal
 
 pub returns-in-Tuple : goal.returns-in-Tuple

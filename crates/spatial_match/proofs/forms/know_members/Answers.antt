@@ -1,4 +1,4 @@
-use Rattle.std.proofs.Common.{◌≡◌, length, sym, ◌∙◌, arith}
+use Rattle.std.proofs.Common.{length, sym, ◌∙◌, arith}
 use Rattle.std.proofs.lemmas.Bool.{eqb-true, eqb-false}
 use Rattle.spatial_match.proofs.Compared.{no_empty, no_tuple}
 use Rattle.spatial_match.proofs.forms.know_members.Goals as goal

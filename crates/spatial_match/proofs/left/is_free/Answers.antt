@@ -1,4 +1,4 @@
-use Rattle.std.proofs.Common.{sym, ap, ◌∙◌, arith}
+use Rattle.std.proofs.Common.{sym, ap, arith}
 use Rattle.std.specs.Prelude.{not}
 use Rattle.spatial_match.proofs.Keeping.{free-hit, free-miss, free-end}
 use Rattle.spatial_match.proofs.left.is_free.Goals as goal

@@ -1,4 +1,3 @@
-use Rattle.std.proofs.Common.{arith}
 use Rattle.spatial_match.proofs.Keeping.{is-free, is-used, spent-next, spent-not}
 use Rattle.spatial_match.specs.Search.{has}
 use Rattle.std.proofs.Common.{◌∙◌, sym}

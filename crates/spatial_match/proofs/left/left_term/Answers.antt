@@ -1,6 +1,6 @@
-use Rattle.std.proofs.Common.{◌≡◌, ◌<◌, ◌+◌, List, [], map, sym, ap, ◌∙◌, subst, arith}
+use Rattle.std.proofs.Common.{◌+◌, List, map, sym, ap, ◌∙◌, subst}
 use Rattle.calculus.specs.Tree.{Tree, trees, par}
-use Rattle.calculus.specs.Shape.{many, held}
+use Rattle.calculus.specs.Shape.{many}
 use Rattle.calculus.specs.Order.{IsAscending}
 use Rattle.calculus.specs.Code.{codes}
 use Rattle.rho_term.specs.Parts.{part_tree}

@@ -1,15 +1,7 @@
-use Rattle.std.proofs.Common.{◌≡◌, ◌<◌, ◌+◌, List, [], map, sym, ap, ◌∙◌, subst, arith}
-use Rattle.calculus.specs.Tree.{Tree, trees, par}
-use Rattle.calculus.specs.Shape.{many, held}
-use Rattle.calculus.specs.Order.{IsAscending}
-use Rattle.calculus.specs.Code.{codes}
-use Rattle.rho_term.specs.Parts.{part_tree}
-use Rattle.rho_term.specs.declared.term.Part.{Part}
-use Rattle.spatial_match.specs.Search.{has, left_from}
-use Rattle.spatial_match.proofs.Keeping.{Kept, is-free, is-used, kept-used, kept-free, kept-end}
-use Rattle.spatial_match.proofs.Leaving.{left-ascends}
-use Rattle.spatial_match.proofs.Readying.{left-ordered}
-use Rattle.spatial_match.proofs.Weighing.{term-held, term-normal, term-ascends}
+use Rattle.std.proofs.Common.{◌+◌, List, sym, ap, ◌∙◌, subst}
+use Rattle.calculus.specs.Tree.{Tree}
+use Rattle.spatial_match.specs.Search.{has}
+use Rattle.spatial_match.proofs.Keeping.{Kept, is-free, is-used, kept-used, kept-free}
 use Rattle.spatial_match.proofs.left.left_terms.Goals as goal
 use Rattle.spatial_match.proofs.left.left_terms.Goals.{then-is_free+in_ok-term+in_ok-push, else-is_free}
 

@@ -1,9 +1,7 @@
-use Rattle.std.proofs.Common.{◌≡◌, [], sym, ap, ◌∙◌, subst}
+use Rattle.std.proofs.Common.{sym, ap, ◌∙◌, subst}
 use Rattle.calculus.specs.Tree.{Tree}
-use Rattle.calculus.specs.Form.{term}
 use Rattle.calculus.specs.Congruence.{congruent}
 use Rattle.term_order.specs.Orders.{OrdersCodes}
-use Rattle.spatial_match.specs.Given.{Ready}
 use Rattle.spatial_match.specs.Found.{remaining}
 use Rattle.spatial_match.proofs.Alike.{same_codes}
 use Rattle.spatial_match.proofs.Leaving.{remaining-ready, remaining-all, no-items}

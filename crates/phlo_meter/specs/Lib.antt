@@ -1,0 +1,2 @@
+pub mod PriceTable
+pub mod Answers
