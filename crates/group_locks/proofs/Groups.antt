@@ -3,6 +3,8 @@ use Rattle.std.proofs.Common.{◌≡◌, ◌≢◌, ℕ, ◌+◌, ◌-◌, ◌<�
 use Rattle.std.proofs.lemmas.Bool.Decides.{nat_tests}
 use Rattle.atomic_table.specs.declared.shared.Seat.{Seat}
 use Rattle.atomic_table.specs.Table.{rest}
+use Rattle.group_locks.specs.declared.slot.Slot.{Slot}
+use Rattle.group_locks.specs.declared.slot.Slot.TheVariants.{Shard}
 use Rattle.group_locks.specs.declared.view.View.{View}
 use Rattle.group_locks.proofs.Turns.{heads}
 use Rattle.group_locks.specs.Counts.{one_if, count, Each}
@@ -28,7 +30,7 @@ module _ {X : Type 0} where
   below_up n [] h = refl
   below_up n (p ∷ ps) h = let b = below_head n p ps h in let r = below_up n ps b.1 in let l : nat_lt p.0 (n + 1) ≡ true = (let q = b.0 in grind (arith, nat_tests)) in grind (arith, nat_tests)
 
-module _ {Store E X : Type 0} (m : Meaning Store E X) where
+module _ {Store E X W : Type 0} (m : Meaning Store E X W) where
   carries_on : (f f' : ℕ → Option X) (k : ℕ) (hs : List (ℕ × X)) → below k hs ≡ true → ((j : ℕ) → j ≢ k → f' j ≡ f j)
       → Each (λ n a. (y : X) × (f n ≡ Some y) × Follows m [] n a y) hs → Each (λ n a. (y : X) × (f' n ≡ Some y) × Follows m [] n a y) hs
   carries_on f f' k [] b same h = tt
@@ -41,11 +43,11 @@ module _ {Store E X : Type 0} (m : Meaning Store E X) where
     (λ j z. let ne : j ≢ k = (λ e. let q : one_if (eqb k j) ≡ 1 = ap one_if (eq-eqb k j (sym e)) in omega arith) in same j ne ∙ h.1 j (omega arith)),
   )
 
-  pub taken_on : (p q : Seat (Option X) (View E X)) (f : ℕ → Option X) (n : ℕ) → Taken m p q f n → Taken m p q f (n + 1)
+  pub taken_on : (p q : Seat (Slot X W) (View E X W)) (f : ℕ → Option X) (n : ℕ) → Taken m p q f n → Taken m p q f (n + 1)
   taken_on p q f n t = record { table = t.table; id = t.id; view = t.view; out = t.out; below = below_up n q.me.0.held t.below; falls = t.falls; carries = t.carries }
 
-  pub taken_more : (p q r : Seat (Option X) (View E X)) (f f' : ℕ → Option X) (k : ℕ) (x : X) → Taken m p q f k
-      → r.table_id ≡ q.table_id → r.id ≡ q.id → r.me.0 ≡ view q.me.0.parts q.me.0.entries ((k, x) ∷ q.me.0.held) q.me.0.since q.me.0.tally → r.me.1 ≡ (k, None) ∷ q.me.1
+  pub taken_more : (p q r : Seat (Slot X W) (View E X W)) (f f' : ℕ → Option X) (k : ℕ) (x : X) → Taken m p q f k
+      → r.table_id ≡ q.table_id → r.id ≡ q.id → r.me.0 ≡ view q.me.0.parts q.me.0.entries ((k, x) ∷ q.me.0.held) q.me.0.since q.me.0.tally q.me.0.pile → r.me.1 ≡ (k, Shard None) ∷ q.me.1
       → f' k ≡ Some x → ((j : ℕ) → j ≢ k → f' j ≡ f j) → Taken m p r f' (k + 1)
   taken_more p q r f f' k x t table id me out here same =
       let hs : r.me.0.held ≡ (k, x) ∷ q.me.0.held = ap (λ v. v.held) me in
@@ -54,7 +56,7 @@ module _ {Store E X : Type 0} (m : Meaning Store E X) where
       let up : below (k + 1) q.me.0.held ≡ true = below_up k q.me.0.held t.below in
       let low : below k q.me.0.held ≡ true = t.below in
       let down : descends q.me.0.held ≡ true = t.falls in
-      let all : P r.me.0.held = subst P (sym hs) (grind (arith, nat_tests), grind (arith, nat_tests), carries_more f f' k x q.me.0.held t.below here same t.carries, out ∙ ap (λ l. (k, None) ∷ l) t.out) in
+      let all : P r.me.0.held = subst P (sym hs) (grind (arith, nat_tests), grind (arith, nat_tests), carries_more f f' k x q.me.0.held t.below here same t.carries, out ∙ ap (λ l. (k, Shard None) ∷ l) t.out) in
       record {
         table = table ∙ t.table;
         id = id ∙ t.id;
@@ -88,7 +90,7 @@ module _ {X : Type 0} where
       let r : below n ts ≡ true = below_less n ts h.1 (omega arith) in
       let l : nat_lt k n ≡ true = (let a = h.0 in grind (arith, nat_tests)) in grind (arith, nat_tests)
 
-module _ {Store E X : Type 0} (m : Meaning Store E X) where
+module _ {Store E X W : Type 0} (m : Meaning Store E X W) where
   carries_less : (f f' : ℕ → Option X) (es : List E) (k : ℕ) (hs : List (ℕ × X)) → below k hs ≡ true → ((j : ℕ) → j ≢ k → f' j ≡ f j)
       → Each (λ n a. (y : X) × (f n ≡ Some y) × Follows m es n a y) hs → Each (λ n a. (y : X) × (f' n ≡ Some y) × Follows m es n a y) hs
   carries_less f f' es k [] b same h = tt
@@ -126,23 +128,24 @@ module _ {Store E X : Type 0} (m : Meaning Store E X) where
   forget_twice : (hs ts : List (ℕ × X)) (h : ℕ × X) (es : List E) → hs ≡ h ∷ ts → since_after ts (since_after hs es) ≡ since_after ts es
   forget_twice hs ts h es e = ap {A = List (ℕ × X)} (λ l. since_after ts (since_after l es)) e
 
-  at_top : (p q r : Seat (Option X) (View E X)) (f f' : ℕ → Option X) (n : ℕ) (y : X) → Giving m p q f (n + 1) → f n ≡ Some y
+  at_top : (p q r : Seat (Slot X W) (View E X W)) (f f' : ℕ → Option X) (n : ℕ) (y : X) → Giving m p q f (n + 1) → f n ≡ Some y
       → r.table_id ≡ q.table_id → r.id ≡ q.id → r.me.0 ≡ given_back q.me.0 → r.me.1 ≡ emptied r.me.0.held → f' n ≡ None → ((j : ℕ) → j ≢ n → f' j ≡ f j) → Giving m p r f' n
   at_top p q r f f' n y g is table id me out here same =
       let t = first_carried f q.me.0.since n y q.me.0.held g.below g.falls is g.carries in
       let P : List (ℕ × X) → Type 0 = λ l. Carries m q.me.0.since l f in
       let rests : rest q.me.0.held ≡ t.1 = ap {A = List (ℕ × X)} rest t.2 in
-      let held : r.me.0.held ≡ t.1 = ap {A = View E X} (λ v. v.held) me ∙ rests in
-      let after : r.me.0.since ≡ since_after t.1 q.me.0.since = ap {A = View E X} (λ v. v.since) me ∙ ap {A = List (ℕ × X)} (λ l. since_after l q.me.0.since) rests in
+      let held : r.me.0.held ≡ t.1 = ap {A = View E X W} (λ v. v.held) me ∙ rests in
+      let after : r.me.0.since ≡ since_after t.1 q.me.0.since = ap {A = View E X W} (λ v. v.since) me ∙ ap {A = List (ℕ × X)} (λ l. since_after l q.me.0.since) rests in
       let D : List (ℕ × X) → List E → Type 0 = λ l es. (below n l ≡ true) × (descends l ≡ true) × Carries m es l f' in
       let all : D r.me.0.held r.me.0.since = subst (λ l. D l r.me.0.since) (sym held) (subst (D t.1) (sym after) (t.3, t.4, carries_rest f f' q.me.0.since n t.0 t.1 t.3 here same (subst P t.2 g.carries))) in
       let forgot : since_after t.1 q.me.0.since ≡ since_after t.1 p.me.0.since = ap {A = List E} (λ es. since_after t.1 es) g.since ∙ forget_twice q.me.0.held t.1 (n, t.0) p.me.0.since t.2 in
       record {
         table = table ∙ g.table;
         id = id ∙ g.id;
-        parts = ap {A = View E X} (λ v. v.parts) me ∙ g.parts;
-        entries = ap {A = View E X} (λ v. v.entries) me ∙ g.entries;
-        tally = ap {A = View E X} (λ v. v.tally) me ∙ g.tally;
+        parts = ap {A = View E X W} (λ v. v.parts) me ∙ g.parts;
+        entries = ap {A = View E X W} (λ v. v.entries) me ∙ g.entries;
+        tally = ap {A = View E X W} (λ v. v.tally) me ∙ g.tally;
+        pile = ap {A = View E X W} (λ v. v.pile) me ∙ g.pile;
         since = after ∙ (forgot ∙ ap {A = List (ℕ × X)} (λ l. since_after l p.me.0.since) (sym held));
         out = out;
         below = all.0;
@@ -150,18 +153,18 @@ module _ {Store E X : Type 0} (m : Meaning Store E X) where
         carries = all.2;
       }
 
-  pub giving_more : (p q r : Seat (Option X) (View E X)) (f f' : ℕ → Option X) (n : ℕ) (y : X) → 0 < n → Giving m p q f n → f (n - 1) ≡ Some y
+  pub giving_more : (p q r : Seat (Slot X W) (View E X W)) (f f' : ℕ → Option X) (n : ℕ) (y : X) → 0 < n → Giving m p q f n → f (n - 1) ≡ Some y
       → r.table_id ≡ q.table_id → r.id ≡ q.id → r.me.0 ≡ given_back q.me.0 → r.me.1 ≡ emptied r.me.0.held → f' (n - 1) ≡ None → ((j : ℕ) → j ≢ n - 1 → f' j ≡ f j) → Giving m p r f' (n - 1)
   giving_more p q r f f' n y some g is table id me out here same =
       let P : ℕ → Type 0 = λ k. Giving m p q f k in let e : n ≡ (n - 1) + 1 = omega arith in at_top p q r f f' (n - 1) y (subst P e g) is table id me out here same
 
-  pub top_of : (p q : Seat (Option X) (View E X)) (f : ℕ → Option X) (n : ℕ) (y : X) → 0 < n → Giving m p q f n → f (n - 1) ≡ Some y
+  pub top_of : (p q : Seat (Slot X W) (View E X W)) (f : ℕ → Option X) (n : ℕ) (y : X) → 0 < n → Giving m p q f n → f (n - 1) ≡ Some y
       → (x : X) × (q.me.0.held ≡ (n - 1, x) ∷ rest q.me.0.held) × Follows m q.me.0.since (n - 1) x y
   top_of p q f n y some g is =
       let P : ℕ → Type 0 = λ k. below k q.me.0.held ≡ true in let e : n ≡ (n - 1) + 1 = omega arith in
       let t = first_carried f q.me.0.since (n - 1) y q.me.0.held (subst P e g.below) g.falls is g.carries in (t.0, heads q.me.0.held t.1 (n - 1, t.0) t.2, t.5)
 
-  pub giving_on : (p q : Seat (Option X) (View E X)) (f f' : ℕ → Option X) (n : ℕ) → 0 < n → Giving m p q f n → f (n - 1) ≡ None
+  pub giving_on : (p q : Seat (Slot X W) (View E X W)) (f f' : ℕ → Option X) (n : ℕ) → 0 < n → Giving m p q f n → f (n - 1) ≡ None
       → f' (n - 1) ≡ None → ((j : ℕ) → j ≢ n - 1 → f' j ≡ f j) → Giving m p q f' (n - 1)
   giving_on p q f f' n some g is here same =
       let e : n ≡ (n - 1) + 1 = omega arith in
@@ -178,6 +181,7 @@ module _ {Store E X : Type 0} (m : Meaning Store E X) where
         parts = g.parts;
         entries = g.entries;
         tally = g.tally;
+        pile = g.pile;
         since = g.since;
         out = g.out;
         below = low;

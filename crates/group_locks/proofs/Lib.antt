@@ -1,7 +1,15 @@
 pub mod Sums
+pub mod Lookups
 pub mod Tallies
+pub mod Piles
+pub mod Offers
+pub mod Counting
 pub mod Charges
 pub mod Turns
+pub mod DeskTurns
+pub mod Waits
+pub mod Takes
+pub mod Leaves
 pub mod Loops
 pub mod Groups
 pub mod Draws

@@ -1,6 +1,7 @@
 -- What the loops over turns keep.
 use Rattle.std.specs.Prelude.{◌≡◌, ℕ, true, [], Option}
 use Rattle.atomic_table.specs.declared.shared.Seat.{Seat}
+use Rattle.group_locks.specs.declared.slot.Slot.{Slot}
 use Rattle.group_locks.specs.declared.view.View.{View}
 use Rattle.group_locks.specs.Meaning.{Meaning}
 use Rattle.group_locks.specs.Rule.{view, since_after, emptied, below, descends, Carries}
@@ -10,22 +11,23 @@ abbrev pub Stays : {S V : Type 0} → Seat S V → Seat S V → Type 0
 Stays p q = (q.table_id ≡ p.table_id) × (q.id ≡ p.id) × (q.me ≡ p.me)
 
 -- p took the turns of shards below n, and is now q
-pub record Taken {Store E X : Type 0} (m : Meaning Store E X) (p q : Seat (Option X) (View E X)) (f : ℕ → Option X) (n : ℕ) : Type 0 where
+pub record Taken {Store E X W : Type 0} (m : Meaning Store E X W) (p q : Seat (Slot X W) (View E X W)) (f : ℕ → Option X) (n : ℕ) : Type 0 where
   pub table : q.table_id ≡ p.table_id
   pub id : q.id ≡ p.id
-  pub view : q.me.0 ≡ view p.me.0.parts p.me.0.entries q.me.0.held [] p.me.0.tally
+  pub view : q.me.0 ≡ view p.me.0.parts p.me.0.entries q.me.0.held [] p.me.0.tally p.me.0.pile
   pub out : q.me.1 ≡ emptied q.me.0.held
   pub below : below n q.me.0.held ≡ true
   pub falls : descends q.me.0.held ≡ true
   pub carries : Carries m [] q.me.0.held f
 
 -- p gave back the turns from n on, and is now q
-pub record Giving {Store E X : Type 0} (m : Meaning Store E X) (p q : Seat (Option X) (View E X)) (f : ℕ → Option X) (n : ℕ) : Type 0 where
+pub record Giving {Store E X W : Type 0} (m : Meaning Store E X W) (p q : Seat (Slot X W) (View E X W)) (f : ℕ → Option X) (n : ℕ) : Type 0 where
   pub table : q.table_id ≡ p.table_id
   pub id : q.id ≡ p.id
   pub parts : q.me.0.parts ≡ p.me.0.parts
   pub entries : q.me.0.entries ≡ p.me.0.entries
   pub tally : q.me.0.tally ≡ p.me.0.tally
+  pub pile : q.me.0.pile ≡ p.me.0.pile
   pub since : q.me.0.since ≡ since_after q.me.0.held p.me.0.since
   pub out : q.me.1 ≡ emptied q.me.0.held
   pub below : below n q.me.0.held ≡ true

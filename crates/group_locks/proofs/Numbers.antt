@@ -1,5 +1,5 @@
 -- A seat may draw the works of the scene of numbers.
-use Rattle.std.proofs.Common.{◌≡◌, ◌≢◌, ℕ, zero, suc, ◌+◌, ◌*◌, ◌%◌, ◌^◌, ◌<◌, ◌==◌, Bool, List, [], ◌∷◌, ◌++◌, refl, sym, ap, subst, ◌∙◌, arith, Option, Some, None, eqb, eq-eqb, ne_eqb, inl, inr, get_or, replicate}
+use Rattle.std.proofs.Common.{◌≡◌, ◌≢◌, ℕ, zero, suc, ◌+◌, ◌-◌, ◌*◌, ◌%◌, ◌^◌, ◌<◌, ◌≤◌, ◌==◌, true, false, cond, nat_lt, length, Bool, List, [], ◌∷◌, ◌++◌, refl, sym, ap, subst, ◌∙◌, arith, Option, Some, None, eqb, eq-eqb, ne_eqb, inl, inr, get_or, replicate}
 use Rattle.std.proofs.lemmas.Nat.{one_shl}
 use Rattle.std.proofs.lemmas.Nat.Bits.{bit_at-pow_same, bit_at-pow_other}
 use Rattle.std.specs.Int.{bit_at}
@@ -8,7 +8,8 @@ use native.Mathlib.Decide.{ℕ_discrete}
 use Rattle.group_locks.specs.Counts.{one_if, count, Each}
 use Rattle.group_locks.specs.Meaning.{Follows, AllFollow, Passes}
 use Rattle.group_locks.specs.Rule.{Carries}
-use Rattle.group_locks.specs.Numbers.{Has, HasSpace, numbers}
+use Rattle.group_locks.specs.Numbers.{Has, HasSpace, numbers, offer}
+use Rattle.std.proofs.lemmas.Bool.Decides.{nat_tests}
 use Rattle.group_locks.proofs.Sums.{each_to}
 
 pub follow_self : (held : List (ℕ × ℕ)) → AllFollow numbers [] held held
@@ -63,3 +64,16 @@ power_bits n k = dite (ℕ_discrete k n)
 -- the bits of the shard that a work touches
 pub bits : (n k : ℕ) → n < 64 → bit_at (1 * 2 ^ n % 2 ^ 64) k ≡ one_if (n == k)
 bits n k lt = ap (λ b. bit_at b k) (one_shl n 64 lt) ∙ power_bits n k
+
+pub offer_none : (w : ℕ) → w < 64 → offer w ≡ []
+offer_none w lt = let b : nat_lt w 64 ≡ true = grind (arith, nat_tests) in ap {A = Bool} (λ t. cond t [] ((w - 64) ∷ [])) b
+
+pub offer_one : (w : ℕ) → 64 ≤ w → offer w ≡ (w - 64) ∷ []
+offer_one w le = let b : nat_lt w 64 ≡ false = grind (arith, nat_tests) in ap {A = Bool} (λ t. cond t [] ((w - 64) ∷ [])) b
+
+short : (b : Bool) (w : ℕ) → length {A = ℕ} (cond b [] ((w - 64) ∷ [])) ≤ 1
+short true w = omega arith
+short false w = omega arith
+
+pub offer_short : (w : ℕ) → length (offer w) ≤ 1
+offer_short w = short (nat_lt w 64) w

@@ -1,35 +1,43 @@
 -- Seats are cut off and made one under the rule.
-use Rattle.std.proofs.Common.{◌≡◌, ℕ, ◌+◌, ◌*◌, ◌^◌, ◌<◌, ◌≤◌, List, [], ◌∷◌, ◌++◌, length, set, get_or, refl, sym, ap, subst, ◌∙◌, arith, ⊎_elim, Option, length-append}
+use Rattle.std.proofs.Common.{◌≡◌, ℕ, ◌+◌, ◌-◌, false, ◌*◌, ◌^◌, ◌<◌, ◌≤◌, List, [], ◌∷◌, ◌++◌, length, set, get_or, refl, sym, ap, subst, ◌∙◌, arith, ⊎_elim, length-append}
 use mathlib.Core.Option.{some, none}
 use mathlib.Core.Logic.{dite}
 use native.Mathlib.Decide.{dec_le}
 use lib.ListN.{get_elem?}
 use Rattle.atomic_table.specs.Table.{Me, Splits, Joins, Enters, step}
 use Rattle.atomic_table.proofs.Lists.{at_set, at_snoc, set_else}
+use Rattle.group_locks.specs.declared.slot.Slot.{Slot}
 use Rattle.group_locks.specs.declared.view.View.{View}
 use Rattle.group_locks.specs.declared.view.Tally.{Tally}
 use Rattle.group_locks.specs.declared.terms.Terms.{Terms}
-use Rattle.group_locks.specs.Counts.{count, total, Each}
+use Rattle.group_locks.specs.Counts.{count, total, things_of, Each}
 use Rattle.group_locks.specs.Meaning.{Meaning, Follows, store_after}
-use Rattle.group_locks.specs.Rule.{HubRule, cut_left, cut_right, joined, spent, Entered, cost, blank}
+use Rattle.group_locks.specs.Rule.{HubRule, cut_left, cut_right, joined, heaped, spent, Entered, cost, blank, share_of, piles_of}
+use Rattle.group_locks.specs.Works.{bare, Piles, DeskRule, WorkRule, PendRule}
+use Rattle.group_locks.specs.declared.view.Pile.{Pile}
+use Rattle.std.proofs.lemmas.List.{map-append}
+use Rattle.group_locks.proofs.Piles.{at_piles, piles_set, places_more, works_more, pending_more, places_bare, works_bare, pending_bare, places_join, works_join, pending_join}
 use Rattle.group_locks.proofs.Sums.{total_set, total_more, total_both, count_more, each_more}
 
 either_of : (a b : ℕ) (P : Type 0) → (0 < a → P) → (0 < b → P) → 0 < a + b → P
 either_of a b P f g h = dite (dec_le 1 a) (λ le. f (omega arith)) (λ nle. g (omega arith))
 
-module _ {Store E X : Type 0} (m : Meaning Store E X) where
+module _ {Store E X W : Type 0} (m : Meaning Store E X W) where
   -- P holds of each view, where one view is another and one comes
-  of_cut : (P : View E X → Type 0) (views : List (View E X)) (id : ℕ) (w u : View E X) → P w → P u → ((j : ℕ) (y : View E X) → get_elem? views j ≡ some y → P y)
-      → (j : ℕ) (y : View E X) → get_elem? (set views id w ++ u ∷ []) j ≡ some y → P y
+  of_cut : (P : View E X W → Type 0) (views : List (View E X W)) (id : ℕ) (w u : View E X W) → P w → P u → ((j : ℕ) (y : View E X W) → get_elem? views j ≡ some y → P y)
+      → (j : ℕ) (y : View E X W) → get_elem? (set views id w ++ u ∷ []) j ≡ some y → P y
   of_cut P views id w u pw pu all j y bt = ⊎_elim
       (λ s. ⊎_elim (λ q. subst P q.1 pw) (λ q. all j y q.1) (at_set views id j w y s))
       (λ q. subst P q pu) (at_snoc (set views id w) u y j bt)
 
-  pub cut : (opened : List X) (terms : Terms) (id : ℕ) (v : View E X) → 32 ≤ v.parts → v.entries ≡ [] → v.held ≡ [] → v.tally ≡ blank → Splits (HubRule m opened terms) id v (cut_left v) cut_right
-  cut opened terms id v part entries held clear s b at =
-      let w : View E X = cut_left v in let u : View E X = cut_right in
-      let now = store_after m b.store b.log in
-      let same : (f : View E X → ℕ) → f w ≡ f v → f u ≡ 0 → total f (set s.views id w ++ u ∷ []) ≡ total f s.views = λ f e z. (let a = total_set f s.views id v w at in let c = total_more f (set s.views id w) u in omega arith) in
+  pub cut : (opened : List X × List W) (terms : Terms) (id : ℕ) (v : View E X W) → 32 ≤ v.parts → v.entries ≡ [] → v.held ≡ [] → v.tally ≡ blank → v.pile ≡ bare → Splits (HubRule m opened terms) id v (cut_left v) cut_right
+  cut opened terms id v part entries held clear empty s b at =
+      let w : View E X W = cut_left v in let u : View E X W = cut_right in
+      let now = store_after m b.store (things_of b.log) in
+      let at' : get_elem? (piles_of s.views) id ≡ some (v.parts, bare) = at_piles s.views id v at ∙ ap {A = Pile E W} (λ p. some (v.parts, p)) empty in
+      let piles : piles_of (set s.views id w ++ u ∷ []) ≡ set (piles_of s.views) id (v.parts - 32, bare) ++ (32, bare) ∷ [] = map-append share_of (set s.views id w) (u ∷ [])
+      ∙ (ap {A = Piles E W} (λ l. l ++ (32, bare) ∷ []) (piles_set s.views id w) ∙ ap {A = Pile E W} (λ p. set (piles_of s.views) id (v.parts - 32, p) ++ (32, bare) ∷ []) empty) in
+      let same : (f : View E X W → ℕ) → f w ≡ f v → f u ≡ 0 → total f (set s.views id w ++ u ∷ []) ≡ total f s.views = λ f e z. (let a = total_set f s.views id v w at in let c = total_more f (set s.views id w) u in omega arith) in
       record {
         store = b.store;
         log = b.log;
@@ -37,6 +45,7 @@ module _ {Store E X : Type 0} (m : Meaning Store E X) where
         long = b.long;
         few = b.few;
         opens = b.opens;
+        starts = b.starts;
         legal = b.legal;
         turns = record {
           turn = λ k lt. b.turns.turn k lt ∙ sym (same (λ y. count k y.held) refl refl);
@@ -47,7 +56,7 @@ module _ {Store E X : Type 0} (m : Meaning Store E X) where
         };
         draws = record {
           drawn = b.draws.drawn;
-          numbers = of_cut (λ y. Each (λ n e. get_elem? b.log n ≡ some e) y.entries) s.views id w u (b.draws.numbers id v at) tt b.draws.numbers;
+          numbers = of_cut (λ y. Each (λ n e. get_elem? (things_of b.log) n ≡ some e) y.entries) s.views id w u (b.draws.numbers id v at) tt b.draws.numbers;
           once = λ n. same (λ y. count n y.entries) refl refl ∙ b.draws.once n;
           sums = same (λ y. length y.entries) refl refl ∙ b.draws.sums;
           parts = (let a = total_set (λ y. y.parts) s.views id v w at in let c = total_more (λ y. y.parts) (set s.views id w) u in let d = b.draws.parts in omega arith);
@@ -66,21 +75,27 @@ module _ {Store E X : Type 0} (m : Meaning Store E X) where
           no_memory = of_cut (λ y. 0 < y.tally.no_memory → get_or s.words 66 0 ≡ 1) s.views id w u (b.stops.no_memory id v at) (λ z. absurd (omega arith)) b.stops.no_memory;
           fault = of_cut (λ y. 0 < y.tally.fault → get_or s.words 66 0 ≡ 2) s.views id w u (b.stops.fault id v at) (λ z. absurd (omega arith)) b.stops.fault;
         };
+        desks = b.desks;
+        places = let P : Piles E W → Type 0 = λ l. DeskRule s.words s.homes b.desks l in subst P (sym piles) (places_more s.words s.homes b.desks (set (piles_of s.views) id (v.parts - 32, bare)) 32 (places_bare s.words s.homes b.desks (piles_of s.views) id v.parts (v.parts - 32) at' b.places));
+        works = let P : Piles E W → Type 0 = λ l. WorkRule m opened.1 b.log b.desks l in subst P (sym piles) (works_more m opened.1 b.log b.desks (set (piles_of s.views) id (v.parts - 32, bare)) 32 (works_bare m opened.1 b.log b.desks (piles_of s.views) id v.parts (v.parts - 32) at' b.works));
+        pending = let P : Piles E W → Type 0 = λ l. PendRule (length opened.1) (get_or s.words 67 0) b.desks l in subst P (sym piles) (pending_more (length opened.1) (get_or s.words 67 0) b.desks (set (piles_of s.views) id (v.parts - 32, bare)) 32 (pending_bare (length opened.1) (get_or s.words 67 0) b.desks (piles_of s.views) id v.parts (v.parts - 32) at' b.pending));
       }
 
-  of_joined : (P : View E X → Type 0) (views : List (View E X)) (id other : ℕ) (w u : View E X) → P w → P u → ((j : ℕ) (y : View E X) → get_elem? views j ≡ some y → P y)
-      → (j : ℕ) (y : View E X) → get_elem? (set (set views id w) other u) j ≡ some y → P y
+  of_joined : (P : View E X W → Type 0) (views : List (View E X W)) (id other : ℕ) (w u : View E X W) → P w → P u → ((j : ℕ) (y : View E X W) → get_elem? views j ≡ some y → P y)
+      → (j : ℕ) (y : View E X W) → get_elem? (set (set views id w) other u) j ≡ some y → P y
   of_joined P views id other w u pw pu all j y bt = ⊎_elim
       (λ q. subst P q.1 pu)
       (λ s. ⊎_elim (λ q. subst P q.1 pw) (λ q. all j y q.1) (at_set views id j w y s.1))
       (at_set (set views id w) other j u y bt)
 
-  pub join : (opened : List X) (terms : Terms) (id other : ℕ) (v w : View E X) → v.held ≡ [] → w.held ≡ [] → Joins (HubRule m opened terms) id v other w (joined v w) spent
-  join opened terms id other v w v_free w_free s b at apart bt =
-      let j : View E X = joined v w in let u : View E X = spent in
-      let now = store_after m b.store b.log in
+  pub join : (opened : List X × List W) (terms : Terms) (id other : ℕ) (v w : View E X W) → v.held ≡ [] → w.held ≡ [] → (v.pile.owes ≡ false) × (v.pile.desk ≡ []) → (w.pile.owes ≡ false) × (w.pile.desk ≡ []) → Joins (HubRule m opened terms) id v other w (joined v w) spent
+  join opened terms id other v w v_free w_free v_calm w_calm s b at apart bt =
+      let j : View E X W = joined v w in let u : View E X W = spent in
+      let now = store_after m b.store (things_of b.log) in
       let wt : get_elem? s.views other ≡ some w = sym (set_else s.views id other j apart) ∙ bt in
-      let same : (f : View E X → ℕ) → f j ≡ f v + f w → f u ≡ 0 → total f (set (set s.views id j) other u) ≡ total f s.views = λ f e z. (let a = total_set f s.views id v j at in let c = total_set f (set s.views id j) other w u bt in omega arith) in
+      let at' = at_piles s.views id v at in let bt' = at_piles s.views other w wt in
+      let piles : piles_of (set (set s.views id j) other u) ≡ set (set (piles_of s.views) id (v.parts + w.parts, heaped v.pile w.pile)) other (0, bare) = piles_set (set s.views id j) other u ∙ ap {A = Piles E W} (λ l. set l other (0, bare)) (piles_set s.views id j) in
+      let same : (f : View E X W → ℕ) → f j ≡ f v + f w → f u ≡ 0 → total f (set (set s.views id j) other u) ≡ total f s.views = λ f e z. (let a = total_set f s.views id v j at in let c = total_set f (set s.views id j) other w u bt in omega arith) in
       let settled_both : cost m.price (v.tally.settled ++ w.tally.settled) ≡ cost m.price v.tally.settled + cost m.price w.tally.settled = total_both (λ p. m.price p.1) v.tally.settled w.tally.settled in
       let fresh_both : cost m.price (v.tally.fresh ++ w.tally.fresh) ≡ cost m.price v.tally.fresh + cost m.price w.tally.fresh = total_both (λ p. m.price p.1) v.tally.fresh w.tally.fresh in
       let free : (k : ℕ) → 0 ≡ count k v.held + count k w.held = λ k. (let a = ap {A = List (ℕ × X)} (count k) v_free in let c = ap {A = List (ℕ × X)} (count k) w_free in omega arith) in
@@ -91,6 +106,7 @@ module _ {Store E X : Type 0} (m : Meaning Store E X) where
         long = b.long;
         few = b.few;
         opens = b.opens;
+        starts = b.starts;
         legal = b.legal;
         turns = record {
           turn = λ k lt. b.turns.turn k lt ∙ sym (same (λ y. count k y.held) (free k) refl);
@@ -101,7 +117,7 @@ module _ {Store E X : Type 0} (m : Meaning Store E X) where
         };
         draws = record {
           drawn = b.draws.drawn;
-          numbers = of_joined (λ y. Each (λ n e. get_elem? b.log n ≡ some e) y.entries) s.views id other j u (each_more (λ n e. get_elem? b.log n ≡ some e) v.entries w.entries (b.draws.numbers id v at) (b.draws.numbers other w wt)) tt b.draws.numbers;
+          numbers = of_joined (λ y. Each (λ n e. get_elem? (things_of b.log) n ≡ some e) y.entries) s.views id other j u (each_more (λ n e. get_elem? (things_of b.log) n ≡ some e) v.entries w.entries (b.draws.numbers id v at) (b.draws.numbers other w wt)) tt b.draws.numbers;
           once = λ n. same (λ y. count n y.entries) (count_more n v.entries w.entries) refl ∙ b.draws.once n;
           sums = same (λ y. length y.entries) (length-append v.entries w.entries) refl ∙ b.draws.sums;
           parts = same (λ y. y.parts) refl refl ∙ b.draws.parts;
@@ -121,17 +137,22 @@ module _ {Store E X : Type 0} (m : Meaning Store E X) where
           no_memory = of_joined (λ y. 0 < y.tally.no_memory → get_or s.words 66 0 ≡ 1) s.views id other j u (either_of v.tally.no_memory w.tally.no_memory (get_or s.words 66 0 ≡ 1) (b.stops.no_memory id v at) (b.stops.no_memory other w wt)) (λ z. absurd (omega arith)) b.stops.no_memory;
           fault = of_joined (λ y. 0 < y.tally.fault → get_or s.words 66 0 ≡ 2) s.views id other j u (either_of v.tally.fault w.tally.fault (get_or s.words 66 0 ≡ 2) (b.stops.fault id v at) (b.stops.fault other w wt)) (λ z. absurd (omega arith)) b.stops.fault;
         };
+        desks = b.desks;
+        places = let P : Piles E W → Type 0 = λ l. DeskRule s.words s.homes b.desks l in subst P (sym piles) (places_join (piles_of s.views) id other v.parts w.parts v.pile w.pile at' bt' apart s.words s.homes b.desks v_calm.1 w_calm.1 b.places);
+        works = let P : Piles E W → Type 0 = λ l. WorkRule m opened.1 b.log b.desks l in subst P (sym piles) (works_join (piles_of s.views) id other v.parts w.parts v.pile w.pile at' bt' apart m opened.1 b.log b.desks b.works);
+        pending = let P : Piles E W → Type 0 = λ l. PendRule (length opened.1) (get_or s.words 67 0) b.desks l in subst P (sym piles) (pending_join (piles_of s.views) id other v.parts w.parts v.pile w.pile at' bt' apart (length opened.1) (get_or s.words 67 0) b.desks v_calm.0 w_calm.0 b.pending);
       }
 
-  of_more : (P : View E X → Type 0) (views : List (View E X)) (u : View E X) → P u → ((j : ℕ) (y : View E X) → get_elem? views j ≡ some y → P y)
-      → (j : ℕ) (y : View E X) → get_elem? (views ++ u ∷ []) j ≡ some y → P y
+  of_more : (P : View E X W → Type 0) (views : List (View E X W)) (u : View E X W) → P u → ((j : ℕ) (y : View E X W) → get_elem? views j ≡ some y → P y)
+      → (j : ℕ) (y : View E X W) → get_elem? (views ++ u ∷ []) j ≡ some y → P y
   of_more P views u pu all j y bt = ⊎_elim (λ s. all j y s) (λ q. subst P q pu) (at_snoc views u y j bt)
 
-  pub enter : (opened : List X) (terms : Terms) (slots : ℕ) (me : Me (Option X) (View E X)) → Enters (HubRule m opened terms) slots 0 (λ n w. Entered (step slots 0 0 0 none) me n (w, []))
+  pub enter : (opened : List X × List W) (terms : Terms) (slots : ℕ) (me : Me (Slot X W) (View E X W)) → Enters (HubRule m opened terms) slots 0 (λ n w. Entered (step slots 0 0 0 none) me n (w, []))
   enter opened terms slots me s b len fits =
-      let u : View E X = spent in
-      let now = store_after m b.store b.log in
-      let same : (f : View E X → ℕ) → f u ≡ 0 → total f (s.views ++ u ∷ []) ≡ total f s.views = λ f z. (let c = total_more f s.views u in omega arith) in (
+      let u : View E X W = spent in
+      let now = store_after m b.store (things_of b.log) in
+      let piles : piles_of (s.views ++ u ∷ []) ≡ piles_of s.views ++ (0, bare) ∷ [] = map-append share_of s.views (u ∷ []) in
+      let same : (f : View E X W → ℕ) → f u ≡ 0 → total f (s.views ++ u ∷ []) ≡ total f s.views = λ f z. (let c = total_more f s.views u in omega arith) in (
         u,
         record {
           store = b.store;
@@ -140,6 +161,7 @@ module _ {Store E X : Type 0} (m : Meaning Store E X) where
           long = b.long;
           few = b.few;
           opens = b.opens;
+          starts = b.starts;
           legal = b.legal;
           turns = record {
             turn = λ k lt. b.turns.turn k lt ∙ sym (same (λ y. count k y.held) refl);
@@ -150,7 +172,7 @@ module _ {Store E X : Type 0} (m : Meaning Store E X) where
           };
           draws = record {
             drawn = b.draws.drawn;
-            numbers = of_more (λ y. Each (λ n e. get_elem? b.log n ≡ some e) y.entries) s.views u tt b.draws.numbers;
+            numbers = of_more (λ y. Each (λ n e. get_elem? (things_of b.log) n ≡ some e) y.entries) s.views u tt b.draws.numbers;
             once = λ n. same (λ y. count n y.entries) refl ∙ b.draws.once n;
             sums = same (λ y. length y.entries) refl ∙ b.draws.sums;
             parts = same (λ y. y.parts) refl ∙ b.draws.parts;
@@ -169,6 +191,10 @@ module _ {Store E X : Type 0} (m : Meaning Store E X) where
             no_memory = of_more (λ y. 0 < y.tally.no_memory → get_or s.words 66 0 ≡ 1) s.views u (λ z. absurd (omega arith)) b.stops.no_memory;
             fault = of_more (λ y. 0 < y.tally.fault → get_or s.words 66 0 ≡ 2) s.views u (λ z. absurd (omega arith)) b.stops.fault;
           };
+          desks = b.desks;
+          places = let P : Piles E W → Type 0 = λ l. DeskRule s.words s.homes b.desks l in subst P (sym piles) (places_more s.words s.homes b.desks (piles_of s.views) 0 b.places);
+          works = let P : Piles E W → Type 0 = λ l. WorkRule m opened.1 b.log b.desks l in subst P (sym piles) (works_more m opened.1 b.log b.desks (piles_of s.views) 0 b.works);
+          pending = let P : Piles E W → Type 0 = λ l. PendRule (length opened.1) (get_or s.words 67 0) b.desks l in subst P (sym piles) (pending_more (length opened.1) (get_or s.words 67 0) b.desks (piles_of s.views) 0 b.pending);
         },
         refl,
       )

@@ -1,7 +1,8 @@
 -- Sums over views, where one view changes or comes.
-use Rattle.std.proofs.Common.{◌≡◌, ◌≢◌, ℕ, zero, suc, ◌+◌, ◌<◌, ◌≤◌, List, [], ◌∷◌, ◌++◌, set, refl, sym, ap, arith, ◌*◌, eqb, eq-eqb, add-mul}
+use Rattle.std.proofs.Common.{◌≡◌, ◌≢◌, ℕ, zero, suc, ◌+◌, ◌<◌, ◌≤◌, List, [], ◌∷◌, ◌++◌, map, set, refl, sym, ap, arith, ◌*◌, eqb, eq-eqb, add-mul, subst, ⊎_elim}
 use mathlib.Core.Option.{some, some-injective, some-ne-none}
 use lib.ListN.{get_elem?}
+use Rattle.atomic_table.proofs.Lists.{at_set}
 use Rattle.group_locks.specs.Counts.{one_if, total, count, Each}
 
 module _ {A : Type 0} where
@@ -60,3 +61,15 @@ module _ {A : Type 0} where
   pub total_times : (f : A → ℕ) (k : ℕ) (xs : List A) → total (λ x. f x * k) xs ≡ total f xs * k
   total_times f k [] = omega arith
   total_times f k (x ∷ xs) = let r = total_times f k xs in omega (arith, add-mul (f x) (total f xs) k)
+
+-- what holds of the one that changes and of all others
+pub of_set : {A : Type 0} (P : A → Type 0) (xs : List A) (i : ℕ) (w : A) → P w → ((j : ℕ) (u : A) → get_elem? xs j ≡ some u → P u) → (j : ℕ) (u : A) → get_elem? (set xs i w) j ≡ some u → P u
+of_set P xs i w here all j u at = ⊎_elim (λ s. subst P s.1 here) (λ s. all j u s.1) (at_set xs i j w u at)
+
+pub total_map : {A B : Type 0} (f : B → ℕ) (g : A → B) (xs : List A) → total f (map g xs) ≡ total (λ x. f (g x)) xs
+total_map f g [] = refl
+total_map f g (x ∷ xs) = ap (λ (n : ℕ). f (g x) + n) (total_map f g xs)
+
+pub each_cut : {A : Type 0} (P : ℕ → A → Type 0) (ps qs : List (ℕ × A)) → Each P (ps ++ qs) → Each P ps × Each P qs
+each_cut P [] qs h = (tt, h)
+each_cut P (p ∷ ps) qs h = let r = each_cut P ps qs h.1 in ((h.0, r.0), r.1)

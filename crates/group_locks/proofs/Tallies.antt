@@ -1,25 +1,23 @@
 -- What seats charged and what they found, where one view changes.
-use Rattle.std.proofs.Common.{◌≡◌, ℕ, ◌+◌, ◌*◌, ◌^◌, ◌<◌, ◌≤◌, ◌⊎◌, Bool, max, List, [], ◌++◌, length, set, get_or, refl, sym, ap, subst, ◌∙◌, arith, ⊎_elim, inl, inr, Option, get_or-set_other}
+use Rattle.std.proofs.Common.{◌≡◌, ℕ, ◌+◌, ◌*◌, ◌^◌, ◌<◌, ◌≤◌, ◌⊎◌, Bool, max, List, [], ◌++◌, length, set, get_or, refl, sym, ap, subst, ◌∙◌, arith, ⊎_elim, inl, inr, get_or-set_other}
 use Rattle.std.proofs.Math.ListN.{length-set}
 use mathlib.Core.Option.{some}
 use mathlib.Core.Option as opt
 use lib.ListN.{get_elem?}
 use Rattle.atomic_table.specs.Table.{State, keeps, stepped}
-use Rattle.atomic_table.proofs.Lists.{at_set, at_longer}
+use Rattle.atomic_table.proofs.Lists.{at_longer}
+use Rattle.group_locks.specs.declared.slot.Slot.{Slot}
 use Rattle.group_locks.specs.declared.view.View.{View}
 use Rattle.group_locks.specs.declared.view.Tally.{Tally}
 use Rattle.group_locks.specs.declared.terms.Terms.{Terms}
 use Rattle.group_locks.specs.declared.terms.StopCause.{StopCause}
 use Rattle.group_locks.specs.declared.terms.StopCause.TheVariants.{Fault, NoMemory}
 use Rattle.group_locks.specs.Stops.{code_of, HasFault}
-use Rattle.group_locks.specs.Counts.{count, total, Each}
+use Rattle.group_locks.specs.Counts.{count, total, things_of, Each}
 use Rattle.group_locks.specs.Meaning.{Meaning, Follows, store_after}
 use Rattle.group_locks.specs.Rule.{with_tally, cost, TurnRule, DrawRule, ChargeRule, StopRule, FaultIn, HubRule}
-use Rattle.group_locks.proofs.Sums.{total_set, total_same}
-
--- what holds of the view that changes and of all others
-pub of_set : {A : Type 0} (P : A → Type 0) (xs : List A) (i : ℕ) (w : A) → P w → ((j : ℕ) (u : A) → get_elem? xs j ≡ some u → P u) → (j : ℕ) (u : A) → get_elem? (set xs i w) j ≡ some u → P u
-of_set P xs i w here all j u at = ⊎_elim (λ s. subst P s.1 here) (λ s. all j u s.1) (at_set xs i j w u at)
+use Rattle.group_locks.proofs.Sums.{total_set, total_same, of_set}
+use Rattle.group_locks.proofs.Piles.{places_keep, works_keep, pending_keep}
 
 -- a fault stays in a list that grows
 pub fault_stays : {E : Type 0} (faults : E → Bool) (log more : List E) → FaultIn faults log → FaultIn faults (log ++ more)
@@ -34,9 +32,9 @@ pub cause_codes : {E : Type 0} (faults : E → Bool) (es : List (ℕ × E)) (cau
 cause_codes faults es Fault n is asks = inr (is, asks refl)
 cause_codes faults es NoMemory n is asks = inl is
 
-module _ {E X : Type 0} where
+module _ {E X W : Type 0} where
   -- charges, where the word rises by what is charged
-  pub charges_set : (price : E → ℕ) (terms : Terms) (word word' : ℕ) (views : List (View E X)) (id : ℕ) (v w : View E X) → get_elem? views id ≡ some v
+  pub charges_set : (price : E → ℕ) (terms : Terms) (word word' : ℕ) (views : List (View E X W)) (id : ℕ) (v w : View E X W) → get_elem? views id ≡ some v
       → word' + (cost price v.tally.settled + cost price v.tally.fresh) ≡ word + (cost price w.tally.settled + cost price w.tally.fresh) → word ≤ word'
       → (total (λ y. cost price y.tally.fresh) (set views id w) + cost price v.tally.fresh ≡ total (λ y. cost price y.tally.fresh) views + cost price w.tally.fresh → word' ≤ max terms.spent terms.limit + total (λ y. cost price y.tally.fresh) (set views id w))
       → cost price w.tally.fresh ≤ w.parts * 2 ^ 51 → (w.parts ≡ 0 → cost price w.tally.settled + cost price w.tally.fresh ≡ 0) → (0 < w.tally.over → terms.limit < word')
@@ -51,7 +49,7 @@ module _ {E X : Type 0} where
   }
 
   -- charges stay where a view keeps what is its own in them
-  pub charges_stay : (price : E → ℕ) (terms : Terms) (word word' : ℕ) (views : List (View E X)) (id : ℕ) (v w : View E X) → word' ≡ word → get_elem? views id ≡ some v
+  pub charges_stay : (price : E → ℕ) (terms : Terms) (word word' : ℕ) (views : List (View E X W)) (id : ℕ) (v w : View E X W) → word' ≡ word → get_elem? views id ≡ some v
       → w.tally.settled ≡ v.tally.settled → w.tally.fresh ≡ v.tally.fresh → w.tally.over ≡ v.tally.over → w.parts ≡ v.parts
       → ChargeRule price terms word views → ChargeRule price terms word' (set views id w)
   charges_stay price terms word word' views id v w same at settled fresh over parts b =
@@ -62,7 +60,7 @@ module _ {E X : Type 0} where
       (λ o. let p = b.over id v at (let q = over in omega arith) in omega arith) b
 
   -- the stop, where the word stays once it is set
-  pub stops_set : (faults : E → Bool) (log log' : List E) (word word' : ℕ) (views : List (View E X)) (id : ℕ) (w : View E X)
+  pub stops_set : (faults : E → Bool) (log log' : List E) (word word' : ℕ) (views : List (View E X W)) (id : ℕ) (w : View E X W)
       → ((word' ≡ 0) ⊎ ((word' ≡ 1) ⊎ ((word' ≡ 2) × FaultIn faults log'))) → (0 < word → word' ≡ word)
       → (0 < w.tally.no_memory → word' ≡ 1) → (0 < w.tally.fault → word' ≡ 2)
       → StopRule faults log word views → StopRule faults log' word' (set views id w)
@@ -73,13 +71,13 @@ module _ {E X : Type 0} where
   }
 
   -- the stop stays where a view keeps what it found, also after a further entry
-  pub stops_grow : (faults : E → Bool) (log more : List E) (word word' : ℕ) (views : List (View E X)) (id : ℕ) (v w : View E X) → word' ≡ word → get_elem? views id ≡ some v
+  pub stops_grow : (faults : E → Bool) (log more : List E) (word word' : ℕ) (views : List (View E X W)) (id : ℕ) (v w : View E X W) → word' ≡ word → get_elem? views id ≡ some v
       → w.tally.no_memory ≡ v.tally.no_memory → w.tally.fault ≡ v.tally.fault → StopRule faults log word views → StopRule faults (log ++ more) word' (set views id w)
   stops_grow faults log more word word' views id v w same at no_memory fault b =
       stops_set faults log (log ++ more) word word' views id w (cause_stays faults log more word word' same b.cause) (λ _. same)
       (λ o. same ∙ b.no_memory id v at (let q = no_memory in omega arith)) (λ o. same ∙ b.fault id v at (let q = fault in omega arith)) b
 
-  pub stops_stay : (faults : E → Bool) (log : List E) (word word' : ℕ) (views : List (View E X)) (id : ℕ) (v w : View E X) → word' ≡ word → get_elem? views id ≡ some v
+  pub stops_stay : (faults : E → Bool) (log : List E) (word word' : ℕ) (views : List (View E X W)) (id : ℕ) (v w : View E X W) → word' ≡ word → get_elem? views id ≡ some v
       → w.tally.no_memory ≡ v.tally.no_memory → w.tally.fault ≡ v.tally.fault → StopRule faults log word views → StopRule faults log word' (set views id w)
   stops_stay faults log word word' views id v w same at no_memory fault b =
       let P : ℕ → Type 0 = λ n. (n ≡ 0) ⊎ ((n ≡ 1) ⊎ ((n ≡ 2) × FaultIn faults log)) in
@@ -87,7 +85,7 @@ module _ {E X : Type 0} where
       (λ o. same ∙ b.no_memory id v at (let q = no_memory in omega arith)) (λ o. same ∙ b.fault id v at (let q = fault in omega arith)) b
 
   -- draws stay where only a tally changes
-  books_keep : (seats : ℕ) (log : List E) (word word' : ℕ) (views : List (View E X)) (id : ℕ) (v : View E X) (t : Tally E)
+  books_keep : (seats : ℕ) (log : List E) (word word' : ℕ) (views : List (View E X W)) (id : ℕ) (v : View E X W) (t : Tally E)
       → word' ≡ word → get_elem? views id ≡ some v → DrawRule seats log word views → DrawRule seats log word' (set views id (with_tally v t))
   books_keep seats log word word' views id v t same at b = record {
     drawn = same ∙ b.drawn;
@@ -98,13 +96,13 @@ module _ {E X : Type 0} where
     small = of_set (λ y. length y.entries ≤ y.parts * 2 ^ 53) views id (with_tally v t) (b.small id v at) b.small;
   }
 
-module _ {Store E X : Type 0} (m : Meaning Store E X) where
+module _ {Store E X W : Type 0} (m : Meaning Store E X W) where
   -- turns stay where only a tally and other words change
-  turns_keep : (now : Store) (words words' : List ℕ) (homes : List (opt.Option (Option X))) (views : List (View E X)) (id : ℕ) (v : View E X) (t : Tally E)
+  turns_keep : (now : Store) (words words' : List ℕ) (homes : List (opt.Option (Slot X W))) (views : List (View E X W)) (id : ℕ) (v : View E X W) (t : Tally E)
       → ((k : ℕ) → k < 64 → get_or words' (k + 1) 0 ≡ get_or words (k + 1) 0) → get_elem? views id ≡ some v
       → TurnRule m now words homes views → TurnRule m now words' homes (set views id (with_tally v t))
   turns_keep now words words' homes views id v t same at b =
-      let w : View E X = with_tally v t in
+      let w : View E X W = with_tally v t in
       let sums : (k : ℕ) → total (λ u. count k u.held) (set views id w) ≡ total (λ u. count k u.held) views = λ k. total_same (λ u. count k u.held) views id v w at refl in
       record {
         turn = λ k lt. same k lt ∙ (b.turn k lt ∙ sym (sums k));
@@ -115,21 +113,26 @@ module _ {Store E X : Type 0} (m : Meaning Store E X) where
       }
 
   -- a step on the charged word or the stop word, which changes a tally
-  pub tally_step : (opened : List X) (terms : Terms) (s : State (Option X) (View E X)) (i n id : ℕ) (v : View E X) (t : Tally E) (c : List (ℕ × Option X)) → 65 ≤ i → get_elem? s.views id ≡ some v
+  pub tally_step : (opened : List X × List W) (terms : Terms) (s : State (Slot X W) (View E X W)) (i n id : ℕ) (v : View E X W) (t : Tally E) (c : List (ℕ × Slot X W)) → 65 ≤ i → i ≤ 66 → get_elem? s.views id ≡ some v
       → (b : HubRule m opened terms s)
       → ChargeRule m.price terms (get_or (set s.words i n) 65 0) (set s.views id (with_tally v t))
-      → StopRule m.faults b.log (get_or (set s.words i n) 66 0) (set s.views id (with_tally v t))
+      → StopRule m.faults (things_of b.log) (get_or (set s.words i n) 66 0) (set s.views id (with_tally v t))
       → HubRule m opened terms (stepped s i n id c (with_tally v t) keeps)
-  tally_step opened terms s i n id v t c high at b charges stops = record {
+  tally_step opened terms s i n id v t c high low at b charges stops = record {
     store = b.store;
     log = b.log;
     wide = length-set s.words i n ∙ b.wide;
     long = b.long;
     few = b.few;
     opens = b.opens;
+    starts = b.starts;
     legal = b.legal;
-    turns = turns_keep (store_after m b.store b.log) s.words (set s.words i n) s.homes s.views id v t (λ k lt. get_or-set_other s.words i (k + 1) n 0 (λ e. omega arith)) at b.turns;
-    draws = books_keep terms.seats b.log (get_or s.words 0 0) (get_or (set s.words i n) 0 0) s.views id v t (get_or-set_other s.words i 0 n 0 (λ e. omega arith)) at b.draws;
+    turns = turns_keep (store_after m b.store (things_of b.log)) s.words (set s.words i n) s.homes s.views id v t (λ k lt. get_or-set_other s.words i (k + 1) n 0 (λ e. omega arith)) at b.turns;
+    draws = books_keep terms.seats (things_of b.log) (get_or s.words 0 0) (get_or (set s.words i n) 0 0) s.views id v t (get_or-set_other s.words i 0 n 0 (λ e. omega arith)) at b.draws;
     charges = charges;
     stops = stops;
+    desks = b.desks;
+    places = places_keep s.words (set s.words i n) s.homes s.homes b.desks s.views id v (with_tally v t) at refl (λ d lt. get_or-set_other s.words i (d + 68) n 0 (λ e. omega arith)) (λ d lt. refl) b.places;
+    works = works_keep m opened.1 b.log b.desks s.views id v (with_tally v t) at refl b.works;
+    pending = pending_keep (length opened.1) (get_or s.words 67 0) (get_or (set s.words i n) 67 0) b.desks s.views id v (with_tally v t) (get_or-set_other s.words i 67 n 0 (λ e. omega arith)) at refl b.pending;
   }

@@ -38,3 +38,13 @@ placed rows (p ∷ ps) = placed (set rows p.0 (Some p.1)) ps
 -- the item at place k of the list is the projection of the store to k
 abbrev pub Projected : {Store X : Type 0} → (Store → ℕ → X → Type 0) → Store → List X → Type 0
 Projected {X = X} projects store xs = (k : ℕ) (x : X) → slice_get xs k ≡ Some x → projects store k x
+
+-- the things without their numbers
+abbrev pub things_of : {A : Type 0} → List (ℕ × A) → List A
+things_of [] = []
+things_of (p ∷ ps) = p.1 ∷ things_of ps
+
+-- numbered from the base on
+abbrev pub numbered : {A : Type 0} → ℕ → List A → List (ℕ × A)
+numbered base [] = []
+numbered base (x ∷ xs) = (base, x) ∷ numbered (base + 1) xs

@@ -1,7 +1,8 @@
--- The scene of numbers, which tests use: each shard is a number, and the work w adds 1 to the shard of its remainder by 64.
-use Rattle.std.specs.Prelude.{◌≡◌, ℕ, ◌+◌, ◌%◌, ◌^◌, ◌<◌, ◌⊎◌, Bool, false, cond, ◌==◌, List, [], ◌∷◌}
+-- The scene of numbers, which tests use: each shard is a number, and the work w, which one entry ends, adds 1 to the shard of its remainder by 64 and
+-- offers the work w - 64, where w is at least 64.
+use Rattle.std.specs.Prelude.{◌≡◌, ℕ, ◌+◌, ◌%◌, ◌^◌, ◌<◌, ◌⊎◌, Bool, true, false, cond, nat_lt, ◌-◌, ◌==◌, List, [], ◌∷◌}
 use Rattle.std.proofs.Common.{sym, ap, subst, ◌∙◌, ⊎_elim, arith}
-use Rattle.group_locks.specs.Counts.{Each}
+use Rattle.group_locks.specs.Counts.{Each, things_of}
 use Rattle.group_locks.specs.Meaning.{Meaning, Lawful, store_after}
 
 -- the numbers after a work
@@ -41,9 +42,29 @@ cost_one w = 1
 abbrev pub never : ℕ → Bool
 never w = false
 
+-- every store and every works
+abbrev pub any : (ℕ → ℕ) → List ℕ → Type 0
+any st works = Unit {0}
+
+-- an entry takes the work that it is
+abbrev pub itself : ℕ → ℕ
+itself w = w
+
+-- an entry ends its work
+abbrev pub always : ℕ → Bool
+always w = true
+
+-- the work that is offered, if one is
+abbrev pub offer : ℕ → List ℕ
+offer w = cond (nat_lt w 64) [] ((w - 64) ∷ [])
+
+-- the earlier entries on a work tell nothing
+abbrev pub tells_space : List (ℕ × ℕ) → List ℕ → ℕ → Type 0
+tells_space shards took w = HasSpace shards w
+
 -- what works mean
-abbrev pub numbers : Meaning (ℕ → ℕ) ℕ ℕ
-numbers = record { projects = IsNumber; after = added; allows = InRange; touched = touches; effect = OneMore; price = cost_one; faults = never; tells = HasSpace }
+abbrev pub numbers : Meaning (ℕ → ℕ) ℕ ℕ ℕ
+numbers = record { projects = IsNumber; opens = any; takes = itself; ends = always; offers = offer; after = added; allows = InRange; touched = touches; effect = OneMore; price = cost_one; faults = never; tells = tells_space }
 
 shown : (st : ℕ → ℕ) (shards : List (ℕ × ℕ)) (n x : ℕ) → Has shards n x → Each (IsNumber st) shards → st n ≡ x
 shown st [] n x h s = absurd h
@@ -54,6 +75,6 @@ pub lawful : Lawful numbers
 lawful = record {
   untouched = λ st w k x z is. subst (λ b. cond b (st k + 1) (st k) ≡ x) (sym z) is;
   projection = λ st w k x y may yes is up. subst (λ b. cond b (st k + 1) (st k) ≡ y) (sym yes) (ap (λ n. n + 1) is ∙ sym up);
-  told = λ st log shards w legal all tells. subst (λ n. n + 1 < 2 ^ 64) (sym (shown (store_after numbers st log) shards (w % 64) tells.0 tells.1 all)) tells.2;
+  told = λ st works log shards i w opens legal pends all tells. subst (λ n. n + 1 < 2 ^ 64) (sym (shown (store_after numbers st (things_of log)) shards (w % 64) tells.0 tells.1 all)) tells.2;
   cheap = λ w. omega arith;
 }

@@ -1,24 +1,26 @@
 //! The end of a hub.
-ghost use Rattle.std.specs.Prelude.{◌≡◌, ℕ, ◌+◌, ◌*◌, ◌<◌, ◌≤◌, [], ◌++◌, Some, IfOk, OnOk, IfErr, IfSome, IsSome, max, length, slice_get, vec_capacity};
+ghost use Rattle.std.specs.Prelude.{◌≡◌, ℕ, ◌+◌, ◌*◌, ◌<◌, ◌≤◌, [], ◌++◌, Some, IfOk, OnOk, IfErr, IfSome, IsSome, max, length, slice_get, vec_capacity, ◌%◌, ◌^◌, List};
 ghost use Rattle.std.specs.List.{All};
 ghost use Rattle.group_locks.specs.Counts.{all_of, total, Each};
 ghost use Rattle.group_locks.specs.Meaning.{Ran};
+ghost use Rattle.group_locks.specs.Works.{LiesOn, FilledFrom};
 ghost use Rattle.group_locks.specs.Stops.{FaultOf, FaultCause};
 ghost use Rattle.group_locks.specs.Rule.{view, spent, cost, RanBy};
-ghost use Rattle.group_locks.specs.Seats.{AtRest, drawn_by, charged_by, settled_by, fresh_by, due_of, over_of, memory_of, faults_of, stops_of, gathered, opened_shards, seat_count, spent_of, limit_of};
+ghost use Rattle.group_locks.specs.Seats.{AtRest, drawn_by, pile_of, hand_of, empty_of, heap_of, opened_works, FitsLeft, charged_by, settled_by, fresh_by, due_of, over_of, memory_of, faults_of, stops_of, gathered, opened_shards, seat_count, spent_of, limit_of};
 ghost use mathlib.Core.Option.{some};
 ghost use lib.ListN.{get_elem?};
-ghost use Rattle.std.specs.Mem.Slots.{slots_items, slots_len, IsFull};
+ghost use Rattle.std.specs.Mem.Slots.{slots_items, slots_len, slots_filled, IsFull};
 
 use crate::hub::{Hub, Pool};
-use crate::order::{empty_places, in_order};
+use crate::order::{empty_places, in_order, move_all};
 use crate::rule::{Enter, Merge};
 use crate::scene::Scene;
 use crate::seat::Seat;
+use crate::slot::Slot;
 use crate::state::SeatState;
 use crate::steps::{Board, CHARGED, STOP, Token};
 use crate::terms::StopCause;
-use std::alloc::Global;
+use std::alloc::{AllocError, Global};
 
 // Makes all seats one, and moves their entries into one list.
 fn gather<S: Scene>(
@@ -33,48 +35,74 @@ fn gather<S: Scene>(
     requires room { total (λ s. length (drawn_by s.state)) seats.items ≤ vec_capacity all.old }
     ensures same { token.new.table_id ≡ token.old.table_id }
     ensures all { all.new.items ≡ all_of (λ s. drawn_by s.state) seats.items }
-    ensures view { token.new.me ≡ (view (32 * length seats.items) all.new.items [] [] (gathered (λ s. s.state) seats.items), []) }
+    ensures view { token.new.me ≡ (view (32 * length seats.items) all.new.items [] [] (gathered (λ s. s.state) seats.items) (heap_of (λ s. s.state) seats.items), []) }
 {
     for seat in seats {
         let Seat { state } = seat;
         let SeatState {
             token: other,
             entries,
+            desk: _,
+            moved: _,
         } = state;
         board.join_seat::<Merge>(token, other);
         move_all(entries, all);
     }
 }
 
-fn move_all<T: Drop>(things: Vec<T>, all: &mut Vec<T>)
-    requires { length all.old.items + length things.items ≤ vec_capacity all.old }
-    ensures items { all.new.items ≡ all.old.items ++ things.items }
-    ensures room { vec_capacity all.new ≡ vec_capacity all.old }
+fn shard_of<X: Drop, W: Drop>(slot: Slot<X, W>) -> X
+    requires { (x : X) × (slot ≡ Slot.Shard (Some x)) }
+    ensures { slot ≡ Slot.Shard (Some result) }
 {
-    for thing in things {
-        all.push_reserved(thing);
-    }
+    let Slot::Shard(Some(shard)) = slot else {
+        unreachable!()
+    };
+    shard
+}
+
+fn works_of<X: Drop, W: Drop>(slot: Slot<X, W>) -> Vec<W>
+    requires { (works : _) × (slot ≡ Slot.Desk works) }
+    ensures { slot ≡ Slot.Desk result }
+{
+    let Slot::Desk(works) = slot else {
+        unreachable!()
+    };
+    works
 }
 
 // Takes the shards out of their slots.
-fn take_shards<X: Drop>(
-    mut closed: atomic_table::Closed<Option<X>, Global>,
+fn take_shards<X: Drop, W: Drop>(
+    mut closed: atomic_table::Closed<Slot<X, W>, Global>,
     mut out: Vec<X>,
-) -> Vec<X>
-    requires slots { (slots_len closed.slots ≡ 64) × IsFull closed.slots }
-    requires home { (k : ℕ) → k < 64 → (x : X) × (get_elem? (slots_items closed.slots) k ≡ some (Some x)) }
+) -> (Vec<X>, atomic_table::Closed<Slot<X, W>, Global>)
+    requires slots { (slots_len closed.slots ≡ 96) × IsFull closed.slots }
+    requires home { (k : ℕ) → k < 64 → (x : X) × (get_elem? (slots_items closed.slots) k ≡ some (Slot.Shard (Some x))) }
     requires room { (out.items ≡ []) × (64 ≤ vec_capacity out) }
-    ensures long { length result.items ≡ 64 }
-    ensures items { (k : ℕ) (x : X) → slice_get result.items k ≡ Some x → get_elem? (slots_items closed.slots) k ≡ some (Some x) }
+    ensures long { length result.0.items ≡ 64 }
+    ensures items { (k : ℕ) (x : X) → slice_get result.0.items k ≡ Some x → get_elem? (slots_items closed.slots) k ≡ some (Slot.Shard (Some x)) }
+    ensures left { (slots_items result.1.slots ≡ slots_items closed.slots) × (slots_len result.1.slots ≡ 96) × FilledFrom 64 96 (slots_filled result.1.slots) }
 {
     for number in 0..64usize {
-        let Some(shard) = closed.take(number) else {
-            unreachable!()
-        };
-        out.push_reserved(shard);
+        out.push_reserved(shard_of(closed.take(number)));
+    }
+    (out, closed)
+}
+
+// Takes the works out of the slots of the desks.
+fn take_left<X: Drop, W: Drop>(
+    mut closed: atomic_table::Closed<Slot<X, W>, Global>,
+    mut left: Vec<W>,
+) -> Vec<W>
+    requires slots { (slots_len closed.slots ≡ 96) × FilledFrom 64 96 (slots_filled closed.slots) }
+    requires desks { (lists : List (List W)) × (length lists ≡ 32) × LiesOn (slots_items closed.slots) lists × (length (all_of (λ l. l) lists) ≤ vec_capacity left) }
+    requires room { left.items ≡ [] }
+    ensures { (lists : List (List W)) → length lists ≡ 32 → LiesOn (slots_items closed.slots) lists → result.items ≡ all_of (λ l. l) lists }
+{
+    for desk in 64..96usize {
+        move_all(works_of(closed.take(desk)), &mut left);
     }
     closed.free();
-    out
+    left
 }
 
 // What a hub leaves, with the entries as the seats drew them.
@@ -82,6 +110,7 @@ fn take_shards<X: Drop>(
 struct Ended<S: Scene> {
     entries: Vec<(u64, S::Entry)>,
     shards: Vec<S::Shard>,
+    left: Vec<S::Work>,
     charged: u64,
     stop: Option<StopCause>,
 }
@@ -92,13 +121,16 @@ fn end<S: Scene>(
     seats: Vec<Seat<S>>,
     mut entries: Vec<(u64, S::Entry)>,
     shards: Vec<S::Shard>,
+    left: Vec<S::Work>,
 ) -> Ended<S>
     requires seats { All (λ s. AtRest hub.table.shared.table_id s.state) seats.items }
     requires count { length seats.items ≡ seat_count hub.table.shared.key }
+    requires left { (left.items ≡ []) × FitsLeft (length (opened_works hub.table.shared.key)) (λ s. s.state) seats.items (vec_capacity left) }
     requires room { (entries.items ≡ []) × (total (λ s. length (drawn_by s.state)) seats.items ≤ vec_capacity entries) × (shards.items ≡ []) × (64 ≤ vec_capacity shards) }
     ensures entries { result.entries.items ≡ all_of (λ s. drawn_by s.state) seats.items }
     ensures shards { length result.shards.items ≡ 64 }
-    ensures ran { RanBy S.meaning (opened_shards hub.table.shared.key) result.entries.items result.shards.items (FaultCause S.meaning.faults result.stop) }
+    ensures ran { RanBy S.meaning (opened_shards hub.table.shared.key) (opened_works hub.table.shared.key) result.entries.items result.shards.items result.left.items (all_of (λ s. hand_of s.state) seats.items) (FaultCause S.meaning.faults result.stop) }
+    ensures empty { All (λ s. 0 < empty_of s.state → (result.left.items ≡ []) × (all_of (λ t. hand_of t.state) seats.items ≡ [])) seats.items }
     ensures paid { result.charged ≡ spent_of hub.table.shared.key + total (λ s. cost S.meaning.price (charged_by s.state)) seats.items }
     ensures bounded { spent_of hub.table.shared.key + total (λ s. cost S.meaning.price (settled_by s.state)) seats.items ≤ max (spent_of hub.table.shared.key) (limit_of hub.table.shared.key) }
     ensures over { All (λ s. 0 < over_of s.state → limit_of hub.table.shared.key < result.charged) seats.items }
@@ -110,6 +142,7 @@ fn end<S: Scene>(
         table,
         scene: _,
         terms: _,
+        work: _,
     } = hub;
     let mut token = table.shared.load_new_seat::<Enter>(0).1;
     gather(&table.shared, seats, &mut token, &mut entries);
@@ -117,41 +150,50 @@ fn end<S: Scene>(
     let charged = closed.word(CHARGED);
     let stop_word = closed.word(STOP);
     let stop = StopCause::of_code(stop_word);
-    let shards = take_shards(closed, shards);
+    let (shards, closed) = take_shards(closed, shards);
+    let left = take_left(closed, left);
     Ended {
         entries,
         shards,
+        left,
         charged,
         stop,
     }
 }
 
-/// What a hub leaves: the entries in the order of their numbers, the shards, what is charged, and why the hub was stopped, if it was.
+/// What a hub leaves: the entries in the order of their numbers, the shards, the works that stood on the desks, what is charged, and why the hub was stopped, if it was.
 #[derive(Drop)]
 pub struct Closed<S: Scene> {
     pub entries: Vec<S::Entry>,
     pub shards: Vec<S::Shard>,
+    pub left: Vec<S::Work>,
     pub charged: u64,
     pub stop: Option<StopCause>,
 }
 
-// The same, with the entries in order.
-fn end_in_order<S: Scene>(
-    hub: Hub<S>,
-    seats: Vec<Seat<S>>,
+// Room for what a hub leaves.
+#[derive(Drop)]
+struct Room<S: Scene> {
     drawn: Vec<(u64, S::Entry)>,
-    shards: Vec<S::Shard>,
     places: Vec<Option<S::Entry>>,
     entries: Vec<S::Entry>,
-) -> Closed<S>
+    shards: Vec<S::Shard>,
+    left: Vec<S::Work>,
+}
+
+// The same, with the entries in order.
+fn end_in_order<S: Scene>(hub: Hub<S>, seats: Vec<Seat<S>>, room: Room<S>) -> Closed<S>
     requires seats { All (λ s. AtRest hub.table.shared.table_id s.state) seats.items }
     requires count { length seats.items ≡ seat_count hub.table.shared.key }
-    requires room { (drawn.items ≡ []) × (total (λ s. length (drawn_by s.state)) seats.items ≤ vec_capacity drawn) × (shards.items ≡ []) × (64 ≤ vec_capacity shards) }
-    requires order { (length places.items ≡ total (λ s. length (drawn_by s.state)) seats.items) × (entries.items ≡ []) × (length places.items ≤ vec_capacity entries) }
+    requires left { (room.left.items ≡ []) × FitsLeft (length (opened_works hub.table.shared.key)) (λ s. s.state) seats.items (vec_capacity room.left) }
+    requires drawn { (room.drawn.items ≡ []) × (total (λ s. length (drawn_by s.state)) seats.items ≤ vec_capacity room.drawn) }
+    requires shards { (room.shards.items ≡ []) × (64 ≤ vec_capacity room.shards) }
+    requires order { (length room.places.items ≡ total (λ s. length (drawn_by s.state)) seats.items) × (room.entries.items ≡ []) × (length room.places.items ≤ vec_capacity room.entries) }
     ensures count { length result.entries.items ≡ total (λ s. length (drawn_by s.state)) seats.items }
     ensures drawn { All (λ s. Each (λ n e. slice_get result.entries.items n ≡ Some e) (drawn_by s.state)) seats.items }
     ensures shards { length result.shards.items ≡ 64 }
-    ensures ran { Ran S.meaning (opened_shards hub.table.shared.key) result.entries.items result.shards.items }
+    ensures ran { Ran S.meaning (opened_shards hub.table.shared.key) (opened_works hub.table.shared.key) result.entries.items result.shards.items result.left.items (all_of (λ s. hand_of s.state) seats.items) }
+    ensures empty { All (λ s. 0 < empty_of s.state → (result.left.items ≡ []) × (all_of (λ t. hand_of t.state) seats.items ≡ [])) seats.items }
     ensures paid { result.charged ≡ spent_of hub.table.shared.key + total (λ s. cost S.meaning.price (charged_by s.state)) seats.items }
     ensures bounded { spent_of hub.table.shared.key + total (λ s. cost S.meaning.price (settled_by s.state)) seats.items ≤ max (spent_of hub.table.shared.key) (limit_of hub.table.shared.key) }
     ensures over { All (λ s. 0 < over_of s.state → limit_of hub.table.shared.key < result.charged) seats.items }
@@ -160,34 +202,44 @@ fn end_in_order<S: Scene>(
     ensures stop { All (λ s. 0 < stops_of s.state → IsSome result.stop) seats.items }
     ensures fault { result.stop ≡ Some StopCause.Fault → FaultOf S.meaning.faults result.entries.items }
 {
+    let Room {
+        drawn,
+        places,
+        entries,
+        shards,
+        left,
+    } = room;
     let Ended {
         entries: drawn,
         shards,
+        left,
         charged,
         stop,
-    } = end(hub, seats, drawn, shards);
+    } = end(hub, seats, drawn, shards, left);
     let entries = in_order(places, drawn, entries);
     Closed {
         entries,
         shards,
+        left,
         charged,
         stop,
     }
 }
 
 impl<S: Scene> Hub<S> {
-    /// Ends the hub, where these are all its seats and none holds a turn. The entries are in the order of their numbers, place k of the shards is shard k. What is charged is what was
-    /// spent before and the prices of the charged entries; each seat has at most its last entry uncharged. All entries but each seat's last cost, with what was
-    /// spent before, no more than the limit, or nothing where as much was spent before. Where a seat found the hub to stop, or found more
-    /// charged than the limit, that is so. The
-    /// only error is want of memory, and all then comes back as it was.
+    /// Ends the hub, where these are all its seats and none holds a turn. The entries are in the order of their numbers, and place k of the shards is shard k.
+    /// What is left is what stands on the desks, and together with the works that the seats have in hand it is what is pending after the entries. What is
+    /// charged is what was spent before and the prices of the charged entries; each seat has at most its last entry uncharged. All entries but each seat's
+    /// last cost, with what was spent before, no more than the limit, or nothing where as much was spent before. Where a seat found that nothing is pending,
+    /// that more is charged than the limit, or that the hub stops, that is so. The only error is want of memory, and all then comes back as it was.
     pub fn close(self, seats: Vec<Seat<S>>) -> Result<Closed<S>, Pool<S>>
         requires seats { All (λ s. AtRest self.table.shared.table_id s.state) seats.items }
         requires count { length seats.items ≡ seat_count self.table.shared.key }
         ensures count { IfOk result (λ r. length r.entries.items ≡ total (λ s. length (drawn_by s.state)) seats.items) }
         ensures drawn { IfOk result (λ r. All (λ s. Each (λ n e. slice_get r.entries.items n ≡ Some e) (drawn_by s.state)) seats.items) }
         ensures shards { IfOk result (λ r. length r.shards.items ≡ 64) }
-        ensures ran { IfOk result (λ r. Ran S.meaning (opened_shards self.table.shared.key) r.entries.items r.shards.items) }
+        ensures ran { IfOk result (λ r. Ran S.meaning (opened_shards self.table.shared.key) (opened_works self.table.shared.key) r.entries.items r.shards.items r.left.items (all_of (λ s. hand_of s.state) seats.items)) }
+        ensures empty { IfOk result (λ r. All (λ s. 0 < empty_of s.state → (r.left.items ≡ []) × (all_of (λ t. hand_of t.state) seats.items ≡ [])) seats.items) }
         ensures paid { IfOk result (λ r. r.charged ≡ spent_of self.table.shared.key + total (λ s. cost S.meaning.price (charged_by s.state)) seats.items) }
         ensures last { All (λ s. (drawn_by s.state ≡ (settled_by s.state ++ fresh_by s.state) ++ due_of s.state) × (length (fresh_by s.state) + length (due_of s.state) ≤ 1)) seats.items }
         ensures bounded { OnOk result (spent_of self.table.shared.key + total (λ s. cost S.meaning.price (settled_by s.state)) seats.items ≤ max (spent_of self.table.shared.key) (limit_of self.table.shared.key)) }
@@ -198,24 +250,39 @@ impl<S: Scene> Hub<S> {
         ensures fault { IfOk result (λ r. r.stop ≡ Some StopCause.Fault → FaultOf S.meaning.faults r.entries.items) }
         ensures back { IfErr result (λ p. (p.hub ≡ self) × (p.seats ≡ seats)) }
     {
-        let alloc = *seats.allocator();
-        let Some(count) = entry_count(&seats) else {
+        let Some(room) = room_to_end(&seats, self.work as u64) else {
             return Err(Pool { hub: self, seats });
         };
-        let Ok(drawn) = Vec::with_capacity(alloc, count) else {
-            return Err(Pool { hub: self, seats });
-        };
-        let Ok(places) = empty_places(alloc, count) else {
-            return Err(Pool { hub: self, seats });
-        };
-        let Ok(entries) = Vec::with_capacity(alloc, count) else {
-            return Err(Pool { hub: self, seats });
-        };
-        let Ok(shards) = Vec::with_capacity(alloc, 64) else {
-            return Err(Pool { hub: self, seats });
-        };
-        Ok(end_in_order(self, seats, drawn, shards, places, entries))
+        Ok(end_in_order(self, seats, room))
     }
+}
+
+// Room for what these seats and the desks leave, of so many works at the start.
+fn room_to_end<S: Scene>(seats: &Vec<Seat<S>>, start: u64) -> Option<Room<S>>
+    ensures drawn { IfSome result (λ r. (r.drawn.items ≡ []) × (total (λ s. length (drawn_by s.state)) seats.now.items ≤ vec_capacity r.drawn)) }
+    ensures order { IfSome result (λ r. (length r.places.items ≡ total (λ s. length (drawn_by s.state)) seats.now.items) × (r.entries.items ≡ []) × (length r.places.items ≤ vec_capacity r.entries)) }
+    ensures shards { IfSome result (λ r. (r.shards.items ≡ []) × (64 ≤ vec_capacity r.shards)) }
+    ensures left { IfSome result (λ r. (r.left.items ≡ []) × FitsLeft start (λ s. s.state) seats.now.items (vec_capacity r.left)) }
+{
+    let count = entry_count(seats)?;
+    let standing = left_count(seats, start);
+    room_for(*seats.allocator(), count, standing as usize).ok()
+}
+
+// Room for so many entries, all shards and so many works.
+fn room_for<S: Scene>(alloc: Global, count: usize, standing: usize) -> Result<Room<S>, AllocError>
+    ensures drawn { IfOk result (λ r. (r.drawn.items ≡ []) × (count ≤ vec_capacity r.drawn)) }
+    ensures order { IfOk result (λ r. (length r.places.items ≡ count) × (r.entries.items ≡ []) × (count ≤ vec_capacity r.entries)) }
+    ensures shards { IfOk result (λ r. (r.shards.items ≡ []) × (64 ≤ vec_capacity r.shards)) }
+    ensures left { IfOk result (λ r. (r.left.items ≡ []) × (standing ≤ vec_capacity r.left)) }
+{
+    Ok(Room {
+        drawn: Vec::with_capacity(alloc, count)?,
+        places: empty_places(alloc, count)?,
+        entries: Vec::with_capacity(alloc, count)?,
+        shards: Vec::with_capacity(alloc, 64)?,
+        left: Vec::with_capacity(alloc, standing)?,
+    })
 }
 
 // How many entries all seats have.
@@ -227,4 +294,15 @@ fn entry_count<S: Scene>(seats: &Vec<Seat<S>>) -> Option<usize>
         count = count.checked_add(seat.state.entries.len())?;
     }
     Some(count)
+}
+
+// How many works stand on the desks, of so many at the start.
+fn left_count<S: Scene>(seats: &Vec<Seat<S>>, start: u64) -> u64
+    ensures { (result + total (λ s. (pile_of s.state).fetched) seats.now.items) % 2 ^ 64 ≡ (start + total (λ s. (pile_of s.state).left) seats.now.items) % 2 ^ 64 }
+{
+    let mut count = start;
+    for seat in seats {
+        count = count.wrapping_add(seat.state.moved);
+    }
+    count
 }

@@ -3,13 +3,15 @@ ghost use Rattle.std.specs.Prelude.{◌≡◌, ℕ, ◌≤◌, ◌<◌, ◌^◌,
 ghost use Rattle.std.specs.List.{All};
 ghost use Rattle.group_locks.specs.Counts.{Projected};
 ghost use Rattle.group_locks.specs.Rule.{newcomer, blank};
-ghost use Rattle.group_locks.specs.Seats.{AtRest, drawn_by, tally_of, opened_shards, seat_count, spent_of, limit_of};
+ghost use Rattle.group_locks.specs.Works.{bare, Laid};
+ghost use Rattle.group_locks.specs.Seats.{AtRest, drawn_by, tally_of, pile_of, opened_shards, opened_works, seat_count, spent_of, limit_of};
 
 use crate::rule::{Cut, Opened, Rule};
 use crate::scene::Scene;
 use crate::seat::Seat;
+use crate::slot::Slot;
 use crate::state::SeatState;
-use crate::steps::{CHARGED, Token};
+use crate::steps::{CHARGED, PENDING, Token};
 use crate::terms::Terms;
 use crate::view::View;
 use atomic_table::Table;
@@ -20,11 +22,20 @@ use std::snapshot::Snapshot;
 #[derive(Drop)]
 pub struct Hub<S: Scene> {
     /// The words and slots, under `Rule`. Contracts name the hub by its `table_id`.
-    pub table: Table<Option<S::Shard>, View<S::Entry, S::Shard>, Opened<S::Shard>, Rule<S>, Global>,
+    pub table: Table<
+        Slot<S::Shard, S::Work>,
+        View<S::Entry, S::Shard, S::Work>,
+        Opened<S::Shard, S::Work>,
+        Rule<S>,
+        Global,
+    >,
     pub(crate) scene: S,
     pub(crate) terms: Terms,
-    ghost wide: { table.shared.table_id.words ≡ 67 },
-    ghost long: { table.shared.table_id.slots ≡ 64 },
+    pub(crate) work: usize,
+    ghost dealt: { work ≡ length table.shared.key.works.value.items },
+    ghost wide: { table.shared.table_id.words ≡ 101 },
+    ghost long: { table.shared.table_id.slots ≡ 96 },
+    ghost few: { (1 ≤ terms.seats) × (terms.seats ≤ 32) },
     ghost agreed: { terms ≡ table.shared.key.terms },
 }
 
@@ -41,27 +52,33 @@ impl<S: Scene> Hub<S> {
         alloc: Global,
         scene: S,
         shards: Vec<S::Shard>,
+        work: Vec<S::Work>,
         terms: Terms,
     ) -> Result<(Hub<S>, Token<S>), AllocError>
-        requires few { terms.seats ≤ 32 }
+        requires few { (1 ≤ terms.seats) × (terms.seats ≤ 32) }
         requires low { (terms.spent < 2 ^ 62) × (terms.limit < 2 ^ 62) }
         requires long { length shards.items ≡ 64 }
-        requires projected { (store : S.Store) × Projected S.meaning.projects store shards.items }
-        ensures { IfOk result (λ t. (t.1.table_id ≡ t.0.table.shared.table_id) × (t.1.me ≡ (newcomer terms.seats, [])) × (t.0.table.shared.key.shards.value.items ≡ shards.items) × (t.0.table.shared.key.terms ≡ terms)) }
+        requires short { length work.items ≤ 2 ^ 58 }
+        requires opens { (store : S.Store) × Projected S.meaning.projects store shards.items × S.meaning.opens store work.items }
+        ensures { IfOk result (λ t. (t.1.table_id ≡ t.0.table.shared.table_id) × (t.1.me ≡ (newcomer terms.seats, [])) × (t.0.table.shared.key.shards.value.items ≡ shards.items) × (t.0.table.shared.key.works.value.items ≡ work.items) × (t.0.table.shared.key.terms ≡ terms)) }
     {
         let key = Opened {
             shards: Snapshot::of(&shards),
+            works: Snapshot::of(&work),
             terms,
         };
-        let mut words = [0u64; 67];
+        let count = work.len();
+        let mut words = [0u64; 101];
         words[CHARGED] = terms.spent;
-        let slots = all_some(alloc, shards)?;
+        words[PENDING] = count as u64;
+        let slots = slots_of(alloc, shards, work)?;
         match Table::new(alloc, &words, slots, &key) {
             Ok((table, token)) => Ok((
                 Hub {
                     table,
                     scene,
                     terms,
+                    work: count,
                 },
                 token,
             )),
@@ -69,13 +86,14 @@ impl<S: Scene> Hub<S> {
         }
     }
 
-    /// A hub over these 64 shards, in the order of their numbers, with 1 to 32 seats. There is a store that the shards project. `spent` is what was
-    /// charged before, and seats may go on while no more than `limit` is charged. The only error is want of
-    /// memory; the arguments are then gone.
+    /// A hub over these 64 shards, in the order of their numbers, with 1 to 32 seats. There is a store that the shards project, and with which and these works
+    /// a hub may open. The works lie on the first desk. `spent` is what was charged before, and seats may go on while no more than `limit` is charged. The
+    /// only error is want of memory; the arguments are then gone.
     pub fn start(
         alloc: Global,
         scene: S,
         shards: Vec<S::Shard>,
+        work: Vec<S::Work>,
         seats: u32,
         spent: u64,
         limit: u64,
@@ -83,13 +101,15 @@ impl<S: Scene> Hub<S> {
         requires few { (1 ≤ seats) × (seats ≤ 32) }
         requires low { (spent < 2 ^ 62) × (limit < 2 ^ 62) }
         requires long { length shards.items ≡ 64 }
-        requires projected { (store : S.Store) × Projected S.meaning.projects store shards.items }
+        requires short { length work.items ≤ 2 ^ 58 }
+        requires opens { (store : S.Store) × Projected S.meaning.projects store shards.items × S.meaning.opens store work.items }
         ensures opened { IfOk result (λ p. opened_shards p.hub.table.shared.key ≡ shards.items) }
+        ensures works { IfOk result (λ p. opened_works p.hub.table.shared.key ≡ work.items) }
         ensures key { IfOk result (λ p. seat_count p.hub.table.shared.key ≡ seats) }
         ensures terms { IfOk result (λ p. (spent_of p.hub.table.shared.key ≡ spent) × (limit_of p.hub.table.shared.key ≡ limit)) }
         ensures count { IfOk result (λ p. length p.seats.items ≡ seats) }
         ensures rest { IfOk result (λ p. All (λ s. AtRest p.hub.table.shared.table_id s.state) p.seats.items) }
-        ensures drawn { IfOk result (λ p. All (λ s. (drawn_by s.state ≡ []) × (tally_of s.state ≡ blank)) p.seats.items) }
+        ensures drawn { IfOk result (λ p. All (λ s. (drawn_by s.state ≡ []) × (tally_of s.state ≡ blank) × (pile_of s.state ≡ bare)) p.seats.items) }
     {
         let mut made = Vec::with_capacity(alloc, seats as usize)?;
         let terms = Terms {
@@ -97,30 +117,55 @@ impl<S: Scene> Hub<S> {
             spent,
             limit,
         };
-        let (hub, mut token) = Hub::open(alloc, scene, shards, terms)?;
-        for _ in 1..seats {
+        let (hub, mut token) = Hub::open(alloc, scene, shards, work, terms)?;
+        for number in 1..seats {
             let other = hub.table.shared.split_seat::<Cut>(&mut token);
-            made.push_reserved(new_seat(alloc, other));
+            made.push_reserved(new_seat(alloc, other, number));
         }
-        made.push_reserved(new_seat(alloc, token));
+        made.push_reserved(new_seat(alloc, token, 0));
         Ok(Pool { hub, seats: made })
     }
 }
 
-fn new_seat<S: Scene>(alloc: Global, token: Token<S>) -> Seat<S>
-    requires { token.me ≡ (newcomer 1, []) }
+fn new_seat<S: Scene>(alloc: Global, token: Token<S>, desk: u32) -> Seat<S>
+    requires desk { desk < 32 }
+    requires token { token.me ≡ (newcomer 1, []) }
     ensures { result.state.token ≡ token }
 {
     Seat {
         state: SeatState {
             token,
             entries: Vec::new(alloc),
+            desk,
+            moved: 0,
         },
     }
 }
 
-fn all_some<T: Drop>(alloc: Global, items: Vec<T>) -> Result<Vec<Option<T>>, AllocError>
-    ensures { IfOk result (λ v. v.items ≡ map (λ x. Some x) items.items) }
+// The slots of these shards, with the works on the first desk and nothing on the others.
+fn slots_of<X: Drop, W: Drop>(
+    alloc: Global,
+    shards: Vec<X>,
+    work: Vec<W>,
+) -> Result<Vec<Slot<X, W>>, AllocError>
+    ensures { IfOk result (λ v. Laid 32 shards.items work.items v.items) }
 {
-    items.into_iter().map(|x| Some(x)).collect(alloc)
+    let mut slots = all_shards(alloc, shards)?;
+    slots.push(Slot::Desk(work))?;
+    for _ in 1..32u32 {
+        slots.push(Slot::Desk(Vec::new(alloc)))?;
+    }
+    Ok(slots)
+}
+
+fn all_shards<X: Drop, W: Drop>(
+    alloc: Global,
+    shards: Vec<X>,
+) -> Result<Vec<Slot<X, W>>, AllocError>
+    ensures { IfOk result (λ v. v.items ≡ map (λ x. Slot.Shard (Some x)) shards.items) }
+{
+    shards
+        .into_iter()
+        .map(|x| Slot::Shard(Some(x)))
+        .collect(alloc)
 }

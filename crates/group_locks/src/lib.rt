@@ -2,11 +2,13 @@
 #![tactic(auto)]
 
 mod close;
+mod desks;
 mod hub;
 mod order;
 mod rule;
 mod scene;
 mod seat;
+mod slot;
 mod state;
 mod steps;
 mod terms;
@@ -19,6 +21,7 @@ pub use crate::hub::{Hub, Pool};
 pub use crate::rule::{Opened, Rule};
 pub use crate::scene::Scene;
 pub use crate::seat::Seat;
+pub use crate::slot::Slot;
 pub use crate::state::SeatState;
 pub use crate::terms::{StopCause, Terms};
-pub use crate::view::{Tally, View};
+pub use crate::view::{Pile, Tally, View};

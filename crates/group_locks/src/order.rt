@@ -1,5 +1,5 @@
 //! Puts numbered things in their order.
-ghost use Rattle.std.specs.Prelude.{◌≡◌, ℕ, ◌+◌, ◌<◌, ◌≤◌, List, [], None, Some, Option, IsSome, length, map, replicate, IfOk, slice_get, vec_len, vec_capacity};
+ghost use Rattle.std.specs.Prelude.{◌≡◌, ℕ, ◌+◌, ◌<◌, ◌≤◌, ◌++◌, List, [], None, Some, Option, IsSome, length, map, replicate, IfOk, slice_get, vec_len, vec_capacity};
 ghost use Rattle.group_locks.specs.Counts.{count, once_below, placed, Each};
 
 use std::alloc::{AllocError, Global};
@@ -13,6 +13,17 @@ pub fn empty_places<T: Drop>(alloc: Global, count: usize) -> Result<Vec<Option<T
         places.push_reserved(None);
     }
     Ok(places)
+}
+
+/// Moves things behind others, with room for them.
+pub fn move_all<T: Drop>(things: Vec<T>, all: &mut Vec<T>)
+    requires { length all.old.items + length things.items ≤ vec_capacity all.old }
+    ensures items { all.new.items ≡ all.old.items ++ things.items }
+    ensures room { vec_capacity all.new ≡ vec_capacity all.old }
+{
+    for thing in things {
+        all.push_reserved(thing);
+    }
 }
 
 // Puts each thing at its number.

@@ -1,16 +1,19 @@
-//! What a hub is about: shards, entries, and what entries do to them.
+//! What a hub is about: shards, works, entries, and what entries do to them.
 ghost use Rattle.std.specs.Prelude.{◌≡◌, ◌≢◌, ℕ, ◌<◌, true, Option, None, Some};
 ghost use Rattle.std.specs.Int.{bit_at};
 ghost use Rattle.group_locks.specs.Counts.{one_if};
 ghost use Rattle.group_locks.specs.Meaning.{Meaning, Lawful};
 
-/// A subject that seats work on. Its state is cut into 64 shards, numbered from 0, and an entry is an event that changes some of them.
+/// A subject that seats work on. Its state is cut into 64 shards, numbered from 0, and an entry is an event that changes some of them. An entry takes one
+/// work that is pending.
 ///
 /// `meaning` says what the state is that all shards together stand for, which entries are allowed in it and what an entry does to each shard. `lawful`
 /// is the proof of the scene's laws, which `Lawful` says in full.
 pub trait Scene: Drop + Sync {
     /// An event, with a price and perhaps a fault.
     type Entry: Drop + Send + Sync;
+    /// A thing to do. An entry takes one work that is pending, may end it, and may offer others.
+    type Work: Drop + Send + Sync;
     /// A part of the state.
     type Shard: Drop + Send + Sync;
     /// The shards that a seat has in hand.
@@ -20,7 +23,7 @@ pub trait Scene: Drop + Sync {
     ghost Store: { Type 0 };
 
     // What entries mean.
-    ghost meaning: { Meaning Self.Store Self.Entry Self.Shard };
+    ghost meaning: { Meaning Self.Store Self.Entry Self.Shard Self.Work };
 
     // The shard of this number in hand.
     ghost in_hand: { Self.Held → ℕ → Option Self.Shard };

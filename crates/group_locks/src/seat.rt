@@ -1,27 +1,29 @@
 //! A seat, through which one worker steps.
-ghost use Rattle.std.specs.Prelude.{◌≡◌, ℕ, ◌+◌, ◌^◌, ◌<◌, ◌⊎◌, true, false, ◌≤◌, List, [], ◌∷◌, ◌++◌, length, None, OnOk, vec_len, vec_capacity};
+ghost use Rattle.std.specs.Prelude.{◌≡◌, ℕ, ◌+◌, ◌^◌, ◌<◌, ◌⊎◌, true, false, ◌≤◌, List, [], ◌∷◌, ◌++◌, ◌%◌, ◌-◌, length, None, OnOk, IfErr, IfSome, IfNone, vec_len, vec_capacity};
 ghost use Rattle.std.specs.Int.{bit_at};
-ghost use Rattle.group_locks.specs.Counts.{count};
-ghost use Rattle.group_locks.specs.Rule.{after_draw, since_after, with_tally, owes, pays, Carries};
+ghost use Rattle.group_locks.specs.Counts.{count, one_if, things_of, numbered};
+ghost use Rattle.group_locks.specs.Rule.{after_commit, since_after, with_tally, with_pile, takes_up, leaves, kept_if, owes, pays, Carries, MayDraw, Goes, EndsBy};
 ghost use Rattle.group_locks.specs.Stops.{HasFault};
 ghost use Rattle.group_locks.specs.Meaning.{AllFollow};
-ghost use Rattle.group_locks.specs.Seats.{home_of, drawn_by, held_by, since_of, tally_of, charged_by, due_of, low_of, over_of, unset_of, stops_of, HasLeave, HasRoom, SameRoom};
+ghost use Rattle.group_locks.specs.Works.{hand};
+ghost use Rattle.group_locks.specs.Seats.{home_of, pile_of, hand_of, taken_by, offered_by, took_by, empty_of, drawn_by, held_by, since_of, tally_of, charged_by, due_of, low_of, over_of, unset_of, stops_of, HasLeave, HasRoom, SameRoom};
 
+use crate::desks::{leave_works, look_round, read_pending, ring, tell};
 use crate::hub::Hub;
 use crate::scene::Scene;
 use crate::state::SeatState;
 use crate::steps::{
-    Board, Token, draw, give_turns, halt, pay, read_charged, read_stop, take_turns,
+    BELL, Board, Token, draw, give_turns, halt, pay, read_charged, read_stop, take_turns,
 };
-use crate::terms::StopCause;
-use std::alloc::AllocError;
+use crate::terms::{StopCause, Terms};
+use std::alloc::{AllocError, Global};
 use std::sync::Wait;
 
 /// A seat of a hub. One worker steps with it, and it can't be copied.
 #[derive(Drop)]
 pub struct Seat<S: Scene> {
     /// What the seat knows and has drawn.
-    pub state: SeatState<S::Entry, S::Shard>,
+    pub state: SeatState<S::Entry, S::Shard, S::Work>,
 }
 
 impl<S: Scene> Seat<S> {
@@ -34,6 +36,7 @@ impl<S: Scene> Seat<S> {
         ensures drawn { drawn_by self.new.state ≡ drawn_by self.old.state }
         ensures since { since_of self.new.state ≡ [] }
         ensures tally { tally_of self.new.state ≡ tally_of self.old.state }
+        ensures works { pile_of self.new.state ≡ pile_of self.old.state }
         ensures room { SameRoom self.old.state self.new.state }
         ensures turns { (k : ℕ) → count k (held_by self.new.state) ≡ bit_at shards k }
         ensures carries { Carries S.meaning [] (held_by self.new.state) (S.in_hand held.new) }
@@ -56,6 +59,7 @@ impl<S: Scene> Seat<S> {
         ensures drawn { drawn_by self.new.state ≡ drawn_by self.old.state }
         ensures room { SameRoom self.old.state self.new.state }
         ensures tally { tally_of self.new.state ≡ tally_of self.old.state }
+        ensures works { pile_of self.new.state ≡ pile_of self.old.state }
         ensures free { held_by self.new.state ≡ [] }
         ensures empty { (k : ℕ) → S.in_hand held.new k ≡ None }
     {
@@ -69,6 +73,7 @@ impl<S: Scene> Seat<S> {
         ensures held { held_by self.new.state ≡ held_by self.old.state }
         ensures since { since_of self.new.state ≡ since_of self.old.state }
         ensures tally { tally_of self.new.state ≡ tally_of self.old.state }
+        ensures works { pile_of self.new.state ≡ pile_of self.old.state }
         ensures room { OnOk result (HasRoom self.new.state) }
     {
         if self.state.entries.len() >= 1 << 58 {
@@ -77,26 +82,84 @@ impl<S: Scene> Seat<S> {
         self.state.entries.reserve(1)
     }
 
-    /// Draws the entry's number, and answers it. The seat has leave and room for the entry, has charged its entry before, and holds the turns of all shards that it touches, and the held shards, as
-    /// they stood before the entry, tell that it is allowed. What is in hand is already changed by the entry.
-    pub fn commit(&mut self, hub: &Hub<S>, held: &S::Held, entry: S::Entry) -> u64
+    /// Takes one work that is pending and that no other seat has in hand, and waits where none lies on a desk and others may still come. It stays in this
+    /// seat's hand until an entry of the seat ends it. `Some` comes only where this call found the stop unset and no more charged than the limit, and gives
+    /// leave and room for one entry; `None` only where this call found that nothing is pending, that more is charged than the limit, or that the hub stops.
+    /// Where no room for an entry can be reserved, it stops the hub for want of memory.
+    pub fn take_op<R: Wait>(&mut self, rt: &R, hub: &Hub<S>) -> Option<S::Work>
+        requires hub { home_of self.old.state ≡ hub.now.table.shared.table_id }
+        requires idle { hand_of self.old.state ≡ [] }
+        requires charged { due_of self.old.state ≡ [] }
+        ensures hub { home_of self.new.state ≡ home_of self.old.state }
+        ensures drawn { drawn_by self.new.state ≡ drawn_by self.old.state }
+        ensures held { held_by self.new.state ≡ held_by self.old.state }
+        ensures since { since_of self.new.state ≡ since_of self.old.state }
+        ensures charged { (charged_by self.new.state ≡ charged_by self.old.state) × (due_of self.new.state ≡ []) }
+        ensures taken { IfSome result (λ w. (index : ℕ) × (taken_by self.new.state ≡ (index, w) ∷ [])) }
+        ensures new { IfSome result (λ _. (offered_by self.new.state ≡ []) × (took_by self.new.state ≡ [])) }
+        ensures go { IfSome result (λ _. HasLeave self.new.state × HasRoom self.new.state × (low_of self.old.state < low_of self.new.state) × (unset_of self.old.state < unset_of self.new.state)) }
+        ensures idle { IfNone result (hand_of self.new.state ≡ []) }
+        ensures cause { IfNone result ((empty_of self.old.state < empty_of self.new.state) ⊎ ((over_of self.old.state < over_of self.new.state) ⊎ (stops_of self.old.state < stops_of self.new.state))) }
+    {
+        let Ok(()) = self.again(hub) else {
+            self.stop(hub, StopCause::NoMemory);
+            return None;
+        };
+        take_at(rt, &hub.table.shared, &mut self.state, hub.terms)
+    }
+
+    /// Puts the works that the seat's last entry offered on its desk, in their order. Where memory is wanting they come back, and stay in this seat's hand.
+    pub fn leave_ops<R: Wait>(
+        &mut self,
+        rt: &R,
+        hub: &Hub<S>,
+        ops: Vec<S::Work>,
+    ) -> Result<(), Vec<S::Work>>
+        requires hub { home_of self.old.state ≡ hub.now.table.shared.table_id }
+        requires ops { ops.items ≡ things_of (offered_by self.old.state) }
+        ensures hub { home_of self.new.state ≡ home_of self.old.state }
+        ensures drawn { drawn_by self.new.state ≡ drawn_by self.old.state }
+        ensures held { held_by self.new.state ≡ held_by self.old.state }
+        ensures since { since_of self.new.state ≡ since_of self.old.state }
+        ensures tally { tally_of self.new.state ≡ tally_of self.old.state }
+        ensures room { SameRoom self.old.state self.new.state }
+        ensures taken { (taken_by self.new.state ≡ taken_by self.old.state) × (took_by self.new.state ≡ took_by self.old.state) }
+        ensures empty { empty_of self.new.state ≡ empty_of self.old.state }
+        ensures left { OnOk result (offered_by self.new.state ≡ []) }
+        ensures back { IfErr result (λ v. (v ≡ ops) × (pile_of self.new.state ≡ pile_of self.old.state)) }
+    {
+        leave_at(rt, &hub.table.shared, &mut self.state, ops)
+    }
+
+    /// Draws the entry's number, and answers it. The seat has leave and room for the entry, has charged its entry before and left what that offered, has the
+    /// work in hand that the entry takes, and holds the turns of all shards that it touches; and the held shards, as they stood before the entry, and the
+    /// entries that it drew on this work tell that it is allowed. The shards in hand are already changed by the entry. `offers` is how many works it offers,
+    /// less the one that it ends, if it ends one, modulo 2^64.
+    pub fn commit(&mut self, hub: &Hub<S>, held: &S::Held, entry: S::Entry, offers: u64) -> u64
         requires hub { home_of self.old.state ≡ hub.now.table.shared.table_id }
         requires leave { HasLeave self.old.state }
         requires charged { due_of self.old.state ≡ [] }
         requires room { HasRoom self.old.state }
         requires within { (k : ℕ) → S.meaning.touched entry k ≡ true → 0 < count k (held_by self.old.state) }
-        requires allowed { (before : List (ℕ × S.Shard)) × AllFollow S.meaning (since_of self.old.state) (held_by self.old.state) before × S.meaning.tells before entry }
+        requires work { (index : ℕ) × (taken_by self.old.state ≡ (index, S.meaning.takes entry) ∷ []) }
+        requires left { offered_by self.old.state ≡ [] }
+        requires few { length (S.meaning.offers entry) < 2 ^ 57 + 64 }
+        requires offers { offers ≡ (length (S.meaning.offers entry) + (2 ^ 64 - one_if (S.meaning.ends entry))) % 2 ^ 64 }
+        requires allowed { (before : List (ℕ × S.Shard)) × AllFollow S.meaning (since_of self.old.state) (held_by self.old.state) before × S.meaning.tells before (took_by self.old.state) entry }
         requires carries { Carries S.meaning (since_of self.old.state ++ entry ∷ []) (held_by self.old.state) (S.in_hand held.now) }
         ensures hub { home_of self.new.state ≡ home_of self.old.state }
         ensures drawn { drawn_by self.new.state ≡ drawn_by self.old.state ++ (result, entry) ∷ [] }
         ensures tally { tally_of self.new.state ≡ owes (tally_of self.old.state) result entry }
         ensures due { due_of self.new.state ≡ (result, entry) ∷ [] }
+        ensures taken { taken_by self.new.state ≡ kept_if (S.meaning.ends entry) (taken_by self.old.state) }
+        ensures offered { (base : ℕ) × (offered_by self.new.state ≡ numbered base (S.meaning.offers entry)) }
+        ensures took { took_by self.new.state ≡ took_by self.old.state ++ entry ∷ [] }
         ensures held { held_by self.new.state ≡ held_by self.old.state }
         ensures since { since_of self.new.state ≡ since_after (held_by self.old.state) (since_of self.old.state ++ entry ∷ []) }
         ensures carries { Carries S.meaning (since_of self.new.state) (held_by self.new.state) (S.in_hand held.now) }
     {
         let _ = held;
-        commit_at::<S>(&hub.table.shared, &mut self.state, entry)
+        commit_at::<S>(&hub.table.shared, &mut self.state, entry, offers)
     }
 
     /// Whether the seat may draw a further entry: true only where this call found the stop unset and no more charged than the limit, false only where it
@@ -110,6 +173,7 @@ impl<S: Scene> Seat<S> {
         ensures since { since_of self.new.state ≡ since_of self.old.state }
         ensures room { SameRoom self.old.state self.new.state }
         ensures charged { (charged_by self.new.state ≡ charged_by self.old.state) × (due_of self.new.state ≡ []) }
+        ensures works { pile_of self.new.state ≡ pile_of self.old.state }
         ensures go { result ≡ true → HasLeave self.new.state × (low_of self.new.state ≡ low_of self.old.state + 1) × (unset_of self.new.state ≡ unset_of self.old.state + 1) }
         ensures stays { result ≡ true → (over_of self.new.state ≡ over_of self.old.state) × (stops_of self.new.state ≡ stops_of self.old.state) }
         ensures cause { result ≡ false → (over_of self.new.state ≡ over_of self.old.state + 1) ⊎ (stops_of self.new.state ≡ stops_of self.old.state + 1) }
@@ -128,9 +192,10 @@ impl<S: Scene> Seat<S> {
         ensures room { SameRoom self.old.state self.new.state }
         ensures charged { charged_by self.new.state ≡ drawn_by self.old.state }
         ensures tally { tally_of self.new.state ≡ pays (tally_of self.old.state) }
+        ensures works { pile_of self.new.state ≡ pile_of self.old.state }
         ensures due { due_of self.new.state ≡ [] }
     {
-        pay(&hub.table.shared, &mut self.state.token, n);
+        pay(&hub.table.shared, &mut self.state.token, n, hub.terms.limit);
     }
 
     /// Stops the hub, for want of memory or for a faulting entry that this seat drew. The first cause stays.
@@ -143,6 +208,7 @@ impl<S: Scene> Seat<S> {
         ensures since { since_of self.new.state ≡ since_of self.old.state }
         ensures room { SameRoom self.old.state self.new.state }
         ensures charged { (charged_by self.new.state ≡ charged_by self.old.state) × (due_of self.new.state ≡ due_of self.old.state) }
+        ensures works { pile_of self.new.state ≡ pile_of self.old.state }
         ensures leave { HasLeave self.old.state → HasLeave self.new.state }
         ensures over { over_of self.new.state ≡ over_of self.old.state }
         ensures stops { stops_of self.new.state ≡ stops_of self.old.state + 1 }
@@ -153,7 +219,7 @@ impl<S: Scene> Seat<S> {
 
 // Reads the stop word and the charged word.
 fn may_go_at<S: Scene>(board: &Board<S>, token: &mut Token<S>, limit: u64) -> bool
-    requires table { (token.old.table_id ≡ board.now.table_id) × (board.now.table_id.words ≡ 67) }
+    requires table { (token.old.table_id ≡ board.now.table_id) × (board.now.table_id.words ≡ 101) }
     requires limit { limit ≡ board.now.key.terms.limit }
     ensures same { (token.new.table_id ≡ token.old.table_id) × (token.new.id ≡ token.old.id) }
     ensures view { token.new.me ≡ (with_tally token.old.me.0 token.new.me.0.tally, token.old.me.1) }
@@ -172,18 +238,129 @@ fn may_go_at<S: Scene>(board: &Board<S>, token: &mut Token<S>, limit: u64) -> bo
 
 fn commit_at<S: Scene>(
     board: &Board<S>,
-    state: &mut SeatState<S::Entry, S::Shard>,
+    state: &mut SeatState<S::Entry, S::Shard, S::Work>,
     entry: S::Entry,
+    offers: u64,
 ) -> u64
-    requires table { (state.old.token.table_id ≡ board.now.table_id) × (board.now.table_id.words ≡ 67) }
+    requires table { (state.old.token.table_id ≡ board.now.table_id) × (board.now.table_id.words ≡ 101) }
     requires leave { (state.old.token.me.0.tally.leave ≡ true) × (state.old.token.me.0.tally.due ≡ []) }
     requires room { (vec_len state.old.entries < vec_capacity state.old.entries) × (vec_len state.old.entries < 2 ^ 58) }
     requires within { (k : ℕ) → S.meaning.touched entry k ≡ true → 0 < count k state.old.token.me.0.held }
-    requires allowed { (before : List (ℕ × S.Shard)) × AllFollow S.meaning state.old.token.me.0.since state.old.token.me.0.held before × S.meaning.tells before entry }
+    requires work { (index : ℕ) × (state.old.token.me.0.pile.taken ≡ (index, S.meaning.takes entry) ∷ []) × (state.old.token.me.0.pile.offered ≡ []) }
+    requires offers { (length (S.meaning.offers entry) < 2 ^ 57 + 64) × (offers ≡ (length (S.meaning.offers entry) + (2 ^ 64 - one_if (S.meaning.ends entry))) % 2 ^ 64) }
+    requires allowed { (before : List (ℕ × S.Shard)) × AllFollow S.meaning state.old.token.me.0.since state.old.token.me.0.held before × S.meaning.tells before state.old.token.me.0.pile.took entry }
     ensures hub { state.new.token.table_id ≡ state.old.token.table_id }
-    ensures view { state.new.token.me.0 ≡ after_draw state.old.token.me.0 result entry }
+    ensures view { (base : ℕ) × (state.new.token.me.0 ≡ after_commit S.meaning state.old.token.me.0 result entry base) }
 {
-    let number = draw(board, &mut state.token, &entry);
+    let number = draw_and_tell(board, &mut state.token, &entry, offers);
     state.entries.push_reserved((number, entry));
     number
+}
+
+// Draws the entry, and tells the pending word.
+fn draw_and_tell<S: Scene>(
+    board: &Board<S>,
+    token: &mut Token<S>,
+    entry: &S::Entry,
+    offers: u64,
+) -> u64
+    requires table { (token.old.table_id ≡ board.now.table_id) × (board.now.table_id.words ≡ 101) }
+    requires may { MayDraw S.meaning token.old.me.0 entry.now }
+    requires counted { token.old.me.0.pile.counted ≡ 1 }
+    requires offers { offers ≡ (length (S.meaning.offers entry.now) + (2 ^ 64 - one_if (S.meaning.ends entry.now))) % 2 ^ 64 }
+    ensures same { (token.new.table_id ≡ token.old.table_id) × (token.new.id ≡ token.old.id) }
+    ensures drawn { (base : ℕ) × (token.new.me ≡ (after_commit S.meaning token.old.me.0 result entry.now base, token.old.me.1)) }
+{
+    let number = draw(board, token, entry);
+    let found = tell(board, token, offers);
+    ring(board, token, found.wrapping_add(offers) == 0);
+    number
+}
+
+// Takes a work, as soon as one lies on a desk, or finds an end.
+fn find_work<S: Scene, R: Wait>(
+    rt: &R,
+    alloc: Global,
+    board: &Board<S>,
+    token: &mut Token<S>,
+    desk: u32,
+    terms: Terms,
+) -> Option<S::Work>
+    requires table { (token.old.table_id ≡ board.now.table_id) × (board.now.table_id.words ≡ 101) }
+    requires terms { (terms.limit ≡ board.now.key.terms.limit) × (1 ≤ terms.seats) × (terms.seats ≤ 32) }
+    requires desk { (desk < 32) × (token.old.me.0.pile.desk ≡ []) × (32 ≤ token.old.me.0.parts) × (token.old.me.0.pile.owes ≡ false) }
+    requires idle { hand token.old.me.0.pile ≡ [] }
+    ensures same { (token.new.table_id ≡ token.old.table_id) × (token.new.id ≡ token.old.id) }
+    ensures view { token.new.me ≡ (with_pile (with_tally token.old.me.0 token.new.me.0.tally) token.new.me.0.pile, token.old.me.1) }
+    ensures tally { Goes token.old.me.0.tally token.new.me.0.tally }
+    ensures some { IfSome result (λ w. (i : ℕ) × (token.new.me.0.pile ≡ takes_up token.old.me.0.pile ((i, w) ∷ []))) }
+    ensures go { IfSome result (λ _. (token.new.me.0.tally.leave ≡ true) × (token.old.me.0.tally.low < token.new.me.0.tally.low) × (token.old.me.0.tally.unset < token.new.me.0.tally.unset)) }
+    ensures none { IfNone result (EndsBy token.old.me.0 token.new.me.0) }
+{
+    for _ in rt.forever() {
+        let bell = board.peek(BELL);
+        if !may_go_at(board, token, terms.limit) {
+            return None;
+        }
+        if let Some(work) = look_round(rt, alloc, board, token, desk, terms.seats) {
+            return Some(work);
+        }
+        if read_pending(board, token) == 0 {
+            return None;
+        }
+        board.park(rt, BELL, (bell & 0xffff_ffff) as u32);
+    }
+    unreachable!()
+}
+
+fn take_at<S: Scene, R: Wait>(
+    rt: &R,
+    board: &Board<S>,
+    state: &mut SeatState<S::Entry, S::Shard, S::Work>,
+    terms: Terms,
+) -> Option<S::Work>
+    requires table { (state.old.token.table_id ≡ board.now.table_id) × (board.now.table_id.words ≡ 101) }
+    requires terms { (terms.limit ≡ board.now.key.terms.limit) × (1 ≤ terms.seats) × (terms.seats ≤ 32) }
+    requires idle { hand state.old.token.me.0.pile ≡ [] }
+    ensures hub { state.new.token.table_id ≡ state.old.token.table_id }
+    ensures room { (vec_len state.new.entries ≡ vec_len state.old.entries) × (vec_capacity state.new.entries ≡ vec_capacity state.old.entries) }
+    ensures view { state.new.token.me ≡ (with_pile (with_tally state.old.token.me.0 state.new.token.me.0.tally) state.new.token.me.0.pile, state.old.token.me.1) }
+    ensures tally { Goes state.old.token.me.0.tally state.new.token.me.0.tally }
+    ensures some { IfSome result (λ w. (i : ℕ) × (state.new.token.me.0.pile ≡ takes_up state.old.token.me.0.pile ((i, w) ∷ []))) }
+    ensures go { IfSome result (λ _. (state.new.token.me.0.tally.leave ≡ true) × (state.old.token.me.0.tally.low < state.new.token.me.0.tally.low) × (state.old.token.me.0.tally.unset < state.new.token.me.0.tally.unset)) }
+    ensures none { IfNone result (EndsBy state.old.token.me.0 state.new.token.me.0) }
+{
+    let alloc = *state.entries.allocator();
+    let Some(work) = find_work(rt, alloc, board, &mut state.token, state.desk, terms) else {
+        return None;
+    };
+    state.moved = state.moved.wrapping_sub(1);
+    Some(work)
+}
+
+fn leave_at<S: Scene, R: Wait>(
+    rt: &R,
+    board: &Board<S>,
+    state: &mut SeatState<S::Entry, S::Shard, S::Work>,
+    ops: Vec<S::Work>,
+) -> Result<(), Vec<S::Work>>
+    requires table { (state.old.token.table_id ≡ board.now.table_id) × (board.now.table_id.words ≡ 101) }
+    requires ops { ops.items ≡ things_of state.old.token.me.0.pile.offered }
+    ensures hub { state.new.token.table_id ≡ state.old.token.table_id }
+    ensures room { (vec_len state.new.entries ≡ vec_len state.old.entries) × (vec_capacity state.new.entries ≡ vec_capacity state.old.entries) }
+    ensures ok { OnOk result (state.new.token.me ≡ (with_pile state.old.token.me.0 (leaves state.old.token.me.0.pile), state.old.token.me.1)) }
+    ensures err { IfErr result (λ v. (v ≡ ops) × (state.new.token.me ≡ state.old.token.me)) }
+{
+    let alloc = *state.entries.allocator();
+    let count = ops.len() as u64;
+    if count == 0 {
+        return Ok(());
+    }
+    match leave_works(rt, alloc, board, &mut state.token, state.desk, ops) {
+        Ok(()) => {
+            state.moved = state.moved.wrapping_add(count);
+            Ok(())
+        }
+        Err(ops) => Err(ops),
+    }
 }

@@ -7,22 +7,27 @@ ghost use Rattle.group_locks.specs.Meaning.{Follows};
 ghost use Rattle.group_locks.specs.Stops.{code_of, HasFault};
 ghost use Rattle.atomic_table.specs.Table.{rest};
 
+use crate::desks::ring;
 use crate::rule::{
     Draw, FindCharged, FindStop, Give, Halt, Limiting, Naming, Opened, Pay, Rule, Take,
 };
 use crate::scene::Scene;
+use crate::slot::Slot;
 use crate::terms::StopCause;
 use crate::view::View;
 use atomic_table::Shared;
 use std::marker::Brand;
 use std::sync::Wait;
 
-pub type Token<S: Scene> = atomic_table::Seat<Option<S::Shard>, View<S::Entry, S::Shard>>;
+pub type Token<S: Scene> = atomic_table::Seat<
+    Slot<S::Shard, S::Work>,
+    View<S::Entry, S::Shard, S::Work>,
+>;
 
 pub type Board<S: Scene> = Shared<
-    Option<S::Shard>,
-    View<S::Entry, S::Shard>,
-    Opened<S::Shard>,
+    Slot<S::Shard, S::Work>,
+    View<S::Entry, S::Shard, S::Work>,
+    Opened<S::Shard, S::Work>,
     Rule<S>,
 >;
 
@@ -34,16 +39,17 @@ fn take_turn<S: Scene, R: Wait>(
     number: u32,
 ) -> S::Shard
     requires table { token.old.table_id ≡ board.now.table_id }
-    requires counts { (board.now.table_id.words ≡ 67) × (number < 64) }
+    requires counts { (board.now.table_id.words ≡ 101) × (number < 64) }
     requires fresh { (token.old.me.0.since ≡ []) × (0 < token.old.me.0.parts) }
     ensures same { (token.new.table_id ≡ token.old.table_id) × (token.new.id ≡ token.old.id) }
-    ensures view { token.new.me.0 ≡ view token.old.me.0.parts token.old.me.0.entries ((number, result) ∷ token.old.me.0.held) token.old.me.0.since token.old.me.0.tally }
-    ensures out { token.new.me.1 ≡ (number, None) ∷ token.old.me.1 }
+    ensures view { token.new.me.0 ≡ view token.old.me.0.parts token.old.me.0.entries ((number, result) ∷ token.old.me.0.held) token.old.me.0.since token.old.me.0.tally token.old.me.0.pile }
+    ensures out { token.new.me.1 ≡ (number, Slot.Shard None) ∷ token.old.me.1 }
 {
     let word = number as usize + 1;
     for _ in rt.forever() {
         if board.compare_exchange::<Take>(token, word, 0, 1) == 0 {
-            let Some(shard) = board.exchange(token, number as usize, None) else {
+            let Slot::Shard(Some(shard)) = board.exchange(token, number as usize, Slot::Shard(None))
+            else {
                 unreachable!()
             };
             return shard;
@@ -63,12 +69,12 @@ pub fn take_turns<S: Scene, R: Wait>(
     shards: u64,
 )
     requires table { token.old.table_id ≡ board.now.table_id }
-    requires counts { board.now.table_id.words ≡ 67 }
+    requires counts { board.now.table_id.words ≡ 101 }
     requires part { 0 < token.old.me.0.parts }
     requires fresh { (token.old.me.0.held ≡ []) × (token.old.me.0.since ≡ []) × (token.old.me.1 ≡ []) }
     requires none { (k : ℕ) → S.in_hand held.old k ≡ None }
     ensures same { (token.new.table_id ≡ token.old.table_id) × (token.new.id ≡ token.old.id) }
-    ensures view { token.new.me.0 ≡ view token.old.me.0.parts token.old.me.0.entries token.new.me.0.held [] token.old.me.0.tally }
+    ensures view { token.new.me.0 ≡ view token.old.me.0.parts token.old.me.0.entries token.new.me.0.held [] token.old.me.0.tally token.old.me.0.pile }
     ensures out { token.new.me.1 ≡ emptied token.new.me.0.held }
     ensures falls { (below 64 token.new.me.0.held ≡ true) × (descends token.new.me.0.held ≡ true) }
     ensures carries { Carries S.meaning [] token.new.me.0.held (S.in_hand held.new) }
@@ -85,7 +91,7 @@ pub fn take_turns<S: Scene, R: Wait>(
 // Gives back the turn that was taken last, with this shard.
 fn give_turn<S: Scene>(board: &Board<S>, token: &mut Token<S>, number: u32, shard: S::Shard)
     requires table { token.old.table_id ≡ board.now.table_id }
-    requires counts { board.now.table_id.words ≡ 67 }
+    requires counts { board.now.table_id.words ≡ 101 }
     requires number { number < 64 }
     requires out { token.old.me.1 ≡ emptied token.old.me.0.held }
     requires top { (found : S.Shard) × (token.old.me.0.held ≡ (number, found) ∷ rest token.old.me.0.held) × Follows S.meaning token.old.me.0.since number found shard }
@@ -93,20 +99,20 @@ fn give_turn<S: Scene>(board: &Board<S>, token: &mut Token<S>, number: u32, shar
     ensures view { token.new.me.0 ≡ given_back token.old.me.0 }
     ensures out { token.new.me.1 ≡ emptied token.new.me.0.held }
 {
-    board.exchange(token, number as usize, Some(shard));
+    board.exchange(token, number as usize, Slot::Shard(Some(shard)));
     board.store::<Give>(token, number as usize + 1, 0);
     board.wake_one(number as usize + 1);
 }
 
 // Moves all shards in hand home, and gives their turns back.
 pub fn give_turns<S: Scene>(scene: &S, board: &Board<S>, token: &mut Token<S>, held: &mut S::Held)
-    requires table { (token.old.table_id ≡ board.now.table_id) × (board.now.table_id.words ≡ 67) }
+    requires table { (token.old.table_id ≡ board.now.table_id) × (board.now.table_id.words ≡ 101) }
     requires since { token.old.me.0.held ≡ [] → token.old.me.0.since ≡ [] }
     requires out { token.old.me.1 ≡ emptied token.old.me.0.held }
     requires falls { (below 64 token.old.me.0.held ≡ true) × (descends token.old.me.0.held ≡ true) }
     requires carries { Carries S.meaning token.old.me.0.since token.old.me.0.held (S.in_hand held.old) }
     ensures same { (token.new.table_id ≡ token.old.table_id) × (token.new.id ≡ token.old.id) }
-    ensures view { token.new.me ≡ (view token.old.me.0.parts token.old.me.0.entries [] [] token.old.me.0.tally, []) }
+    ensures view { token.new.me ≡ (view token.old.me.0.parts token.old.me.0.entries [] [] token.old.me.0.tally token.old.me.0.pile, []) }
     ensures none { (k : ℕ) → S.in_hand held.new k ≡ None }
 {
     let mut number = 64u32;
@@ -124,22 +130,22 @@ fn draw_as<S: Scene, J: Naming<S::Entry>>(
     token: &mut Token<S>,
     entry: &S::Entry,
 ) -> u64
-    requires table { (token.old.table_id ≡ board.now.table_id) × (board.now.table_id.words ≡ 67) }
+    requires table { (token.old.table_id ≡ board.now.table_id) × (board.now.table_id.words ≡ 101) }
     requires named { J.entry ≡ Some entry.now }
     requires may { MayDraw S.meaning token.old.me.0 entry.now }
     ensures same { (token.new.table_id ≡ token.old.table_id) × (token.new.id ≡ token.old.id) }
-    ensures drawn { token.new.me ≡ (after_draw token.old.me.0 result entry.now, token.old.me.1) }
+    ensures drawn { (base : ℕ) × (token.new.me ≡ (after_draw S.meaning token.old.me.0 result entry.now base, token.old.me.1)) }
 {
     let _ = entry;
-    board.fetch_add::<Draw<J>>(token, 0, 1)
+    board.fetch_add::<Draw<S, J>>(token, 0, 1)
 }
 
 // Draws the entry.
 pub fn draw<S: Scene>(board: &Board<S>, token: &mut Token<S>, entry: &S::Entry) -> u64
-    requires table { (token.old.table_id ≡ board.now.table_id) × (board.now.table_id.words ≡ 67) }
+    requires table { (token.old.table_id ≡ board.now.table_id) × (board.now.table_id.words ≡ 101) }
     requires may { MayDraw S.meaning token.old.me.0 entry.now }
     ensures same { (token.new.table_id ≡ token.old.table_id) × (token.new.id ≡ token.old.id) }
-    ensures drawn { token.new.me ≡ (after_draw token.old.me.0 result entry.now, token.old.me.1) }
+    ensures drawn { (base : ℕ) × (token.new.me ≡ (after_draw S.meaning token.old.me.0 result entry.now base, token.old.me.1)) }
 {
     draw_as::<S, Brand>(board, token, entry)
 }
@@ -148,21 +154,35 @@ pub const CHARGED: usize = 65;
 
 pub const STOP: usize = 66;
 
-// Adds the price of what is due to the charged word.
-pub fn pay<S: Scene>(board: &Board<S>, token: &mut Token<S>, price: u64)
-    requires table { (token.old.table_id ≡ board.now.table_id) × (board.now.table_id.words ≡ 67) }
+pub const PENDING: usize = 67;
+
+pub const BELL: usize = 100;
+
+// The first slot of a desk, and the word of its turn.
+pub const DESK: usize = 64;
+
+pub const DESK_TURN: usize = 68;
+
+// Adds the price of what is due to the charged word, and rings the bell where that passes the limit.
+pub fn pay<S: Scene>(board: &Board<S>, token: &mut Token<S>, price: u64, limit: u64)
+    requires table { (token.old.table_id ≡ board.now.table_id) × (board.now.table_id.words ≡ 101) }
     requires part { token.old.me.0.parts ≡ 32 }
     requires due { (price ≡ cost S.meaning.price token.old.me.0.tally.due) × (price ≤ 2 ^ 56) }
     requires clear { length token.old.me.0.tally.fresh ≡ 0 }
     ensures same { (token.new.table_id ≡ token.old.table_id) × (token.new.id ≡ token.old.id) }
     ensures paid { token.new.me ≡ (with_tally token.old.me.0 (pays token.old.me.0.tally), token.old.me.1) }
 {
-    board.fetch_add::<Pay>(token, CHARGED, price);
+    let found = board.fetch_add::<Pay>(token, CHARGED, price);
+    ring(
+        board,
+        token,
+        found <= limit && limit.saturating_sub(found) < price,
+    );
 }
 
 // Reads the charged word, under the limit that the proof names.
 fn read_charged_as<S: Scene, J: Limiting>(board: &Board<S>, token: &mut Token<S>) -> u64
-    requires table { (token.old.table_id ≡ board.now.table_id) × (board.now.table_id.words ≡ 67) }
+    requires table { (token.old.table_id ≡ board.now.table_id) × (board.now.table_id.words ≡ 101) }
     requires named { J.limit ≡ board.now.key.terms.limit }
     ensures same { (token.new.table_id ≡ token.old.table_id) × (token.new.id ≡ token.old.id) }
     ensures over { board.now.key.terms.limit < result → token.new.me ≡ (with_tally token.old.me.0 (saw_over token.old.me.0.tally), token.old.me.1) }
@@ -175,7 +195,7 @@ fn read_charged_as<S: Scene, J: Limiting>(board: &Board<S>, token: &mut Token<S>
 
 // Reads the charged word.
 pub fn read_charged<S: Scene>(board: &Board<S>, token: &mut Token<S>) -> u64
-    requires table { (token.old.table_id ≡ board.now.table_id) × (board.now.table_id.words ≡ 67) }
+    requires table { (token.old.table_id ≡ board.now.table_id) × (board.now.table_id.words ≡ 101) }
     ensures same { (token.new.table_id ≡ token.old.table_id) × (token.new.id ≡ token.old.id) }
     ensures over { board.now.key.terms.limit < result → token.new.me ≡ (with_tally token.old.me.0 (saw_over token.old.me.0.tally), token.old.me.1) }
     ensures low { result ≤ board.now.key.terms.limit → token.new.me ≡ (with_tally token.old.me.0 (saw_low token.old.me.0.tally), token.old.me.1) }
@@ -187,7 +207,7 @@ pub fn read_charged<S: Scene>(board: &Board<S>, token: &mut Token<S>) -> u64
 
 // Reads the stop word.
 pub fn read_stop<S: Scene>(board: &Board<S>, token: &mut Token<S>) -> u64
-    requires table { (token.old.table_id ≡ board.now.table_id) × (board.now.table_id.words ≡ 67) }
+    requires table { (token.old.table_id ≡ board.now.table_id) × (board.now.table_id.words ≡ 101) }
     ensures same { (token.new.table_id ≡ token.old.table_id) × (token.new.id ≡ token.old.id) }
     ensures low { result ≤ 2 }
     ensures found { token.new.me ≡ (with_tally token.old.me.0 (saw_stop token.old.me.0.tally result), token.old.me.1) }
@@ -195,13 +215,15 @@ pub fn read_stop<S: Scene>(board: &Board<S>, token: &mut Token<S>) -> u64
     board.load::<FindStop>(token, STOP)
 }
 
-// Sets the stop word, if it was not set.
+// Sets the stop word and rings the bell, if it was not set.
 pub fn halt<S: Scene>(board: &Board<S>, token: &mut Token<S>, cause: StopCause) -> u64
-    requires table { (token.old.table_id ≡ board.now.table_id) × (board.now.table_id.words ≡ 67) }
+    requires table { (token.old.table_id ≡ board.now.table_id) × (board.now.table_id.words ≡ 101) }
     requires fault { cause ≡ StopCause.Fault → HasFault S.meaning.faults token.old.me.0.entries }
     ensures same { (token.new.table_id ≡ token.old.table_id) × (token.new.id ≡ token.old.id) }
     ensures low { result ≤ 2 }
     ensures found { token.new.me ≡ (with_tally token.old.me.0 (saw_stop token.old.me.0.tally (cond (result == 0) (code_of cause) result)), token.old.me.1) }
 {
-    board.compare_exchange::<Halt>(token, STOP, 0, cause.code())
+    let found = board.compare_exchange::<Halt>(token, STOP, 0, cause.code());
+    ring(board, token, found == 0);
+    found
 }

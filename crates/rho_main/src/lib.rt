@@ -17,6 +17,3 @@ pub use price_table::Prices;
 pub use status::{Input, Status};
 pub use top::run;
 pub use words::{Command, Usage, Verb};
-
-#[cfg(test)]
-mod tests;

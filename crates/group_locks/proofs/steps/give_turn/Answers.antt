@@ -1,7 +1,20 @@
-use Rattle.std.proofs.Common.{◌≡◌, ◌∙◌, sym, ap, subst, arith, List}
+use Rattle.std.proofs.Common.{◌≡◌, ◌∙◌, ◌∷◌, ℕ, None, sym, ap, subst, arith, List}
 use Rattle.group_locks.specs.Meaning.{Follows}
-use Rattle.group_locks.proofs.Turns.{give_turn}
+use Rattle.group_locks.specs.Rule.{emptied}
+use Rattle.group_locks.specs.declared.slot.Slot.{Slot}
+use Rattle.group_locks.specs.declared.slot.Slot.TheVariants.{Shard}
+use Rattle.atomic_table.specs.Table.{rest}
+use Rattle.group_locks.proofs.Turns.{give_turn, heads}
 use Rattle.group_locks.proofs.steps.give_turn.Goals as goal
+
+pub exchange-requires : goal.exchange-requires
+exchange-requires g c =
+    let X : Type 0 = g.row.S-Shard.Denot in let W : Type 0 = g.row.S-Work.Denot in
+    let top = c.requires.top in
+    let gone : Slot X W = Shard None in
+    let held : List (ℕ × X) = c.args.token.now.me.0.held in
+    let out : c.args.token.now.me.1 ≡ (c.args.number, gone) ∷ emptied (rest held) = c.requires.out ∙ ap {A = List (ℕ × X)} emptied top.1 in
+    (c.requires.table, (gone, heads c.args.token.now.me.1 (emptied (rest held)) (c.args.number, gone) out))
 
 pub store-requires : goal.store-requires
 store-requires g c =

@@ -1,4 +1,4 @@
-use Rattle.std.proofs.Common.{ℕ, ◌∙◌, ◌++◌, length, sym, ap, subst, arith, append-nil}
+use Rattle.std.proofs.Common.{List, ℕ, ◌∙◌, ◌++◌, length, sym, ap, subst, arith, append-nil}
 use mathlib.Core.Logic.{dite}
 use native.Mathlib.Decide.{dec_le}
 use Rattle.atomic_table.specs.Table.{Allows, step}
@@ -13,10 +13,12 @@ load-requires g c =
     let slots = c.args.board.now.table_id.slots in
     let p = c.args.token.now in
     let key = c.args.board.now.key in
-    let Asks : ℕ → Type 0 = λ limit. Allows (HubRule m key.shards.value.items key.terms) slots p.id p.me 65 (λ n. n) (ReadCharged limit (step slots 65 0 0 none) p.me) in (
+    let X : Type 0 = g.row.S-Shard.Denot in let W : Type 0 = g.row.S-Work.Denot in
+    let opened : List X × List W = (key.shards.value.items, key.works.value.items) in
+    let Asks : ℕ → Type 0 = λ limit. Allows (HubRule m opened key.terms) slots p.id p.me 65 (λ n. n) (ReadCharged limit (step slots 65 0 0 none) p.me) in (
       c.requires.table.0,
       (let w = c.requires.table.1 in omega arith),
-      subst Asks (sym c.requires.named) (read_charged m key.shards.value.items key.terms slots p.id p.me.0 p.me.1),
+      subst Asks (sym c.requires.named) (read_charged m opened key.terms slots p.id p.me.0 p.me.1),
     )
 
 pub returns-clause-over : goal.returns-clause-over

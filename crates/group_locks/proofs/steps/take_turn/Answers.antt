@@ -1,4 +1,5 @@
 use Rattle.std.proofs.Common.{◌∙◌, ap, arith, Some}
+use Rattle.group_locks.specs.declared.slot.Slot.TheVariants.{Shard}
 use Rattle.group_locks.proofs.Turns.{take_turn, took_here, heads}
 use Rattle.group_locks.proofs.steps.take_turn.Goals as goal
 
@@ -7,4 +8,4 @@ compare_exchange-requires g c = (c.loop.invariant.0 ∙ c.requires.table, (let w
 
 pub exchange-requires : goal.exchange-requires
 exchange-requires g c = let h = took_here c.args.board.now.table_id.slots c.args.number _ _ _ c.compare_exchange.ensures.2 c.if-compare_exchange-eq0.true in
-    (c.compare_exchange.ensures.0 ∙ (c.loop.invariant.0 ∙ c.requires.table), (Some h.0, heads _ _ _ (ap (λ m. m.1) h.1)))
+    (c.compare_exchange.ensures.0 ∙ (c.loop.invariant.0 ∙ c.requires.table), (Shard (Some h.0), heads _ _ _ (ap (λ m. m.1) h.1)))

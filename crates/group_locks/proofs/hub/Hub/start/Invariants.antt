@@ -3,12 +3,12 @@ use Rattle.std.specs.List.{All}
 use Rattle.group_locks.specs.Rule.{newcomer}
 use Rattle.group_locks.proofs.hub.Hub.start.Given as goal
 
-abbrev pub invariant-loop : goal.invariant-loop
-invariant-loop g l = record {
+abbrev pub invariant-loop-number : goal.invariant-loop-number
+invariant-loop-number g l = record {
   table : l.token.table_id ≡ l.hub.table.shared.table_id;
-  me : l.token.me ≡ (newcomer (l.seats + 1 - l.counter), []);
-  count : length l.made.items + 1 ≡ l.counter;
-  len : vec_len l.made + 1 ≡ l.counter;
+  me : l.token.me ≡ (newcomer (l.seats + 1 - l.number), []);
+  count : length l.made.items + 1 ≡ l.number;
+  len : vec_len l.made + 1 ≡ l.number;
   room : l.seats ≤ vec_capacity l.made;
   each : All (λ s. (s.state.token.table_id ≡ l.hub.table.shared.table_id) × (s.state.token.me.0 ≡ newcomer 1)) l.made.items;
 }

@@ -1,4 +1,5 @@
-use Rattle.std.proofs.Common.{◌≡◌, ◌∙◌, ◌++◌, length, sym, ap, arith, append-nil, append_assoc, length-append, false, true}
+use Rattle.group_locks.specs.Works.{hand}
+use Rattle.std.proofs.Common.{◌+◌, ◌%◌, ◌^◌, ◌≡◌, ◌∙◌, ◌++◌, length, sym, ap, arith, append-nil, append_assoc, length-append, false, true}
 use Rattle.group_locks.specs.Rule.{below, descends, emptied}
 use Rattle.group_locks.proofs.seat.Seat.charge.Goals as goal
 
@@ -8,6 +9,10 @@ invariant_of-self g c = let e = c.pay.ensures.paid in let s = c.args.self.now.st
   out = ap (λ x. x.1) e ∙ (s.out ∙ sym (ap (λ x. emptied x.0.held) e));
   falls = (ap (λ x. below 64 x.0.held) e ∙ s.falls.0, ap (λ x. descends x.0.held) e ∙ s.falls.1);
   part = ap (λ x. x.0.parts) e ∙ s.part;
+  near = s.near;
+  calm = (ap (λ x. x.0.pile.owes) e ∙ s.calm.0, ap (λ x. x.0.pile.desk) e ∙ s.calm.1, ap (λ x. x.0.pile.kept) e ∙ s.calm.2);
+  even = ap (λ x. x.0.pile.counted) e ∙ (s.even ∙ sym (ap (λ x. length (hand x.0.pile)) e));
+  balance = ap (λ x. (s.moved + x.0.pile.fetched) % 2 ^ 64) e ∙ (s.balance ∙ sym (ap (λ x. x.0.pile.left % 2 ^ 64) e));
   fresh = λ h. ap (λ x. x.0.since) e ∙ s.fresh (sym (ap (λ x. x.0.held) e) ∙ h);
   owed = ap (λ x. x.0.entries) e ∙ (s.owed ∙ (append_assoc t.settled t.fresh t.due ∙ (sym (append-nil (t.settled ++ (t.fresh ++ t.due))) ∙ sym (ap (λ x. (x.0.tally.settled ++ x.0.tally.fresh) ++ x.0.tally.due) e))));
   last = let q = ap (λ x. length x.0.tally.due) e in let p = ap (λ x. length x.0.tally.fresh) e in let l = length-append t.fresh t.due in let o = s.last in omega arith;

@@ -1,4 +1,5 @@
-use Rattle.std.proofs.Common.{◌∙◌, ◌++◌, length, sym, ap, arith}
+use Rattle.group_locks.specs.Works.{hand}
+use Rattle.std.proofs.Common.{◌+◌, ◌%◌, ◌^◌, ◌∙◌, ◌++◌, length, sym, ap, arith}
 use Rattle.std.proofs.lemmas.Nat.Bits.{bit_at_above}
 use mathlib.Core.Logic.{dite}
 use native.Mathlib.Decide.{dec_le}
@@ -11,6 +12,10 @@ invariant_of-self g c = let e = c.take_turns.ensures in let s = c.args.self.now.
   out = e.out;
   falls = e.falls;
   part = (let p = s.part in let q = ap (λ v. v.parts) e.view in omega arith);
+  near = s.near;
+  calm = (ap (λ v. v.pile.owes) e.view ∙ s.calm.0, ap (λ v. v.pile.desk) e.view ∙ s.calm.1, ap (λ v. v.pile.kept) e.view ∙ s.calm.2);
+  even = ap (λ v. v.pile.counted) e.view ∙ (s.even ∙ sym (ap (λ v. length (hand v.pile)) e.view));
+  balance = ap (λ v. (s.moved + v.pile.fetched) % 2 ^ 64) e.view ∙ (s.balance ∙ sym (ap (λ v. v.pile.left % 2 ^ 64) e.view));
   fresh = λ _. ap (λ v. v.since) e.view;
   owed = ap (λ v. v.entries) e.view ∙ (s.owed ∙ sym (ap (λ v. (v.tally.settled ++ v.tally.fresh) ++ v.tally.due) e.view));
   last = let q = ap (λ v. length v.tally.due) e.view in let p = ap (λ v. length v.tally.fresh) e.view in let l = s.last in omega arith;

@@ -1,4 +1,0 @@
-use Rattle.group_locks.proofs.tests.a_seat_ends_above_the_limit.Goals as goal
-
-pub start-requires-clause-projected : goal.start-requires-clause-projected
-start-requires-clause-projected g c κs = ((λ k. 0), c.in_ok-shards.ensures.zero)

@@ -1,0 +1,215 @@
+//! The steps of one seat on desks and on the count of what is pending.
+ghost use Rattle.std.specs.Prelude.{◌≡◌, ℕ, ◌+◌, ◌-◌, ◌%◌, ◌^◌, ◌<◌, ◌≤◌, true, false, [], ◌∷◌, ◌++◌, length, None, Some, IfSome, IfNone, IfOk, IfErr, OnOk, IsSome, option_to_list, vec_capacity};
+ghost use Rattle.group_locks.specs.Counts.{things_of};
+ghost use Rattle.group_locks.specs.Works.{hand};
+ghost use Rattle.group_locks.specs.Rule.{with_pile, tells_of, saw_empty, at_desk, away, takes_up, leaves};
+ghost use Rattle.atomic_table.specs.Table.{rest};
+
+use crate::order::move_all;
+use crate::rule::{Fetch, FindPending, Leave, Ring, TakeDesk, Tell};
+use crate::scene::Scene;
+use crate::slot::Slot;
+use crate::steps::{BELL, Board, DESK, DESK_TURN, PENDING, Token};
+use std::alloc::Global;
+use std::sync::Wait;
+
+// Adds this to the pending word, modulo 2^64, and answers what it was.
+pub fn tell<S: Scene>(board: &Board<S>, token: &mut Token<S>, offers: u64) -> u64
+    requires table { (token.old.table_id ≡ board.now.table_id) × (board.now.table_id.words ≡ 101) }
+    requires owes { token.old.me.0.pile.owes ≡ true }
+    requires offers { offers ≡ (length (hand token.old.me.0.pile) + (2 ^ 64 - token.old.me.0.pile.counted)) % 2 ^ 64 }
+    ensures same { (token.new.table_id ≡ token.old.table_id) × (token.new.id ≡ token.old.id) }
+    ensures told { token.new.me ≡ (with_pile token.old.me.0 (tells_of token.old.me.0.pile), token.old.me.1) }
+{
+    board.fetch_add::<Tell>(token, PENDING, offers)
+}
+
+// Reads the pending word.
+pub fn read_pending<S: Scene>(board: &Board<S>, token: &mut Token<S>) -> u64
+    requires table { (token.old.table_id ≡ board.now.table_id) × (board.now.table_id.words ≡ 101) }
+    ensures same { (token.new.table_id ≡ token.old.table_id) × (token.new.id ≡ token.old.id) }
+    ensures none { result ≡ 0 → token.new.me ≡ (with_pile token.old.me.0 (saw_empty token.old.me.0.pile), token.old.me.1) }
+    ensures some { 0 < result → token.new.me ≡ token.old.me }
+{
+    board.load::<FindPending>(token, PENDING)
+}
+
+// Rings the bell where that is wanted, and wakes all that wait for it.
+pub fn ring<S: Scene>(board: &Board<S>, token: &mut Token<S>, wanted: bool)
+    requires table { (token.old.table_id ≡ board.now.table_id) × (board.now.table_id.words ≡ 101) }
+    ensures same { (token.new.table_id ≡ token.old.table_id) × (token.new.id ≡ token.old.id) × (token.new.me ≡ token.old.me) }
+{
+    if !wanted {
+        return;
+    }
+    board.fetch_add::<Ring>(token, BELL, 1);
+    board.wake_all(BELL);
+}
+
+// Takes the turn of a desk, and the works out of its slot.
+fn take_desk<S: Scene, R: Wait>(rt: &R, board: &Board<S>, token: &mut Token<S>, desk: u32)
+    requires table { (token.old.table_id ≡ board.now.table_id) × (board.now.table_id.words ≡ 101) }
+    requires desk { (desk < 32) × (token.old.me.0.pile.desk ≡ []) × (0 < token.old.me.0.parts) }
+    ensures same { (token.new.table_id ≡ token.old.table_id) × (token.new.id ≡ token.old.id) }
+    ensures taken { (v : _) × (ps : _) × (token.new.me ≡ (with_pile token.old.me.0 (at_desk token.old.me.0.pile desk ps), (desk + 64, Slot.Desk v) ∷ token.old.me.1)) × (v.items ≡ things_of ps) }
+{
+    let word = desk as usize + DESK_TURN;
+    for _ in rt.forever() {
+        if board.compare_exchange::<TakeDesk>(token, word, 0, 1) == 0 {
+            return;
+        }
+        board.park(rt, word, 1);
+    }
+    unreachable!()
+}
+
+// Moves the works off the desk whose turn is held.
+fn desk_out<S: Scene>(
+    alloc: Global,
+    board: &Board<S>,
+    token: &mut Token<S>,
+    desk: u32,
+) -> Vec<S::Work>
+    requires table { token.old.table_id ≡ board.now.table_id }
+    requires held { (works : _) × (token.old.me.1 ≡ (desk + 64, Slot.Desk works) ∷ rest token.old.me.1) }
+    requires low { desk < 32 }
+    ensures same { (token.new.table_id ≡ token.old.table_id) × (token.new.id ≡ token.old.id) }
+    ensures works { token.old.me.1 ≡ (desk + 64, Slot.Desk result) ∷ rest token.old.me.1 }
+    ensures left { (empty : _) × (token.new.me ≡ (token.old.me.0, (desk + 64, Slot.Desk empty) ∷ rest token.old.me.1)) }
+{
+    let Slot::Desk(works) = board.exchange(token, desk as usize + DESK, Slot::Desk(Vec::new(alloc)))
+    else {
+        unreachable!()
+    };
+    works
+}
+
+// Puts works on the desk whose turn is held.
+fn desk_in<S: Scene>(board: &Board<S>, token: &mut Token<S>, desk: u32, works: Vec<S::Work>)
+    requires table { token.old.table_id ≡ board.now.table_id }
+    requires held { (old : _) × (token.old.me.1 ≡ (desk + 64, Slot.Desk old) ∷ rest token.old.me.1) }
+    requires low { desk < 32 }
+    ensures same { (token.new.table_id ≡ token.old.table_id) × (token.new.id ≡ token.old.id) }
+    ensures left { token.new.me ≡ (token.old.me.0, (desk + 64, Slot.Desk works) ∷ rest token.old.me.1) }
+{
+    board.exchange(token, desk as usize + DESK, Slot::Desk(works));
+}
+
+// Gives the turn of a desk back, where these works and the one taken, if there is one, lay on it.
+fn give_desk<S: Scene>(
+    board: &Board<S>,
+    token: &mut Token<S>,
+    desk: u32,
+    works: Vec<S::Work>,
+    taken: &Option<S::Work>,
+)
+    requires table { (token.old.table_id ≡ board.now.table_id) × (board.now.table_id.words ≡ 101) }
+    requires held { (old : _) × (token.old.me.1 ≡ (desk + 64, Slot.Desk old) ∷ rest token.old.me.1) }
+    requires desk { (ps : _) × (token.old.me.0.pile.desk ≡ (desk, ps) ∷ []) × (things_of ps ≡ works.items ++ option_to_list taken.now) }
+    requires low { (desk < 32) × (32 ≤ token.old.me.0.parts) × (token.old.me.0.pile.owes ≡ false) }
+    requires idle { IsSome taken.now → hand token.old.me.0.pile ≡ [] }
+    ensures same { (token.new.table_id ≡ token.old.table_id) × (token.new.id ≡ token.old.id) }
+    ensures some { IfSome taken.now (λ w. (i : ℕ) × (token.new.me ≡ (with_pile token.old.me.0 (takes_up token.old.me.0.pile ((i, w) ∷ [])), rest token.old.me.1))) }
+    ensures none { IfNone taken.now (token.new.me ≡ (with_pile token.old.me.0 (away token.old.me.0.pile), rest token.old.me.1)) }
+{
+    let _ = taken;
+    desk_in(board, token, desk, works);
+    board.store::<Fetch>(token, desk as usize + DESK_TURN, 0);
+    board.wake_one(desk as usize + DESK_TURN);
+}
+
+// Takes a work from a desk, if one lies there.
+fn fetch_work<S: Scene, R: Wait>(
+    rt: &R,
+    alloc: Global,
+    board: &Board<S>,
+    token: &mut Token<S>,
+    desk: u32,
+) -> Option<S::Work>
+    requires table { (token.old.table_id ≡ board.now.table_id) × (board.now.table_id.words ≡ 101) }
+    requires desk { (desk < 32) × (token.old.me.0.pile.desk ≡ []) × (32 ≤ token.old.me.0.parts) × (token.old.me.0.pile.owes ≡ false) }
+    requires idle { hand token.old.me.0.pile ≡ [] }
+    ensures same { (token.new.table_id ≡ token.old.table_id) × (token.new.id ≡ token.old.id) }
+    ensures some { IfSome result (λ w. (i : ℕ) × (token.new.me ≡ (with_pile token.old.me.0 (takes_up token.old.me.0.pile ((i, w) ∷ [])), token.old.me.1))) }
+    ensures none { IfNone result (token.new.me ≡ token.old.me) }
+{
+    take_desk(rt, board, token, desk);
+    let mut works = desk_out(alloc, board, token, desk);
+    let taken = works.pop();
+    give_desk(board, token, desk, works, &taken);
+    taken
+}
+
+// Takes a work from the first desk, from this one on, where one lies.
+pub fn look_round<S: Scene, R: Wait>(
+    rt: &R,
+    alloc: Global,
+    board: &Board<S>,
+    token: &mut Token<S>,
+    first: u32,
+    desks: u32,
+) -> Option<S::Work>
+    requires table { (token.old.table_id ≡ board.now.table_id) × (board.now.table_id.words ≡ 101) }
+    requires desk { (first < 32) × (1 ≤ desks) × (desks ≤ 32) × (token.old.me.0.pile.desk ≡ []) × (32 ≤ token.old.me.0.parts) × (token.old.me.0.pile.owes ≡ false) }
+    requires idle { hand token.old.me.0.pile ≡ [] }
+    ensures same { (token.new.table_id ≡ token.old.table_id) × (token.new.id ≡ token.old.id) }
+    ensures some { IfSome result (λ w. (i : ℕ) × (token.new.me ≡ (with_pile token.old.me.0 (takes_up token.old.me.0.pile ((i, w) ∷ [])), token.old.me.1))) }
+    ensures none { IfNone result (token.new.me ≡ token.old.me) }
+{
+    for step in 0..desks {
+        if let Some(work) = fetch_work(rt, alloc, board, token, (first + step) % desks) {
+            return Some(work);
+        }
+    }
+    None
+}
+
+// Gives the turn of a desk back, where these works lie on it, of which the last are those that were offered.
+fn give_left<S: Scene>(board: &Board<S>, token: &mut Token<S>, desk: u32, works: Vec<S::Work>)
+    requires table { (token.old.table_id ≡ board.now.table_id) × (board.now.table_id.words ≡ 101) }
+    requires held { (old : _) × (token.old.me.1 ≡ (desk + 64, Slot.Desk old) ∷ rest token.old.me.1) }
+    requires desk { (ps : _) × (token.old.me.0.pile.desk ≡ (desk, ps) ∷ []) × (works.items ≡ things_of ps ++ things_of token.old.me.0.pile.offered) }
+    requires low { (desk < 32) × (32 ≤ token.old.me.0.parts) × (token.old.me.0.pile.owes ≡ false) × (length works.items ≤ 2 ^ 58) }
+    ensures same { (token.new.table_id ≡ token.old.table_id) × (token.new.id ≡ token.old.id) }
+    ensures left { token.new.me ≡ (with_pile token.old.me.0 (leaves token.old.me.0.pile), rest token.old.me.1) }
+{
+    desk_in(board, token, desk, works);
+    board.store::<Leave>(token, desk as usize + DESK_TURN, 0);
+    board.wake_one(desk as usize + DESK_TURN);
+}
+
+// Reserves room for so many further works, of 2^58 at most.
+fn has_room<W: Drop>(works: &mut Vec<W>, more: usize) -> bool
+    ensures items { works.new.items ≡ works.old.items }
+    ensures room { result ≡ true → (length works.old.items + more ≤ vec_capacity works.new) × (length works.old.items + more ≤ 2 ^ 58) }
+{
+    works.len() <= 1 << 58 && more <= (1 << 58) - works.len() && works.reserve(more).is_ok()
+}
+
+// Puts the works that the last entry offered on a desk, where memory allows.
+pub fn leave_works<S: Scene, R: Wait>(
+    rt: &R,
+    alloc: Global,
+    board: &Board<S>,
+    token: &mut Token<S>,
+    desk: u32,
+    ops: Vec<S::Work>,
+) -> Result<(), Vec<S::Work>>
+    requires table { (token.old.table_id ≡ board.now.table_id) × (board.now.table_id.words ≡ 101) }
+    requires desk { (desk < 32) × (token.old.me.0.pile.desk ≡ []) × (32 ≤ token.old.me.0.parts) × (token.old.me.0.pile.owes ≡ false) }
+    requires ops { ops.items ≡ things_of token.old.me.0.pile.offered }
+    ensures same { (token.new.table_id ≡ token.old.table_id) × (token.new.id ≡ token.old.id) }
+    ensures ok { OnOk result (token.new.me ≡ (with_pile token.old.me.0 (leaves token.old.me.0.pile), token.old.me.1)) }
+    ensures err { IfErr result (λ v. (v ≡ ops) × (token.new.me ≡ token.old.me)) }
+{
+    take_desk(rt, board, token, desk);
+    let mut works = desk_out(alloc, board, token, desk);
+    if !has_room(&mut works, ops.len()) {
+        give_desk(board, token, desk, works, &None);
+        return Err(ops);
+    }
+    move_all(ops, &mut works);
+    give_left(board, token, desk, works);
+    ring(board, token, true);
+    Ok(())
+}
