@@ -1,5 +1,5 @@
 -- In the tokens of a text the end stands last and nowhere else.
-use Rattle.std.proofs.Common.{◌≡◌, ◌∙◌, ℕ, Bool, true, false, not, ◌&&◌, nat_eq, List, [], ◌∷◌, ◌++◌, refl, sym, ap, subst}
+use Rattle.std.proofs.Common.{◌≡◌, ◌∙◌, ℕ, Bool, true, false, not, ◌&&◌, nat_eq, List, [], ◌∷◌, ◌++◌, refl, sym, ap}
 use Rattle.std.specs.Prelude.{if◌then◌else◌}
 use Rattle.std.specs.Str.{bytes_eq}
 use Rattle.tokens.specs.Token as tokens
@@ -8,10 +8,10 @@ use Rattle.tokens.specs.Reading.{AreInOrder}
 use Rattle.tokens.specs.Spelling.{HasForm}
 use Rattle.grammar.specs.declared.mark.Mark.{Mark}
 use Rattle.grammar.specs.declared.mark.Mark.TheVariants as marks
-use Rattle.grammar.specs.Terminals.{code, mark_bytes, key_marks, sign_marks, Terminal, text, number, mark, stranger, mark_among, terminal, sees}
-use Rattle.rho_lexer.specs.Meaning.{kind_token, spanned_token, spanned_tokens}
+use Rattle.grammar.specs.Terminals.{code, mark_bytes, key_marks, sign_marks, Terminal, mark, mark_among, terminal, sees}
+use Rattle.rho_lexer.specs.Meaning.{kind_token, spanned_tokens}
 use Rattle.rho_lexer.specs.declared.token.Token.{Token}
-use Rattle.rho_parser.specs.Meaning.{view}
+use Rattle.token_cursor.specs.Meaning.{view}
 
 -- whether these marks are all others than the end
 abbrev all_other : List Mark → Bool

@@ -1,7 +1,5 @@
+mod Cycle
 mod Ends
-mod Fronts
-mod Marks
 mod Patterns
 mod Processes
-mod Steps
 mod Wholes

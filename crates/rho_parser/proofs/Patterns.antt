@@ -14,8 +14,8 @@ use Rattle.grammar.specs.Productions.{Prod}
 use Rattle.grammar.specs.Rules.{Sort, Rule, last}
 use Rattle.grammar.specs.Terminals.{Terminal, sees}
 use Rattle.grammar.specs.Values.{Spelt, patterns}
-use Rattle.rho_parser.specs.Reading.{Makes, Turns, pat_pairs_written}
-use Rattle.rho_parser.proofs.Steps.{exit, leave, rows}
+use Rattle.token_cursor.specs.Reading.{Makes, Turns, pat_pairs_written}
+use Rattle.token_cursor.proofs.Steps.{exit, leave, rows}
 
 -- at the exit of a `?` where memory ran out
 pub short : {T : Type 0} (free : ℕ) (r : Rule) (ts us : List Terminal) (of : T → Spelt) (res : Result T Fault) (e : Fault) → IsErrAnd res (λ y. y ≡ e) → e ≡ NoMemory

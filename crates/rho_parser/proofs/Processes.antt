@@ -1,5 +1,5 @@
 -- The steps of the cycle over processes.
-use Rattle.std.proofs.Common.{◌≡◌, ◌+◌, max, map, ◌++◌, ℕ, ◌<◌, ◌≤◌, arith, List, ◌∷◌, [], Result, Ok, Err, subst, sym, ap, ◌∙◌, refl, Bool, true, false, Option, Some, None}
+use Rattle.std.proofs.Common.{◌≡◌, max, map, ℕ, ◌≤◌, arith, List, ◌∷◌, [], Result, Ok, Err, subst, sym, ap, ◌∙◌, Bool, true, false, Option, Some, None}
 use Rattle.std.specs.Prelude.{IfOk}
 use Rattle.std.specs.declared.alloc.Global.{Global}
 use Rattle.std.specs.declared.vec.Vec.{Vec}
@@ -21,12 +21,13 @@ use Rattle.grammar.specs.Grammar.{rule}
 use Rattle.grammar.specs.Productions.{Prod}
 use Rattle.grammar.specs.Rules.{Sort, Rule, last, opens, under}
 use Rattle.grammar.specs.Terminals.{Terminal, sees}
-use Rattle.grammar.specs.Values.{Side, Spelt, leaf, spelt, operation, processes}
-use Rattle.rho_parser.specs.Levels.{GoesOn, operand_of, tail_of}
-use Rattle.rho_parser.specs.Reading.{of_name, pairs_written}
-use Rattle.rho_parser.specs.declared.level.Level.{Level}
-use Rattle.rho_parser.specs.declared.part.Part.{Part}
-use Rattle.rho_parser.proofs.Steps.{as_rule, rows, tails}
+use Rattle.grammar.specs.Values.{Side, Spelt, leaf, operation, processes}
+use Rattle.token_cursor.specs.Levels.{GoesOn, operand_of, tail_of}
+use Rattle.token_cursor.specs.Reading.{of_name, pairs_written}
+use Rattle.token_cursor.specs.declared.level.Level.{Level}
+use Rattle.token_cursor.specs.declared.part.Part.{Part}
+use Rattle.rho_parser.proofs.Cycle.{as_rule, tails}
+use Rattle.token_cursor.proofs.Steps.{rows}
 
 -- memory ran out
 pub forgets : {free : ℕ} {r : Rule} {ts us : List Terminal} (e : Fault) → e ≡ NoMemory → Runs Tutorial free r ts (fault e us)

@@ -1,31 +1,31 @@
 -- What a parser answers for the tokens of a text.
-use Rattle.std.proofs.Common.{◌≡◌, ◌∙◌, ℕ, zero, suc, ◌-◌, ◌≤◌, ◌<◌, max, List, [], ◌∷◌, ◌++◌, true, false, map, length, refl, sym, ap, subst, arith}
+use Rattle.std.proofs.Common.{◌≡◌, ◌∙◌, ℕ, ◌-◌, ◌≤◌, max, List, [], ◌∷◌, true, false, map, length, sym, ap, subst, arith}
 use Rattle.std.proofs.lemmas.List.{length-map}
 use Rattle.calculus.specs.Written.{Written}
-use Rattle.tokens.specs.Token as tokens
 use Rattle.tokens.specs.Token.{source}
-use Rattle.tokens.specs.Reading.{AreInOrder}
 use Rattle.grammar.specs.declared.dialect.Dialect.TheVariants.{Tutorial}
 use Rattle.grammar.specs.declared.fault.Fault.TheVariants.{Syntax, TooDeep}
 use Rattle.grammar.specs.declared.mark.Mark.TheVariants as marks
-use Rattle.grammar.specs.Descent.{Descends, Outcome, read, fault}
-use Rattle.grammar.specs.Rules.{Par, last}
+use Rattle.grammar.specs.Descent.{Descends, Outcome, Runs, read, fault}
+use Rattle.grammar.specs.Rules.{Par, Rule, last}
 use Rattle.grammar.specs.Spells.{Reads, Spells, SpellsNothing}
-use Rattle.grammar.specs.Terminals.{Terminal, mark, terminal, terminals, sees}
+use Rattle.grammar.specs.Terminals.{Terminal, mark, terminal, sees}
 use Rattle.grammar.specs.Values.{Spelt, spelt, processes}
 use Rattle.grammar.proofs.OneReading.{one_reading}
 use Rattle.grammar.proofs.Sound.{sound}
 use Rattle.grammar.proofs.Agree.{same as same_outcome}
 use Rattle.grammar.proofs.Wider.{complete, wider, nothing}
-use Rattle.places.specs.Places.{PassesAt, EndsAt}
 use Rattle.places.proofs.Decided.{higher}
 use Rattle.places.proofs.Exact as exact
 use Rattle.places.proofs.Framed.{frames}
-use Rattle.rho_lexer.specs.Meaning.{spanned_tokens}
 use Rattle.rho_lexer.specs.declared.token.Token.{Token}
-use Rattle.rho_parser.specs.Meaning.{plain_tokens, view}
-use Rattle.rho_parser.specs.Parsed.{most_height, AreOfText, place_of, IsTooDeep, IsIllFormed}
+use Rattle.token_cursor.specs.Meaning.{most_height, plain_tokens, view}
+use Rattle.rho_parser.specs.Parsed.{AreOfText, place_of, IsTooDeep, IsIllFormed}
 use Rattle.rho_parser.proofs.Ends.{end_is_last}
+
+-- what the greatest height is
+pub at_most : {n : ℕ} {r : Rule} {ts : List Terminal} {out : Outcome} → n ≡ most_height → Runs Tutorial n r ts out → Runs Tutorial most_height r ts out
+at_most {n} {r} {ts} {out} e k = subst (λ (m : ℕ). Runs Tutorial m r ts out) e k
 
 -- the number of a token is counted in tokens or in terminals
 counted : (ts rest : List Token) → length (plain_tokens ts) - length (view rest) ≡ length ts - length rest

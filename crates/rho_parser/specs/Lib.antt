@@ -1,4 +1,2 @@
-pub mod Levels
-pub mod Meaning
 pub mod Parsed
 pub mod Reading

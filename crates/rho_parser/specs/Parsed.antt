@@ -9,11 +9,7 @@ use Rattle.rho_lexer.specs.Meaning.{spanned_tokens}
 use Rattle.rho_lexer.specs.declared.token.Token.{Token}
 use Rattle.rho_parser.specs.declared.parse_fault.ParseFault.{ParseFault}
 use Rattle.rho_parser.specs.declared.parse_fault.ParseFault.TheVariants.{Syntax, TooDeep, NoMemory}
-use Rattle.rho_parser.specs.Meaning.{plain_tokens}
-
--- the greatest height of a source
-abbrev pub most_height : ℕ
-most_height = 200
+use Rattle.token_cursor.specs.Meaning.{most_height, plain_tokens}
 
 -- the tokens of some text: each has its form, and the end stands last and nowhere else
 abbrev pub AreOfText : List Token → Type 0

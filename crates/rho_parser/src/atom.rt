@@ -5,25 +5,25 @@ ghost use Rattle.grammar.specs.Productions.{Prod};
 ghost use Rattle.grammar.specs.Rules.{Sort, last};
 ghost use Rattle.grammar.specs.Values.{processes};
 ghost use Rattle.grammar.specs.declared.dialect.Dialect.TheVariants.{Tutorial};
-ghost use Rattle.rho_parser.specs.Meaning.{view};
-ghost use Rattle.rho_parser.specs.Reading.{Gives, Makes, Turns, bracket_of, of_name, of_proc, of_row, pairs_written};
-ghost use Rattle.std.specs.Prelude.{◌≡◌, ◌+◌, ◌<◌, ◌≤◌, ◌^◌, IfOk, MatchResult, ℕ, length, map};
+ghost use Rattle.token_cursor.specs.Meaning.{view};
+ghost use Rattle.token_cursor.specs.Reading.{Gives, Makes, Turns, bracket_of, of_name, of_proc, of_row, pairs_written};
+ghost use Rattle.std.specs.Prelude.{◌<◌, ◌≤◌, IfOk, MatchResult, length, map};
 
-use crate::build;
-use crate::cursor::Parser;
-use crate::part::{Bracket, Part};
+use crate::parser::Parser;
 use calculus::{Name, Proc};
 use grammar::{Fault, Mark};
+use token_cursor::part::{Bracket, Part};
+use token_cursor::{parts, process_forms};
 
 impl<'a> Parser<'a> {
     /// Drop ::= "*" Dropped | Atom
     #[cycle(parse)]
     pub fn drop_form(&mut self, free: u32) -> Result<Part<Proc>, Fault>
-        ensures reads { Gives free Sort.Drop of_proc (view self.old.rest.now) result (view self.new.rest.now) }
+        ensures reads { Gives free Sort.Drop of_proc (view self.old.cursor.rest.now) result (view self.new.cursor.rest.now) }
         ensures room { IfOk result (λ p. p.height ≤ free) }
-        ensures shorter { length self.new.rest.now ≤ length self.old.rest.now }
+        ensures shorter { length self.new.cursor.rest.now ≤ length self.old.cursor.rest.now }
     {
-        if self.sees(Mark::Star) {
+        if self.cursor.sees(Mark::Star) {
             self.drop_star(free)
         } else {
             self.atom(free)
@@ -33,99 +33,99 @@ impl<'a> Parser<'a> {
     /// A `*` and a name.
     #[cycle(parse)]
     pub fn drop_star(&mut self, free: u32) -> Result<Part<Proc>, Fault>
-        ensures reads { Makes free (rule Tutorial Prod.drop_star) of_proc (view self.old.rest.now) result (view self.new.rest.now) }
+        ensures reads { Makes free (rule Tutorial Prod.drop_star) of_proc (view self.old.cursor.rest.now) result (view self.new.cursor.rest.now) }
         ensures room { IfOk result (λ p. p.height ≤ free) }
-        ensures shorter { length self.new.rest.now ≤ length self.old.rest.now }
+        ensures shorter { length self.new.cursor.rest.now ≤ length self.old.cursor.rest.now }
     {
-        self.expect(Mark::Star)?;
+        self.cursor.expect(Mark::Star)?;
         self.dropped(free)
     }
 
     /// Dropped ::= Word | "@" Drop
     #[cycle(parse)]
     pub fn dropped(&mut self, free: u32) -> Result<Part<Proc>, Fault>
-        ensures reads { Gives free Sort.Dropped of_proc (view self.old.rest.now) result (view self.new.rest.now) }
+        ensures reads { Gives free Sort.Dropped of_proc (view self.old.cursor.rest.now) result (view self.new.cursor.rest.now) }
         ensures room { IfOk result (λ p. p.height ≤ free) }
-        ensures shorter { length self.new.rest.now ≤ length self.old.rest.now }
+        ensures shorter { length self.new.cursor.rest.now ≤ length self.old.cursor.rest.now }
     {
-        if self.sees(Mark::At) {
+        if self.cursor.sees(Mark::At) {
             self.dropped_quote(free)
         } else {
-            self.dropped_word()
+            self.cursor.dropped_word()
         }
     }
 
     /// The process that a quoted process quotes.
     #[cycle(parse)]
     pub fn dropped_quote(&mut self, free: u32) -> Result<Part<Proc>, Fault>
-        ensures reads { Makes free (rule Tutorial Prod.dropped_quote) of_proc (view self.old.rest.now) result (view self.new.rest.now) }
+        ensures reads { Makes free (rule Tutorial Prod.dropped_quote) of_proc (view self.old.cursor.rest.now) result (view self.new.cursor.rest.now) }
         ensures room { IfOk result (λ p. p.height ≤ free) }
-        ensures shorter { length self.new.rest.now ≤ length self.old.rest.now }
+        ensures shorter { length self.new.cursor.rest.now ≤ length self.old.cursor.rest.now }
     {
-        self.opens(Mark::At, 0, free)?;
+        self.cursor.opens(Mark::At, 0, free)?;
         let quoted = self.drop_form(free - 1)?;
-        let name = build::quote(self.alloc, quoted)?;
-        Ok(build::dropped_quote(name))
+        let name = process_forms::quote(self.cursor.alloc, quoted)?;
+        Ok(process_forms::dropped_quote(name))
     }
 
     /// Name ::= Word | "@" Drop
     #[cycle(parse)]
     pub fn name(&mut self, free: u32) -> Result<Part<Name>, Fault>
-        ensures reads { Gives free Sort.Name of_name (view self.old.rest.now) result (view self.new.rest.now) }
+        ensures reads { Gives free Sort.Name of_name (view self.old.cursor.rest.now) result (view self.new.cursor.rest.now) }
         ensures room { IfOk result (λ p. p.height ≤ free) }
-        ensures shorter { length self.new.rest.now ≤ length self.old.rest.now }
+        ensures shorter { length self.new.cursor.rest.now ≤ length self.old.cursor.rest.now }
     {
-        if self.sees(Mark::At) {
+        if self.cursor.sees(Mark::At) {
             self.name_quote(free)
         } else {
-            self.name_word()
+            self.cursor.name_word()
         }
     }
 
     /// A quoted process.
     #[cycle(parse)]
     pub fn name_quote(&mut self, free: u32) -> Result<Part<Name>, Fault>
-        ensures reads { Makes free (rule Tutorial Prod.name_quote) of_name (view self.old.rest.now) result (view self.new.rest.now) }
+        ensures reads { Makes free (rule Tutorial Prod.name_quote) of_name (view self.old.cursor.rest.now) result (view self.new.cursor.rest.now) }
         ensures room { IfOk result (λ p. p.height ≤ free) }
-        ensures shorter { length self.new.rest.now ≤ length self.old.rest.now }
+        ensures shorter { length self.new.cursor.rest.now ≤ length self.old.cursor.rest.now }
     {
-        self.expect(Mark::At)?;
+        self.cursor.expect(Mark::At)?;
         let quoted = self.drop_form(free)?;
-        build::quote(self.alloc, quoted)
+        process_forms::quote(self.cursor.alloc, quoted)
     }
 
     /// Atom ::= Word | Ground | "Nil" | "(" Par Group | "{" Brace | "[" Row "]" | "Set" "(" Row ")"
     #[cycle(parse)]
     pub fn atom(&mut self, free: u32) -> Result<Part<Proc>, Fault>
-        ensures reads { Gives free Sort.Atom of_proc (view self.old.rest.now) result (view self.new.rest.now) }
+        ensures reads { Gives free Sort.Atom of_proc (view self.old.cursor.rest.now) result (view self.new.cursor.rest.now) }
         ensures room { IfOk result (λ p. p.height ≤ free) }
-        ensures shorter { length self.new.rest.now ≤ length self.old.rest.now }
+        ensures shorter { length self.new.cursor.rest.now ≤ length self.old.cursor.rest.now }
     {
-        if self.sees_word() {
-            self.atom_word()
-        } else if self.sees(Mark::Nil) {
-            self.atom_nil()
-        } else if self.sees(Mark::Open) {
+        if self.cursor.sees_word() {
+            self.cursor.atom_word()
+        } else if self.cursor.sees(Mark::Nil) {
+            self.cursor.atom_nil()
+        } else if self.cursor.sees(Mark::Open) {
             self.atom_open(free)
-        } else if self.sees(Mark::OpenBrace) {
+        } else if self.cursor.sees(Mark::OpenBrace) {
             self.atom_brace(free)
-        } else if self.sees(Mark::OpenSquare) {
+        } else if self.cursor.sees(Mark::OpenSquare) {
             self.atom_list(free)
-        } else if self.sees(Mark::Set) {
+        } else if self.cursor.sees(Mark::Set) {
             self.atom_set(free)
         } else {
-            self.atom_ground()
+            self.cursor.atom_ground()
         }
     }
 
     /// Parentheses or a tuple.
     #[cycle(parse)]
     pub fn atom_open(&mut self, free: u32) -> Result<Part<Proc>, Fault>
-        ensures reads { Makes free (rule Tutorial Prod.atom_open) of_proc (view self.old.rest.now) result (view self.new.rest.now) }
+        ensures reads { Makes free (rule Tutorial Prod.atom_open) of_proc (view self.old.cursor.rest.now) result (view self.new.cursor.rest.now) }
         ensures room { IfOk result (λ p. p.height ≤ free) }
-        ensures shorter { length self.new.rest.now ≤ length self.old.rest.now }
+        ensures shorter { length self.new.cursor.rest.now ≤ length self.old.cursor.rest.now }
     {
-        self.opens(Mark::Open, 0, free)?;
+        self.cursor.opens(Mark::Open, 0, free)?;
         let inner = self.par(free - 1)?;
         self.group(inner, free)
     }
@@ -134,49 +134,38 @@ impl<'a> Parser<'a> {
     #[cycle(parse)]
     pub fn group(&mut self, inner: Part<Proc>, free: u32) -> Result<Part<Proc>, Fault>
         requires { inner.height < free }
-        ensures reads { Gives free (Sort.Group processes (of_proc inner)) of_proc (view self.old.rest.now) result (view self.new.rest.now) }
+        ensures reads { Gives free (Sort.Group processes (of_proc inner)) of_proc (view self.old.cursor.rest.now) result (view self.new.cursor.rest.now) }
         ensures room { IfOk result (λ p. p.height ≤ free) }
-        ensures shorter { length self.new.rest.now ≤ length self.old.rest.now }
+        ensures shorter { length self.new.cursor.rest.now ≤ length self.old.cursor.rest.now }
     {
-        if self.sees(Mark::Comma) {
+        if self.cursor.sees(Mark::Comma) {
             self.group_tuple(inner, free)
         } else {
-            self.group_close(inner)
+            self.cursor.group_close(inner)
         }
-    }
-
-    /// The end of parentheses.
-    pub fn group_close(&mut self, inner: Part<Proc>) -> Result<Part<Proc>, Fault>
-        requires { inner.height + 1 < 2 ^ 32 }
-        ensures reads { (free : ℕ) → Makes free (rule Tutorial (Prod.group_close processes (of_proc inner))) of_proc (view self.old.rest.now) result (view self.new.rest.now) }
-        ensures height { IfOk result (λ p. p.height ≡ inner.height + 1) }
-        ensures shorter { length self.new.rest.now ≤ length self.old.rest.now }
-    {
-        self.expect(Mark::Close)?;
-        Ok(build::opened(inner))
     }
 
     /// The further members of a tuple.
     #[cycle(parse)]
     pub fn group_tuple(&mut self, inner: Part<Proc>, free: u32) -> Result<Part<Proc>, Fault>
         requires { inner.height < free }
-        ensures reads { Makes free (rule Tutorial (Prod.group_tuple processes (of_proc inner))) of_proc (view self.old.rest.now) result (view self.new.rest.now) }
+        ensures reads { Makes free (rule Tutorial (Prod.group_tuple processes (of_proc inner))) of_proc (view self.old.cursor.rest.now) result (view self.new.cursor.rest.now) }
         ensures room { IfOk result (λ p. p.height ≤ free) }
-        ensures shorter { length self.new.rest.now ≤ length self.old.rest.now }
+        ensures shorter { length self.new.cursor.rest.now ≤ length self.old.cursor.rest.now }
     {
-        self.expect(Mark::Comma)?;
+        self.cursor.expect(Mark::Comma)?;
         let row = self.row(Bracket::Round, free - 1)?;
-        build::tuple(inner, row)
+        process_forms::tuple(inner, row)
     }
 
     /// A block or a map.
     #[cycle(parse)]
     pub fn atom_brace(&mut self, free: u32) -> Result<Part<Proc>, Fault>
-        ensures reads { Makes free (rule Tutorial Prod.atom_brace) of_proc (view self.old.rest.now) result (view self.new.rest.now) }
+        ensures reads { Makes free (rule Tutorial Prod.atom_brace) of_proc (view self.old.cursor.rest.now) result (view self.new.cursor.rest.now) }
         ensures room { IfOk result (λ p. p.height ≤ free) }
-        ensures shorter { length self.new.rest.now ≤ length self.old.rest.now }
+        ensures shorter { length self.new.cursor.rest.now ≤ length self.old.cursor.rest.now }
     {
-        self.opens(Mark::OpenBrace, 0, free)?;
+        self.cursor.opens(Mark::OpenBrace, 0, free)?;
         self.brace(free)
     }
 
@@ -184,12 +173,12 @@ impl<'a> Parser<'a> {
     #[cycle(parse)]
     pub fn brace(&mut self, free: u32) -> Result<Part<Proc>, Fault>
         requires { 0 < free }
-        ensures reads { Gives free Sort.Brace of_proc (view self.old.rest.now) result (view self.new.rest.now) }
+        ensures reads { Gives free Sort.Brace of_proc (view self.old.cursor.rest.now) result (view self.new.cursor.rest.now) }
         ensures room { IfOk result (λ p. p.height ≤ free) }
-        ensures shorter { length self.new.rest.now ≤ length self.old.rest.now }
+        ensures shorter { length self.new.cursor.rest.now ≤ length self.old.cursor.rest.now }
     {
-        if self.sees(Mark::CloseBrace) {
-            self.empty_map()
+        if self.cursor.sees(Mark::CloseBrace) {
+            self.cursor.empty_map()
         } else {
             self.brace_some(free)
         }
@@ -199,9 +188,9 @@ impl<'a> Parser<'a> {
     #[cycle(parse)]
     pub fn brace_some(&mut self, free: u32) -> Result<Part<Proc>, Fault>
         requires { 0 < free }
-        ensures reads { Makes free (rule Tutorial Prod.brace_some) of_proc (view self.old.rest.now) result (view self.new.rest.now) }
+        ensures reads { Makes free (rule Tutorial Prod.brace_some) of_proc (view self.old.cursor.rest.now) result (view self.new.cursor.rest.now) }
         ensures room { IfOk result (λ p. p.height ≤ free) }
-        ensures shorter { length self.new.rest.now ≤ length self.old.rest.now }
+        ensures shorter { length self.new.cursor.rest.now ≤ length self.old.cursor.rest.now }
     {
         let inner = self.par(free - 1)?;
         self.brace_tail(inner, free)
@@ -211,39 +200,28 @@ impl<'a> Parser<'a> {
     #[cycle(parse)]
     pub fn brace_tail(&mut self, inner: Part<Proc>, free: u32) -> Result<Part<Proc>, Fault>
         requires { inner.height < free }
-        ensures reads { Gives free (Sort.BraceTail (of_proc inner)) of_proc (view self.old.rest.now) result (view self.new.rest.now) }
+        ensures reads { Gives free (Sort.BraceTail (of_proc inner)) of_proc (view self.old.cursor.rest.now) result (view self.new.cursor.rest.now) }
         ensures room { IfOk result (λ p. p.height ≤ free) }
-        ensures shorter { length self.new.rest.now ≤ length self.old.rest.now }
+        ensures shorter { length self.new.cursor.rest.now ≤ length self.old.cursor.rest.now }
     {
-        if self.sees(Mark::Colon) {
+        if self.cursor.sees(Mark::Colon) {
             self.brace_pair(inner, free)
         } else {
-            self.brace_close(inner)
+            self.cursor.brace_close(inner)
         }
-    }
-
-    /// The end of a block.
-    pub fn brace_close(&mut self, inner: Part<Proc>) -> Result<Part<Proc>, Fault>
-        requires { inner.height + 1 < 2 ^ 32 }
-        ensures reads { (free : ℕ) → Makes free (rule Tutorial (Prod.brace_close (of_proc inner))) of_proc (view self.old.rest.now) result (view self.new.rest.now) }
-        ensures height { IfOk result (λ p. p.height ≡ inner.height + 1) }
-        ensures shorter { length self.new.rest.now ≤ length self.old.rest.now }
-    {
-        self.expect(Mark::CloseBrace)?;
-        Ok(build::opened(inner))
     }
 
     /// The value of the first key of a map, and what follows it.
     #[cycle(parse)]
     pub fn brace_pair(&mut self, inner: Part<Proc>, free: u32) -> Result<Part<Proc>, Fault>
         requires { inner.height < free }
-        ensures reads { Makes free (rule Tutorial (Prod.brace_pair (of_proc inner))) of_proc (view self.old.rest.now) result (view self.new.rest.now) }
+        ensures reads { Makes free (rule Tutorial (Prod.brace_pair (of_proc inner))) of_proc (view self.old.cursor.rest.now) result (view self.new.cursor.rest.now) }
         ensures room { IfOk result (λ p. p.height ≤ free) }
-        ensures shorter { length self.new.rest.now ≤ length self.old.rest.now }
+        ensures shorter { length self.new.cursor.rest.now ≤ length self.old.cursor.rest.now }
     {
-        self.expect(Mark::Colon)?;
+        self.cursor.expect(Mark::Colon)?;
         let value = self.par(free - 1)?;
-        let first = build::start(self.alloc, build::pair(inner, value))?;
+        let first = parts::start(self.cursor.alloc, parts::pair(inner, value))?;
         self.pairs(first, free)
     }
 
@@ -251,15 +229,15 @@ impl<'a> Parser<'a> {
     #[cycle(parse)]
     pub fn pairs(&mut self, pairs: Part<Vec<(Proc, Proc)>>, free: u32) -> Result<Part<Proc>, Fault>
         requires { pairs.height < free }
-        ensures reads { Gives free (Sort.Pairs (pairs_written pairs.value.items) pairs.height) of_proc (view self.old.rest.now) result (view self.new.rest.now) }
+        ensures reads { Gives free (Sort.Pairs (pairs_written pairs.value.items) pairs.height) of_proc (view self.old.cursor.rest.now) result (view self.new.cursor.rest.now) }
         ensures room { IfOk result (λ p. p.height ≤ free) }
-        ensures shorter { length self.new.rest.now ≤ length self.old.rest.now }
+        ensures shorter { length self.new.cursor.rest.now ≤ length self.old.cursor.rest.now }
     {
         let mut all = pairs;
-        while self.sees(Mark::Comma) {
+        while self.cursor.sees(Mark::Comma) {
             all = self.next_pair(all, free)?;
         }
-        self.map_close(all)
+        self.cursor.map_close(all)
     }
 
     /// A comma and one more pair.
@@ -270,90 +248,69 @@ impl<'a> Parser<'a> {
         free: u32,
     ) -> Result<Part<Vec<(Proc, Proc)>>, Fault>
         requires { pairs.height < free }
-        ensures reads { Turns free (rule Tutorial (Prod.pairs_more (pairs_written pairs.value.items) pairs.height)) (λ p. last (Sort.Pairs (pairs_written p.value.items) p.height)) (view self.old.rest.now) result (view self.new.rest.now) }
+        ensures reads { Turns free (rule Tutorial (Prod.pairs_more (pairs_written pairs.value.items) pairs.height)) (λ p. last (Sort.Pairs (pairs_written p.value.items) p.height)) (view self.old.cursor.rest.now) result (view self.new.cursor.rest.now) }
         ensures room { IfOk result (λ p. p.height < free) }
-        ensures shorter { MatchResult result (λ _. length self.new.rest.now < length self.old.rest.now) (λ _. length self.new.rest.now ≤ length self.old.rest.now) }
+        ensures shorter { MatchResult result (λ _. length self.new.cursor.rest.now < length self.old.cursor.rest.now) (λ _. length self.new.cursor.rest.now ≤ length self.old.cursor.rest.now) }
     {
-        self.expect(Mark::Comma)?;
+        self.cursor.expect(Mark::Comma)?;
         let key = self.par(free - 1)?;
-        self.expect(Mark::Colon)?;
+        self.cursor.expect(Mark::Colon)?;
         let value = self.par(free - 1)?;
-        build::push(pairs, build::pair(key, value))
-    }
-
-    /// The end of a map.
-    pub fn map_close(&mut self, pairs: Part<Vec<(Proc, Proc)>>) -> Result<Part<Proc>, Fault>
-        requires { pairs.height + 1 < 2 ^ 32 }
-        ensures reads { (free : ℕ) → Makes free (rule Tutorial (Prod.pairs_end (pairs_written pairs.value.items) pairs.height)) of_proc (view self.old.rest.now) result (view self.new.rest.now) }
-        ensures height { IfOk result (λ p. p.height ≡ pairs.height + 1) }
-        ensures shorter { length self.new.rest.now ≤ length self.old.rest.now }
-    {
-        self.expect(Mark::CloseBrace)?;
-        Ok(build::map(pairs))
+        parts::push(pairs, parts::pair(key, value))
     }
 
     /// A list.
     #[cycle(parse)]
     pub fn atom_list(&mut self, free: u32) -> Result<Part<Proc>, Fault>
-        ensures reads { Makes free (rule Tutorial Prod.atom_list) of_proc (view self.old.rest.now) result (view self.new.rest.now) }
+        ensures reads { Makes free (rule Tutorial Prod.atom_list) of_proc (view self.old.cursor.rest.now) result (view self.new.cursor.rest.now) }
         ensures room { IfOk result (λ p. p.height ≤ free) }
-        ensures shorter { length self.new.rest.now ≤ length self.old.rest.now }
+        ensures shorter { length self.new.cursor.rest.now ≤ length self.old.cursor.rest.now }
     {
-        self.opens(Mark::OpenSquare, 0, free)?;
+        self.cursor.opens(Mark::OpenSquare, 0, free)?;
         let row = self.row(Bracket::Square, free - 1)?;
-        Ok(build::list(row))
+        Ok(process_forms::list(row))
     }
 
     /// A set.
     #[cycle(parse)]
     pub fn atom_set(&mut self, free: u32) -> Result<Part<Proc>, Fault>
-        ensures reads { Makes free (rule Tutorial Prod.atom_set) of_proc (view self.old.rest.now) result (view self.new.rest.now) }
+        ensures reads { Makes free (rule Tutorial Prod.atom_set) of_proc (view self.old.cursor.rest.now) result (view self.new.cursor.rest.now) }
         ensures room { IfOk result (λ p. p.height ≤ free) }
-        ensures shorter { length self.new.rest.now ≤ length self.old.rest.now }
+        ensures shorter { length self.new.cursor.rest.now ≤ length self.old.cursor.rest.now }
     {
-        self.opens(Mark::Set, 0, free)?;
-        self.expect(Mark::Open)?;
+        self.cursor.opens(Mark::Set, 0, free)?;
+        self.cursor.expect(Mark::Open)?;
         let row = self.row(Bracket::Round, free - 1)?;
-        Ok(build::set(row))
+        Ok(process_forms::set(row))
     }
 
     /// Row ::= [ Par { "," Par } ], and the sign that closes it
     #[cycle(parse)]
     pub fn row(&mut self, bracket: Bracket, free: u32) -> Result<Part<Vec<Proc>>, Fault>
-        ensures reads { Gives free (Sort.Row processes (bracket_of bracket)) of_row (view self.old.rest.now) result (view self.new.rest.now) }
+        ensures reads { Gives free (Sort.Row processes (bracket_of bracket)) of_row (view self.old.cursor.rest.now) result (view self.new.cursor.rest.now) }
         ensures room { IfOk result (λ p. p.height ≤ free) }
-        ensures shorter { length self.new.rest.now ≤ length self.old.rest.now }
+        ensures shorter { length self.new.cursor.rest.now ≤ length self.old.cursor.rest.now }
     {
-        if self.sees_closing(bracket) {
-            self.row_none(bracket)
+        if self.cursor.sees_closing(bracket) {
+            self.cursor.row_none(bracket)
         } else {
             self.row_some(bracket, free)
         }
     }
 
-    /// No members.
-    pub fn row_none(&mut self, bracket: Bracket) -> Result<Part<Vec<Proc>>, Fault>
-        ensures reads { (free : ℕ) → Makes free (rule Tutorial (Prod.row_none processes (bracket_of bracket))) of_row (view self.old.rest.now) result (view self.new.rest.now) }
-        ensures height { IfOk result (λ p. p.height ≡ 0) }
-        ensures shorter { length self.new.rest.now ≤ length self.old.rest.now }
-    {
-        self.expect_closing(bracket)?;
-        Ok(build::no_members(self.alloc))
-    }
-
     /// Members.
     #[cycle(parse)]
     pub fn row_some(&mut self, bracket: Bracket, free: u32) -> Result<Part<Vec<Proc>>, Fault>
-        ensures reads { Makes free (rule Tutorial (Prod.row_some processes (bracket_of bracket))) of_row (view self.old.rest.now) result (view self.new.rest.now) }
+        ensures reads { Makes free (rule Tutorial (Prod.row_some processes (bracket_of bracket))) of_row (view self.old.cursor.rest.now) result (view self.new.cursor.rest.now) }
         ensures room { IfOk result (λ p. p.height ≤ free) }
-        ensures shorter { length self.new.rest.now ≤ length self.old.rest.now }
+        ensures shorter { length self.new.cursor.rest.now ≤ length self.old.cursor.rest.now }
     {
         let first = self.par(free)?;
-        let mut members = build::start(self.alloc, first)?;
-        while self.sees(Mark::Comma) {
+        let mut members = parts::start(self.cursor.alloc, first)?;
+        while self.cursor.sees(Mark::Comma) {
             members = self.next_member(bracket, members, free)?;
         }
-        self.expect_closing(bracket)?;
+        self.cursor.expect_closing(bracket)?;
         Ok(members)
     }
 
@@ -366,12 +323,12 @@ impl<'a> Parser<'a> {
         free: u32,
     ) -> Result<Part<Vec<Proc>>, Fault>
         requires { members.height ≤ free }
-        ensures reads { Turns free (rule Tutorial (Prod.row_more processes (bracket_of bracket) (map proc_written members.value.items) members.height)) (λ p. last (Sort.RowTail processes (bracket_of bracket) (map proc_written p.value.items) p.height)) (view self.old.rest.now) result (view self.new.rest.now) }
+        ensures reads { Turns free (rule Tutorial (Prod.row_more processes (bracket_of bracket) (map proc_written members.value.items) members.height)) (λ p. last (Sort.RowTail processes (bracket_of bracket) (map proc_written p.value.items) p.height)) (view self.old.cursor.rest.now) result (view self.new.cursor.rest.now) }
         ensures room { IfOk result (λ p. p.height ≤ free) }
-        ensures shorter { MatchResult result (λ _. length self.new.rest.now < length self.old.rest.now) (λ _. length self.new.rest.now ≤ length self.old.rest.now) }
+        ensures shorter { MatchResult result (λ _. length self.new.cursor.rest.now < length self.old.cursor.rest.now) (λ _. length self.new.cursor.rest.now ≤ length self.old.cursor.rest.now) }
     {
-        self.expect(Mark::Comma)?;
+        self.cursor.expect(Mark::Comma)?;
         let next = self.par(free)?;
-        build::push(members, next)
+        parts::push(members, next)
     }
 }

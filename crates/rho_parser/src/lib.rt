@@ -3,15 +3,10 @@
 #![tactic(auto)]
 
 mod atom;
-mod build;
-mod cursor;
-mod leaf;
 mod left;
-mod level;
-mod mark;
 mod operation;
 pub mod parse_fault;
-mod part;
+mod parser;
 mod pattern;
 mod pattern_atom;
 mod process;

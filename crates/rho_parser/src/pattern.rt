@@ -5,69 +5,69 @@ ghost use Rattle.grammar.specs.Productions.{Prod};
 ghost use Rattle.grammar.specs.Rules.{Sort, last};
 ghost use Rattle.grammar.specs.Values.{patterns};
 ghost use Rattle.grammar.specs.declared.dialect.Dialect.TheVariants.{Tutorial};
-ghost use Rattle.rho_parser.specs.Meaning.{view};
-ghost use Rattle.rho_parser.specs.Reading.{Gives, Makes, Turns, of_name_pat, of_pat};
+ghost use Rattle.token_cursor.specs.Meaning.{view};
+ghost use Rattle.token_cursor.specs.Reading.{Gives, Makes, Turns, of_name_pat, of_pat};
 ghost use Rattle.std.specs.Prelude.{◌≡◌, ◌<◌, ◌≤◌, IfOk, MatchResult, length, map};
 
-use crate::build;
-use crate::cursor::Parser;
-use crate::part::{Bracket, Part};
+use crate::parser::Parser;
 use calculus::{NamePat, Pat, Rights};
 use grammar::{Fault, Mark};
+use token_cursor::part::{Bracket, Part};
+use token_cursor::{parts, pattern_forms};
 
 impl<'a> Parser<'a> {
     /// PPar ::= POne { "|" POne }
     #[cycle(parse)]
     pub fn pattern_par(&mut self, free: u32) -> Result<Part<Pat>, Fault>
-        ensures reads { Gives free (Sort.Par patterns) of_pat (view self.old.rest.now) result (view self.new.rest.now) }
+        ensures reads { Gives free (Sort.Par patterns) of_pat (view self.old.cursor.rest.now) result (view self.new.cursor.rest.now) }
         ensures room { IfOk result (λ p. p.height ≤ free) }
-        ensures shorter { length self.new.rest.now ≤ length self.old.rest.now }
+        ensures shorter { length self.new.cursor.rest.now ≤ length self.old.cursor.rest.now }
     {
         let first = self.pattern_one(free)?;
-        let mut parts = build::start(self.alloc, first)?;
-        while self.sees(Mark::Bar) {
+        let mut parts = parts::start(self.cursor.alloc, first)?;
+        while self.cursor.sees(Mark::Bar) {
             parts = self.pattern_more(parts, free)?;
         }
-        Ok(build::composed_pat(parts))
+        Ok(pattern_forms::composed_pat(parts))
     }
 
     /// A `|` and one more part.
     #[cycle(parse)]
     fn pattern_more(&mut self, parts: Part<Vec<Pat>>, free: u32) -> Result<Part<Vec<Pat>>, Fault>
         requires { parts.height ≤ free }
-        ensures reads { Turns free (rule Tutorial (Prod.par_more patterns (map pat_written parts.value.items) parts.height)) (λ p. last (Sort.ParTail patterns (map pat_written p.value.items) p.height)) (view self.old.rest.now) result (view self.new.rest.now) }
+        ensures reads { Turns free (rule Tutorial (Prod.par_more patterns (map pat_written parts.value.items) parts.height)) (λ p. last (Sort.ParTail patterns (map pat_written p.value.items) p.height)) (view self.old.cursor.rest.now) result (view self.new.cursor.rest.now) }
         ensures room { IfOk result (λ p. p.height ≤ free) }
-        ensures shorter { MatchResult result (λ _. length self.new.rest.now < length self.old.rest.now) (λ _. length self.new.rest.now ≤ length self.old.rest.now) }
+        ensures shorter { MatchResult result (λ _. length self.new.cursor.rest.now < length self.old.cursor.rest.now) (λ _. length self.new.cursor.rest.now ≤ length self.old.cursor.rest.now) }
     {
-        self.expect(Mark::Bar)?;
+        self.cursor.expect(Mark::Bar)?;
         let next = self.pattern_one(free)?;
-        build::push(parts, next)
+        parts::push(parts, next)
     }
 
     /// POne ::= New | If | Contract | For | Match | Bundle | PName ( "!" | "!!" ) "(" [ PPar { "," PPar } ] ")" | PAlt
     #[cycle(parse)]
     pub fn pattern_one(&mut self, free: u32) -> Result<Part<Pat>, Fault>
-        ensures reads { Gives free Sort.POne of_pat (view self.old.rest.now) result (view self.new.rest.now) }
+        ensures reads { Gives free Sort.POne of_pat (view self.old.cursor.rest.now) result (view self.new.cursor.rest.now) }
         ensures room { IfOk result (λ p. p.height ≤ free) }
-        ensures shorter { length self.new.rest.now ≤ length self.old.rest.now }
+        ensures shorter { length self.new.cursor.rest.now ≤ length self.old.cursor.rest.now }
     {
-        if self.sees(Mark::New) {
+        if self.cursor.sees(Mark::New) {
             self.pattern_new(free)
-        } else if self.sees(Mark::If) {
+        } else if self.cursor.sees(Mark::If) {
             self.pattern_if(free)
-        } else if self.sees(Mark::Contract) {
+        } else if self.cursor.sees(Mark::Contract) {
             self.pattern_contract(free)
-        } else if self.sees(Mark::For) {
+        } else if self.cursor.sees(Mark::For) {
             self.pattern_for(free)
-        } else if self.sees(Mark::Match) {
+        } else if self.cursor.sees(Mark::Match) {
             self.pattern_match(free)
-        } else if self.sees_bundle() {
+        } else if self.cursor.sees_bundle() {
             self.pattern_bundle(free)
-        } else if self.sees(Mark::At) {
+        } else if self.cursor.sees(Mark::At) {
             self.pattern_quote(free)
-        } else if self.sees_any_send() {
+        } else if self.cursor.sees_any_send() {
             self.pattern_any(free)
-        } else if self.sees_send() {
+        } else if self.cursor.sees_send() {
             self.pattern_word(free)
         } else {
             self.pattern_alternative(free)
@@ -77,70 +77,70 @@ impl<'a> Parser<'a> {
     /// A `new` in a pattern.
     #[cycle(parse)]
     fn pattern_new(&mut self, free: u32) -> Result<Part<Pat>, Fault>
-        ensures reads { Makes free (rule Tutorial Prod.pone_new) of_pat (view self.old.rest.now) result (view self.new.rest.now) }
+        ensures reads { Makes free (rule Tutorial Prod.pone_new) of_pat (view self.old.cursor.rest.now) result (view self.new.cursor.rest.now) }
         ensures room { IfOk result (λ p. p.height ≤ free) }
-        ensures shorter { length self.new.rest.now ≤ length self.old.rest.now }
+        ensures shorter { length self.new.cursor.rest.now ≤ length self.old.cursor.rest.now }
     {
         let form = self.new_form(free)?;
-        build::closed(self.alloc, form)
+        pattern_forms::closed(self.cursor.alloc, form)
     }
 
     /// An `if` in a pattern.
     #[cycle(parse)]
     fn pattern_if(&mut self, free: u32) -> Result<Part<Pat>, Fault>
-        ensures reads { Makes free (rule Tutorial Prod.pone_if) of_pat (view self.old.rest.now) result (view self.new.rest.now) }
+        ensures reads { Makes free (rule Tutorial Prod.pone_if) of_pat (view self.old.cursor.rest.now) result (view self.new.cursor.rest.now) }
         ensures room { IfOk result (λ p. p.height ≤ free) }
-        ensures shorter { length self.new.rest.now ≤ length self.old.rest.now }
+        ensures shorter { length self.new.cursor.rest.now ≤ length self.old.cursor.rest.now }
     {
         let form = self.if_form(free)?;
-        build::closed(self.alloc, form)
+        pattern_forms::closed(self.cursor.alloc, form)
     }
 
     /// A contract in a pattern.
     #[cycle(parse)]
     fn pattern_contract(&mut self, free: u32) -> Result<Part<Pat>, Fault>
-        ensures reads { Makes free (rule Tutorial Prod.pone_contract) of_pat (view self.old.rest.now) result (view self.new.rest.now) }
+        ensures reads { Makes free (rule Tutorial Prod.pone_contract) of_pat (view self.old.cursor.rest.now) result (view self.new.cursor.rest.now) }
         ensures room { IfOk result (λ p. p.height ≤ free) }
-        ensures shorter { length self.new.rest.now ≤ length self.old.rest.now }
+        ensures shorter { length self.new.cursor.rest.now ≤ length self.old.cursor.rest.now }
     {
         let form = self.contract_form(free)?;
-        build::closed(self.alloc, form)
+        pattern_forms::closed(self.cursor.alloc, form)
     }
 
     /// A receive in a pattern.
     #[cycle(parse)]
     fn pattern_for(&mut self, free: u32) -> Result<Part<Pat>, Fault>
-        ensures reads { Makes free (rule Tutorial Prod.pone_for) of_pat (view self.old.rest.now) result (view self.new.rest.now) }
+        ensures reads { Makes free (rule Tutorial Prod.pone_for) of_pat (view self.old.cursor.rest.now) result (view self.new.cursor.rest.now) }
         ensures room { IfOk result (λ p. p.height ≤ free) }
-        ensures shorter { length self.new.rest.now ≤ length self.old.rest.now }
+        ensures shorter { length self.new.cursor.rest.now ≤ length self.old.cursor.rest.now }
     {
         let form = self.for_form(free)?;
-        build::closed(self.alloc, form)
+        pattern_forms::closed(self.cursor.alloc, form)
     }
 
     /// A `match` in a pattern.
     #[cycle(parse)]
     fn pattern_match(&mut self, free: u32) -> Result<Part<Pat>, Fault>
-        ensures reads { Makes free (rule Tutorial Prod.pone_match) of_pat (view self.old.rest.now) result (view self.new.rest.now) }
+        ensures reads { Makes free (rule Tutorial Prod.pone_match) of_pat (view self.old.cursor.rest.now) result (view self.new.cursor.rest.now) }
         ensures room { IfOk result (λ p. p.height ≤ free) }
-        ensures shorter { length self.new.rest.now ≤ length self.old.rest.now }
+        ensures shorter { length self.new.cursor.rest.now ≤ length self.old.cursor.rest.now }
     {
         let form = self.match_form(free)?;
-        build::closed(self.alloc, form)
+        pattern_forms::closed(self.cursor.alloc, form)
     }
 
     /// Bundle ::= ( "bundle" | "bundle+" | "bundle-" | "bundle0" ) "{" PPar "}"
     #[cycle(parse)]
     fn pattern_bundle(&mut self, free: u32) -> Result<Part<Pat>, Fault>
-        ensures reads { Gives free (Sort.Bundle patterns) of_pat (view self.old.rest.now) result (view self.new.rest.now) }
+        ensures reads { Gives free (Sort.Bundle patterns) of_pat (view self.old.cursor.rest.now) result (view self.new.cursor.rest.now) }
         ensures room { IfOk result (λ p. p.height ≤ free) }
-        ensures shorter { length self.new.rest.now ≤ length self.old.rest.now }
+        ensures shorter { length self.new.cursor.rest.now ≤ length self.old.cursor.rest.now }
     {
-        if self.sees(Mark::BundleNeither) {
+        if self.cursor.sees(Mark::BundleNeither) {
             self.pattern_bundle_of(Rights::Neither, free)
-        } else if self.sees(Mark::BundleWrite) {
+        } else if self.cursor.sees(Mark::BundleWrite) {
             self.pattern_bundle_of(Rights::Write, free)
-        } else if self.sees(Mark::BundleRead) {
+        } else if self.cursor.sees(Mark::BundleRead) {
             self.pattern_bundle_of(Rights::Read, free)
         } else {
             self.pattern_bundle_of(Rights::Both, free)
@@ -150,51 +150,51 @@ impl<'a> Parser<'a> {
     /// A bundle of these rights.
     #[cycle(parse)]
     fn pattern_bundle_of(&mut self, rights: Rights, free: u32) -> Result<Part<Pat>, Fault>
-        ensures reads { Makes free (rule Tutorial (Prod.bundle patterns rights)) of_pat (view self.old.rest.now) result (view self.new.rest.now) }
+        ensures reads { Makes free (rule Tutorial (Prod.bundle patterns rights)) of_pat (view self.old.cursor.rest.now) result (view self.new.cursor.rest.now) }
         ensures room { IfOk result (λ p. p.height ≤ free) }
-        ensures shorter { length self.new.rest.now ≤ length self.old.rest.now }
+        ensures shorter { length self.new.cursor.rest.now ≤ length self.old.cursor.rest.now }
     {
-        self.opens_bundle(rights, free)?;
-        self.expect(Mark::OpenBrace)?;
+        self.cursor.opens_bundle(rights, free)?;
+        self.cursor.expect(Mark::OpenBrace)?;
         let body = self.pattern_par(free - 1)?;
-        self.expect(Mark::CloseBrace)?;
-        build::bundle_pat(self.alloc, rights, body)
+        self.cursor.expect(Mark::CloseBrace)?;
+        pattern_forms::bundle_pat(self.cursor.alloc, rights, body)
     }
 
     /// A send that begins with a word.
     #[cycle(parse)]
     fn pattern_word(&mut self, free: u32) -> Result<Part<Pat>, Fault>
-        ensures reads { Makes free (rule Tutorial Prod.pone_word) of_pat (view self.old.rest.now) result (view self.new.rest.now) }
+        ensures reads { Makes free (rule Tutorial Prod.pone_word) of_pat (view self.old.cursor.rest.now) result (view self.new.cursor.rest.now) }
         ensures room { IfOk result (λ p. p.height ≤ free) }
-        ensures shorter { length self.new.rest.now ≤ length self.old.rest.now }
+        ensures shorter { length self.new.cursor.rest.now ≤ length self.old.cursor.rest.now }
     {
-        let name = self.word()?;
-        let channel = build::bound_channel(name);
+        let name = self.cursor.word()?;
+        let channel = pattern_forms::bound_channel(name);
         self.pattern_sent(channel, free)
     }
 
     /// A send that begins with `_`.
     #[cycle(parse)]
     fn pattern_any(&mut self, free: u32) -> Result<Part<Pat>, Fault>
-        ensures reads { Makes free (rule Tutorial Prod.pone_any) of_pat (view self.old.rest.now) result (view self.new.rest.now) }
+        ensures reads { Makes free (rule Tutorial Prod.pone_any) of_pat (view self.old.cursor.rest.now) result (view self.new.cursor.rest.now) }
         ensures room { IfOk result (λ p. p.height ≤ free) }
-        ensures shorter { length self.new.rest.now ≤ length self.old.rest.now }
+        ensures shorter { length self.new.cursor.rest.now ≤ length self.old.cursor.rest.now }
     {
-        self.expect(Mark::Underscore)?;
-        let channel = build::any_channel();
+        self.cursor.expect(Mark::Underscore)?;
+        let channel = pattern_forms::any_channel();
         self.pattern_sent(channel, free)
     }
 
     /// A send that begins with "@".
     #[cycle(parse)]
     fn pattern_quote(&mut self, free: u32) -> Result<Part<Pat>, Fault>
-        ensures reads { Makes free (rule Tutorial Prod.pone_quote) of_pat (view self.old.rest.now) result (view self.new.rest.now) }
+        ensures reads { Makes free (rule Tutorial Prod.pone_quote) of_pat (view self.old.cursor.rest.now) result (view self.new.cursor.rest.now) }
         ensures room { IfOk result (λ p. p.height ≤ free) }
-        ensures shorter { length self.new.rest.now ≤ length self.old.rest.now }
+        ensures shorter { length self.new.cursor.rest.now ≤ length self.old.cursor.rest.now }
     {
-        self.opens(Mark::At, 0, free)?;
+        self.cursor.opens(Mark::At, 0, free)?;
         let quoted = self.pattern_alternative(free - 1)?;
-        let channel = build::quote_pat(self.alloc, quoted)?;
+        let channel = pattern_forms::quote_pat(self.cursor.alloc, quoted)?;
         self.pattern_sent_tail(channel, free)
     }
 
@@ -202,11 +202,11 @@ impl<'a> Parser<'a> {
     #[cycle(parse)]
     fn pattern_sent(&mut self, channel: Part<NamePat>, free: u32) -> Result<Part<Pat>, Fault>
         requires { channel.height ≡ 0 }
-        ensures reads { Gives free (Sort.Sent patterns (of_name_pat channel)) of_pat (view self.old.rest.now) result (view self.new.rest.now) }
+        ensures reads { Gives free (Sort.Sent patterns (of_name_pat channel)) of_pat (view self.old.cursor.rest.now) result (view self.new.cursor.rest.now) }
         ensures room { IfOk result (λ p. p.height ≤ free) }
-        ensures shorter { length self.new.rest.now ≤ length self.old.rest.now }
+        ensures shorter { length self.new.cursor.rest.now ≤ length self.old.cursor.rest.now }
     {
-        let persistent = self.sees(Mark::DoubleBang);
+        let persistent = self.cursor.sees(Mark::DoubleBang);
         self.pattern_sent_of(channel, persistent, free)
     }
 
@@ -219,25 +219,25 @@ impl<'a> Parser<'a> {
         free: u32,
     ) -> Result<Part<Pat>, Fault>
         requires { channel.height ≡ 0 }
-        ensures reads { Makes free (rule Tutorial (Prod.sent patterns (of_name_pat channel) persistent)) of_pat (view self.old.rest.now) result (view self.new.rest.now) }
+        ensures reads { Makes free (rule Tutorial (Prod.sent patterns (of_name_pat channel) persistent)) of_pat (view self.old.cursor.rest.now) result (view self.new.cursor.rest.now) }
         ensures room { IfOk result (λ p. p.height ≤ free) }
-        ensures shorter { length self.new.rest.now ≤ length self.old.rest.now }
+        ensures shorter { length self.new.cursor.rest.now ≤ length self.old.cursor.rest.now }
     {
-        self.opens_bang(persistent, free)?;
-        self.expect(Mark::Open)?;
+        self.cursor.opens_bang(persistent, free)?;
+        self.cursor.expect(Mark::Open)?;
         let args = self.pattern_row(Bracket::Round, free - 1)?;
-        Ok(build::send_pat(channel, args, persistent))
+        Ok(pattern_forms::send_pat(channel, args, persistent))
     }
 
     /// SentTail ::= ( "!" | "!!" ) "(" [ PPar { "," PPar } ] ")", after "@" PAlt
     #[cycle(parse)]
     fn pattern_sent_tail(&mut self, channel: Part<NamePat>, free: u32) -> Result<Part<Pat>, Fault>
         requires { channel.height < free }
-        ensures reads { Gives free (Sort.SentTail patterns (of_name_pat channel)) of_pat (view self.old.rest.now) result (view self.new.rest.now) }
+        ensures reads { Gives free (Sort.SentTail patterns (of_name_pat channel)) of_pat (view self.old.cursor.rest.now) result (view self.new.cursor.rest.now) }
         ensures room { IfOk result (λ p. p.height ≤ free) }
-        ensures shorter { length self.new.rest.now ≤ length self.old.rest.now }
+        ensures shorter { length self.new.cursor.rest.now ≤ length self.old.cursor.rest.now }
     {
-        let persistent = self.sees(Mark::DoubleBang);
+        let persistent = self.cursor.sees(Mark::DoubleBang);
         self.pattern_sent_tail_of(channel, persistent, free)
     }
 
@@ -250,25 +250,25 @@ impl<'a> Parser<'a> {
         free: u32,
     ) -> Result<Part<Pat>, Fault>
         requires { channel.height < free }
-        ensures reads { Makes free (rule Tutorial (Prod.sent_tail patterns (of_name_pat channel) persistent)) of_pat (view self.old.rest.now) result (view self.new.rest.now) }
+        ensures reads { Makes free (rule Tutorial (Prod.sent_tail patterns (of_name_pat channel) persistent)) of_pat (view self.old.cursor.rest.now) result (view self.new.cursor.rest.now) }
         ensures room { IfOk result (λ p. p.height ≤ free) }
-        ensures shorter { length self.new.rest.now ≤ length self.old.rest.now }
+        ensures shorter { length self.new.cursor.rest.now ≤ length self.old.cursor.rest.now }
     {
-        self.expect_bang(persistent)?;
-        self.expect(Mark::Open)?;
+        self.cursor.expect_bang(persistent)?;
+        self.cursor.expect(Mark::Open)?;
         let args = self.pattern_row(Bracket::Round, free - 1)?;
-        Ok(build::send_pat(channel, args, persistent))
+        Ok(pattern_forms::send_pat(channel, args, persistent))
     }
 
     /// PAlt ::= PAnd { "\/" PAnd }
     #[cycle(parse)]
     pub fn pattern_alternative(&mut self, free: u32) -> Result<Part<Pat>, Fault>
-        ensures reads { Gives free Sort.PAlt of_pat (view self.old.rest.now) result (view self.new.rest.now) }
+        ensures reads { Gives free Sort.PAlt of_pat (view self.old.cursor.rest.now) result (view self.new.cursor.rest.now) }
         ensures room { IfOk result (λ p. p.height ≤ free) }
-        ensures shorter { length self.new.rest.now ≤ length self.old.rest.now }
+        ensures shorter { length self.new.cursor.rest.now ≤ length self.old.cursor.rest.now }
     {
         let mut left = self.pattern_conjunction(free)?;
-        while self.sees(Mark::Either) {
+        while self.cursor.sees(Mark::Either) {
             left = self.alternative_more(left, free)?;
         }
         Ok(left)
@@ -278,24 +278,24 @@ impl<'a> Parser<'a> {
     #[cycle(parse)]
     fn alternative_more(&mut self, left: Part<Pat>, free: u32) -> Result<Part<Pat>, Fault>
         requires { left.height ≤ free }
-        ensures reads { Turns free (rule Tutorial (Prod.palt_more (of_pat left))) (λ p. last (Sort.PAltTail (of_pat p))) (view self.old.rest.now) result (view self.new.rest.now) }
+        ensures reads { Turns free (rule Tutorial (Prod.palt_more (of_pat left))) (λ p. last (Sort.PAltTail (of_pat p))) (view self.old.cursor.rest.now) result (view self.new.cursor.rest.now) }
         ensures room { IfOk result (λ p. p.height ≤ free) }
-        ensures shorter { MatchResult result (λ _. length self.new.rest.now < length self.old.rest.now) (λ _. length self.new.rest.now ≤ length self.old.rest.now) }
+        ensures shorter { MatchResult result (λ _. length self.new.cursor.rest.now < length self.old.cursor.rest.now) (λ _. length self.new.cursor.rest.now ≤ length self.old.cursor.rest.now) }
     {
-        self.opens(Mark::Either, left.height, free)?;
+        self.cursor.opens(Mark::Either, left.height, free)?;
         let right = self.pattern_conjunction(free - 1)?;
-        build::either(self.alloc, left, right)
+        pattern_forms::either(self.cursor.alloc, left, right)
     }
 
     /// PAnd ::= PNot { "/\" PNot }
     #[cycle(parse)]
     fn pattern_conjunction(&mut self, free: u32) -> Result<Part<Pat>, Fault>
-        ensures reads { Gives free Sort.PAnd of_pat (view self.old.rest.now) result (view self.new.rest.now) }
+        ensures reads { Gives free Sort.PAnd of_pat (view self.old.cursor.rest.now) result (view self.new.cursor.rest.now) }
         ensures room { IfOk result (λ p. p.height ≤ free) }
-        ensures shorter { length self.new.rest.now ≤ length self.old.rest.now }
+        ensures shorter { length self.new.cursor.rest.now ≤ length self.old.cursor.rest.now }
     {
         let mut left = self.pattern_not(free)?;
-        while self.sees(Mark::Both) {
+        while self.cursor.sees(Mark::Both) {
             left = self.conjunction_more(left, free)?;
         }
         Ok(left)
@@ -305,23 +305,23 @@ impl<'a> Parser<'a> {
     #[cycle(parse)]
     fn conjunction_more(&mut self, left: Part<Pat>, free: u32) -> Result<Part<Pat>, Fault>
         requires { left.height ≤ free }
-        ensures reads { Turns free (rule Tutorial (Prod.pand_more (of_pat left))) (λ p. last (Sort.PAndTail (of_pat p))) (view self.old.rest.now) result (view self.new.rest.now) }
+        ensures reads { Turns free (rule Tutorial (Prod.pand_more (of_pat left))) (λ p. last (Sort.PAndTail (of_pat p))) (view self.old.cursor.rest.now) result (view self.new.cursor.rest.now) }
         ensures room { IfOk result (λ p. p.height ≤ free) }
-        ensures shorter { MatchResult result (λ _. length self.new.rest.now < length self.old.rest.now) (λ _. length self.new.rest.now ≤ length self.old.rest.now) }
+        ensures shorter { MatchResult result (λ _. length self.new.cursor.rest.now < length self.old.cursor.rest.now) (λ _. length self.new.cursor.rest.now ≤ length self.old.cursor.rest.now) }
     {
-        self.opens(Mark::Both, left.height, free)?;
+        self.cursor.opens(Mark::Both, left.height, free)?;
         let right = self.pattern_not(free - 1)?;
-        build::both(self.alloc, left, right)
+        pattern_forms::both(self.cursor.alloc, left, right)
     }
 
     /// PNot ::= "~" PNot | PAtom
     #[cycle(parse)]
     fn pattern_not(&mut self, free: u32) -> Result<Part<Pat>, Fault>
-        ensures reads { Gives free Sort.PNot of_pat (view self.old.rest.now) result (view self.new.rest.now) }
+        ensures reads { Gives free Sort.PNot of_pat (view self.old.cursor.rest.now) result (view self.new.cursor.rest.now) }
         ensures room { IfOk result (λ p. p.height ≤ free) }
-        ensures shorter { length self.new.rest.now ≤ length self.old.rest.now }
+        ensures shorter { length self.new.cursor.rest.now ≤ length self.old.cursor.rest.now }
     {
-        if self.sees(Mark::Tilde) {
+        if self.cursor.sees(Mark::Tilde) {
             self.pattern_tilde(free)
         } else {
             self.pattern_atom(free)
@@ -331,40 +331,40 @@ impl<'a> Parser<'a> {
     /// A `~` and its operand.
     #[cycle(parse)]
     fn pattern_tilde(&mut self, free: u32) -> Result<Part<Pat>, Fault>
-        ensures reads { Makes free (rule Tutorial Prod.pnot_tilde) of_pat (view self.old.rest.now) result (view self.new.rest.now) }
+        ensures reads { Makes free (rule Tutorial Prod.pnot_tilde) of_pat (view self.old.cursor.rest.now) result (view self.new.cursor.rest.now) }
         ensures room { IfOk result (λ p. p.height ≤ free) }
-        ensures shorter { length self.new.rest.now ≤ length self.old.rest.now }
+        ensures shorter { length self.new.cursor.rest.now ≤ length self.old.cursor.rest.now }
     {
-        self.opens(Mark::Tilde, 0, free)?;
+        self.cursor.opens(Mark::Tilde, 0, free)?;
         let arg = self.pattern_not(free - 1)?;
-        build::not_pat(self.alloc, arg)
+        pattern_forms::not_pat(self.cursor.alloc, arg)
     }
 
     /// PName ::= "_" | Word | "@" PAlt
     #[cycle(parse)]
     pub fn pattern_name(&mut self, free: u32) -> Result<Part<NamePat>, Fault>
-        ensures reads { Gives free Sort.PName of_name_pat (view self.old.rest.now) result (view self.new.rest.now) }
+        ensures reads { Gives free Sort.PName of_name_pat (view self.old.cursor.rest.now) result (view self.new.cursor.rest.now) }
         ensures room { IfOk result (λ p. p.height ≤ free) }
-        ensures shorter { length self.new.rest.now ≤ length self.old.rest.now }
+        ensures shorter { length self.new.cursor.rest.now ≤ length self.old.cursor.rest.now }
     {
-        if self.sees(Mark::Underscore) {
-            self.name_any()
-        } else if self.sees(Mark::At) {
+        if self.cursor.sees(Mark::Underscore) {
+            self.cursor.name_any()
+        } else if self.cursor.sees(Mark::At) {
             self.pattern_name_quote(free)
         } else {
-            self.name_bound()
+            self.cursor.name_bound()
         }
     }
 
     /// A quoted pattern as a pattern of a name.
     #[cycle(parse)]
     fn pattern_name_quote(&mut self, free: u32) -> Result<Part<NamePat>, Fault>
-        ensures reads { Makes free (rule Tutorial Prod.pname_quote) of_name_pat (view self.old.rest.now) result (view self.new.rest.now) }
+        ensures reads { Makes free (rule Tutorial Prod.pname_quote) of_name_pat (view self.old.cursor.rest.now) result (view self.new.cursor.rest.now) }
         ensures room { IfOk result (λ p. p.height ≤ free) }
-        ensures shorter { length self.new.rest.now ≤ length self.old.rest.now }
+        ensures shorter { length self.new.cursor.rest.now ≤ length self.old.cursor.rest.now }
     {
-        self.expect(Mark::At)?;
+        self.cursor.expect(Mark::At)?;
         let quoted = self.pattern_alternative(free)?;
-        build::quote_pat(self.alloc, quoted)
+        pattern_forms::quote_pat(self.cursor.alloc, quoted)
     }
 }

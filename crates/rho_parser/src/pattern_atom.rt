@@ -6,64 +6,64 @@ ghost use Rattle.grammar.specs.Productions.{Prod};
 ghost use Rattle.grammar.specs.Rules.{Sort, last};
 ghost use Rattle.grammar.specs.Values.{patterns};
 ghost use Rattle.grammar.specs.declared.dialect.Dialect.TheVariants.{Tutorial};
-ghost use Rattle.rho_parser.specs.Meaning.{view};
-ghost use Rattle.rho_parser.specs.Reading.{Gives, Makes, Turns, bracket_of, of_pat, of_pat_row, of_sequence, pat_pairs_written, sees_member};
-ghost use Rattle.std.specs.Prelude.{◌≡◌, ◌+◌, ◌<◌, ◌≤◌, ◌^◌, IfOk, MatchResult, ℕ, length, map, true};
+ghost use Rattle.token_cursor.specs.Meaning.{view};
+ghost use Rattle.token_cursor.specs.Reading.{Gives, Makes, Turns, bracket_of, of_pat, of_pat_row, of_sequence, pat_pairs_written, sees_member};
+ghost use Rattle.std.specs.Prelude.{◌≡◌, ◌<◌, ◌≤◌, IfOk, MatchResult, length, map, true};
 
-use crate::build;
-use crate::cursor::Parser;
-use crate::part::{Bracket, Part, Sequence};
+use crate::parser::Parser;
 use calculus::{Pat, Simple};
 use grammar::{Fault, Mark};
+use token_cursor::part::{Bracket, Part, Sequence};
+use token_cursor::{parts, pattern_forms};
 
 impl<'a> Parser<'a> {
     /// PAtom ::= "_" | "Bool" | "Int" | "String" | "Uri" | "ByteArray" | "=" Same | Word | Ground | "Nil"
     ///   | "(" PPar Group | "{" PBrace | "[" PSeq "]" | "Set" "(" PSeq ")"
     #[cycle(parse)]
     pub fn pattern_atom(&mut self, free: u32) -> Result<Part<Pat>, Fault>
-        ensures reads { Gives free Sort.PAtom of_pat (view self.old.rest.now) result (view self.new.rest.now) }
+        ensures reads { Gives free Sort.PAtom of_pat (view self.old.cursor.rest.now) result (view self.new.cursor.rest.now) }
         ensures room { IfOk result (λ p. p.height ≤ free) }
-        ensures shorter { length self.new.rest.now ≤ length self.old.rest.now }
+        ensures shorter { length self.new.cursor.rest.now ≤ length self.old.cursor.rest.now }
     {
-        if self.sees_word() {
-            self.pat_word()
-        } else if self.sees(Mark::Underscore) {
-            self.pat_any()
-        } else if self.sees(Mark::Bool) {
-            self.pat_type(Simple::Bool)
-        } else if self.sees(Mark::Int) {
-            self.pat_type(Simple::Int)
-        } else if self.sees(Mark::String) {
-            self.pat_type(Simple::Str)
-        } else if self.sees(Mark::Uri) {
-            self.pat_type(Simple::Uri)
-        } else if self.sees(Mark::ByteArray) {
-            self.pat_type(Simple::Bytes)
-        } else if self.sees(Mark::Assign) {
+        if self.cursor.sees_word() {
+            self.cursor.pat_word()
+        } else if self.cursor.sees(Mark::Underscore) {
+            self.cursor.pat_any()
+        } else if self.cursor.sees(Mark::Bool) {
+            self.cursor.pat_type(Simple::Bool)
+        } else if self.cursor.sees(Mark::Int) {
+            self.cursor.pat_type(Simple::Int)
+        } else if self.cursor.sees(Mark::String) {
+            self.cursor.pat_type(Simple::Str)
+        } else if self.cursor.sees(Mark::Uri) {
+            self.cursor.pat_type(Simple::Uri)
+        } else if self.cursor.sees(Mark::ByteArray) {
+            self.cursor.pat_type(Simple::Bytes)
+        } else if self.cursor.sees(Mark::Assign) {
             self.pattern_same(free)
-        } else if self.sees(Mark::Nil) {
-            self.pat_nil()
-        } else if self.sees(Mark::Open) {
+        } else if self.cursor.sees(Mark::Nil) {
+            self.cursor.pat_nil()
+        } else if self.cursor.sees(Mark::Open) {
             self.pattern_open(free)
-        } else if self.sees(Mark::OpenBrace) {
+        } else if self.cursor.sees(Mark::OpenBrace) {
             self.pattern_brace(free)
-        } else if self.sees(Mark::OpenSquare) {
+        } else if self.cursor.sees(Mark::OpenSquare) {
             self.pattern_list(free)
-        } else if self.sees(Mark::Set) {
+        } else if self.cursor.sees(Mark::Set) {
             self.pattern_set(free)
         } else {
-            self.pat_ground()
+            self.cursor.pat_ground()
         }
     }
 
     /// A `=` and a process that is to be the same.
     #[cycle(parse)]
     fn pattern_same(&mut self, free: u32) -> Result<Part<Pat>, Fault>
-        ensures reads { Makes free (rule Tutorial Prod.patom_same) of_pat (view self.old.rest.now) result (view self.new.rest.now) }
+        ensures reads { Makes free (rule Tutorial Prod.patom_same) of_pat (view self.old.cursor.rest.now) result (view self.new.cursor.rest.now) }
         ensures room { IfOk result (λ p. p.height ≤ free) }
-        ensures shorter { length self.new.rest.now ≤ length self.old.rest.now }
+        ensures shorter { length self.new.cursor.rest.now ≤ length self.old.cursor.rest.now }
     {
-        self.opens(Mark::Assign, 0, free)?;
+        self.cursor.opens(Mark::Assign, 0, free)?;
         self.same(free)
     }
 
@@ -71,16 +71,16 @@ impl<'a> Parser<'a> {
     #[cycle(parse)]
     fn same(&mut self, free: u32) -> Result<Part<Pat>, Fault>
         requires { 0 < free }
-        ensures reads { Gives free Sort.Same of_pat (view self.old.rest.now) result (view self.new.rest.now) }
+        ensures reads { Gives free Sort.Same of_pat (view self.old.cursor.rest.now) result (view self.new.cursor.rest.now) }
         ensures room { IfOk result (λ p. p.height ≤ free) }
-        ensures shorter { length self.new.rest.now ≤ length self.old.rest.now }
+        ensures shorter { length self.new.cursor.rest.now ≤ length self.old.cursor.rest.now }
     {
-        if self.sees(Mark::Star) {
-            self.same_drop()
-        } else if self.sees(Mark::OpenBrace) {
+        if self.cursor.sees(Mark::Star) {
+            self.cursor.same_drop()
+        } else if self.cursor.sees(Mark::OpenBrace) {
             self.same_block(free)
         } else {
-            self.same_word()
+            self.cursor.same_word()
         }
     }
 
@@ -88,24 +88,24 @@ impl<'a> Parser<'a> {
     #[cycle(parse)]
     fn same_block(&mut self, free: u32) -> Result<Part<Pat>, Fault>
         requires { 0 < free }
-        ensures reads { Makes free (rule Tutorial Prod.same_block) of_pat (view self.old.rest.now) result (view self.new.rest.now) }
+        ensures reads { Makes free (rule Tutorial Prod.same_block) of_pat (view self.old.cursor.rest.now) result (view self.new.cursor.rest.now) }
         ensures room { IfOk result (λ p. p.height ≤ free) }
-        ensures shorter { length self.new.rest.now ≤ length self.old.rest.now }
+        ensures shorter { length self.new.cursor.rest.now ≤ length self.old.cursor.rest.now }
     {
-        self.expect(Mark::OpenBrace)?;
+        self.cursor.expect(Mark::OpenBrace)?;
         let body = self.par(free - 1)?;
-        self.expect(Mark::CloseBrace)?;
-        build::same(self.alloc, body)
+        self.cursor.expect(Mark::CloseBrace)?;
+        pattern_forms::same(self.cursor.alloc, body)
     }
 
     /// A pattern in parentheses, or a tuple.
     #[cycle(parse)]
     fn pattern_open(&mut self, free: u32) -> Result<Part<Pat>, Fault>
-        ensures reads { Makes free (rule Tutorial Prod.patom_open) of_pat (view self.old.rest.now) result (view self.new.rest.now) }
+        ensures reads { Makes free (rule Tutorial Prod.patom_open) of_pat (view self.old.cursor.rest.now) result (view self.new.cursor.rest.now) }
         ensures room { IfOk result (λ p. p.height ≤ free) }
-        ensures shorter { length self.new.rest.now ≤ length self.old.rest.now }
+        ensures shorter { length self.new.cursor.rest.now ≤ length self.old.cursor.rest.now }
     {
-        self.opens(Mark::Open, 0, free)?;
+        self.cursor.opens(Mark::Open, 0, free)?;
         let first = self.pattern_par(free - 1)?;
         self.pattern_group(first, free)
     }
@@ -114,14 +114,14 @@ impl<'a> Parser<'a> {
     #[cycle(parse)]
     fn pattern_group(&mut self, first: Part<Pat>, free: u32) -> Result<Part<Pat>, Fault>
         requires { first.height < free }
-        ensures reads { Gives free (Sort.Group patterns (of_pat first)) of_pat (view self.old.rest.now) result (view self.new.rest.now) }
+        ensures reads { Gives free (Sort.Group patterns (of_pat first)) of_pat (view self.old.cursor.rest.now) result (view self.new.cursor.rest.now) }
         ensures room { IfOk result (λ p. p.height ≤ free) }
-        ensures shorter { length self.new.rest.now ≤ length self.old.rest.now }
+        ensures shorter { length self.new.cursor.rest.now ≤ length self.old.cursor.rest.now }
     {
-        if self.sees(Mark::Comma) {
+        if self.cursor.sees(Mark::Comma) {
             self.pattern_tuple(first, free)
         } else {
-            self.pattern_close(first)
+            self.cursor.pattern_close(first)
         }
     }
 
@@ -129,63 +129,42 @@ impl<'a> Parser<'a> {
     #[cycle(parse)]
     fn pattern_tuple(&mut self, first: Part<Pat>, free: u32) -> Result<Part<Pat>, Fault>
         requires { first.height < free }
-        ensures reads { Makes free (rule Tutorial (Prod.group_tuple patterns (of_pat first))) of_pat (view self.old.rest.now) result (view self.new.rest.now) }
+        ensures reads { Makes free (rule Tutorial (Prod.group_tuple patterns (of_pat first))) of_pat (view self.old.cursor.rest.now) result (view self.new.cursor.rest.now) }
         ensures room { IfOk result (λ p. p.height ≤ free) }
-        ensures shorter { length self.new.rest.now ≤ length self.old.rest.now }
+        ensures shorter { length self.new.cursor.rest.now ≤ length self.old.cursor.rest.now }
     {
-        self.expect(Mark::Comma)?;
+        self.cursor.expect(Mark::Comma)?;
         let row = self.pattern_row(Bracket::Round, free - 1)?;
-        build::tuple_pat(first, row)
-    }
-
-    /// The parenthesis that closes a pattern.
-    fn pattern_close(&mut self, first: Part<Pat>) -> Result<Part<Pat>, Fault>
-        requires { first.height + 1 < 2 ^ 32 }
-        ensures reads { (free : ℕ) → Makes free (rule Tutorial (Prod.group_close patterns (of_pat first))) of_pat (view self.old.rest.now) result (view self.new.rest.now) }
-        ensures height { IfOk result (λ p. p.height ≡ first.height + 1) }
-        ensures shorter { length self.new.rest.now ≤ length self.old.rest.now }
-    {
-        self.expect(Mark::Close)?;
-        Ok(build::opened_pat(first))
+        pattern_forms::tuple_pat(first, row)
     }
 
     /// Row ::= [ PPar { "," PPar } ], and the sign that closes it
     #[cycle(parse)]
     pub fn pattern_row(&mut self, bracket: Bracket, free: u32) -> Result<Part<Vec<Pat>>, Fault>
-        ensures reads { Gives free (Sort.Row patterns (bracket_of bracket)) of_pat_row (view self.old.rest.now) result (view self.new.rest.now) }
+        ensures reads { Gives free (Sort.Row patterns (bracket_of bracket)) of_pat_row (view self.old.cursor.rest.now) result (view self.new.cursor.rest.now) }
         ensures room { IfOk result (λ p. p.height ≤ free) }
-        ensures shorter { length self.new.rest.now ≤ length self.old.rest.now }
+        ensures shorter { length self.new.cursor.rest.now ≤ length self.old.cursor.rest.now }
     {
-        if self.sees_closing(bracket) {
-            self.pattern_row_none(bracket)
+        if self.cursor.sees_closing(bracket) {
+            self.cursor.pattern_row_none(bracket)
         } else {
             self.pattern_row_some(bracket, free)
         }
     }
 
-    /// No members.
-    fn pattern_row_none(&mut self, bracket: Bracket) -> Result<Part<Vec<Pat>>, Fault>
-        ensures reads { (free : ℕ) → Makes free (rule Tutorial (Prod.row_none patterns (bracket_of bracket))) of_pat_row (view self.old.rest.now) result (view self.new.rest.now) }
-        ensures height { IfOk result (λ p. p.height ≡ 0) }
-        ensures shorter { length self.new.rest.now ≤ length self.old.rest.now }
-    {
-        self.expect_closing(bracket)?;
-        Ok(build::no_pats(self.alloc))
-    }
-
     /// One member or more.
     #[cycle(parse)]
     fn pattern_row_some(&mut self, bracket: Bracket, free: u32) -> Result<Part<Vec<Pat>>, Fault>
-        ensures reads { Makes free (rule Tutorial (Prod.row_some patterns (bracket_of bracket))) of_pat_row (view self.old.rest.now) result (view self.new.rest.now) }
+        ensures reads { Makes free (rule Tutorial (Prod.row_some patterns (bracket_of bracket))) of_pat_row (view self.old.cursor.rest.now) result (view self.new.cursor.rest.now) }
         ensures room { IfOk result (λ p. p.height ≤ free) }
-        ensures shorter { length self.new.rest.now ≤ length self.old.rest.now }
+        ensures shorter { length self.new.cursor.rest.now ≤ length self.old.cursor.rest.now }
     {
         let first = self.pattern_par(free)?;
-        let mut members = build::start(self.alloc, first)?;
-        while self.sees(Mark::Comma) {
+        let mut members = parts::start(self.cursor.alloc, first)?;
+        while self.cursor.sees(Mark::Comma) {
             members = self.pattern_row_more(bracket, members, free)?;
         }
-        self.expect_closing(bracket)?;
+        self.cursor.expect_closing(bracket)?;
         Ok(members)
     }
 
@@ -198,80 +177,70 @@ impl<'a> Parser<'a> {
         free: u32,
     ) -> Result<Part<Vec<Pat>>, Fault>
         requires { members.height ≤ free }
-        ensures reads { Turns free (rule Tutorial (Prod.row_more patterns (bracket_of bracket) (map pat_written members.value.items) members.height)) (λ p. last (Sort.RowTail patterns (bracket_of bracket) (map pat_written p.value.items) p.height)) (view self.old.rest.now) result (view self.new.rest.now) }
+        ensures reads { Turns free (rule Tutorial (Prod.row_more patterns (bracket_of bracket) (map pat_written members.value.items) members.height)) (λ p. last (Sort.RowTail patterns (bracket_of bracket) (map pat_written p.value.items) p.height)) (view self.old.cursor.rest.now) result (view self.new.cursor.rest.now) }
         ensures room { IfOk result (λ p. p.height ≤ free) }
-        ensures shorter { MatchResult result (λ _. length self.new.rest.now < length self.old.rest.now) (λ _. length self.new.rest.now ≤ length self.old.rest.now) }
+        ensures shorter { MatchResult result (λ _. length self.new.cursor.rest.now < length self.old.cursor.rest.now) (λ _. length self.new.cursor.rest.now ≤ length self.old.cursor.rest.now) }
     {
-        self.expect(Mark::Comma)?;
+        self.cursor.expect(Mark::Comma)?;
         let next = self.pattern_par(free)?;
-        build::push(members, next)
+        parts::push(members, next)
     }
 
     /// A list.
     #[cycle(parse)]
     fn pattern_list(&mut self, free: u32) -> Result<Part<Pat>, Fault>
-        ensures reads { Makes free (rule Tutorial Prod.patom_list) of_pat (view self.old.rest.now) result (view self.new.rest.now) }
+        ensures reads { Makes free (rule Tutorial Prod.patom_list) of_pat (view self.old.cursor.rest.now) result (view self.new.cursor.rest.now) }
         ensures room { IfOk result (λ p. p.height ≤ free) }
-        ensures shorter { length self.new.rest.now ≤ length self.old.rest.now }
+        ensures shorter { length self.new.cursor.rest.now ≤ length self.old.cursor.rest.now }
     {
-        self.opens(Mark::OpenSquare, 0, free)?;
+        self.cursor.opens(Mark::OpenSquare, 0, free)?;
         let members = self.pattern_sequence(Bracket::Square, free - 1)?;
-        Ok(build::list_pat(members))
+        Ok(pattern_forms::list_pat(members))
     }
 
     /// A set.
     #[cycle(parse)]
     fn pattern_set(&mut self, free: u32) -> Result<Part<Pat>, Fault>
-        ensures reads { Makes free (rule Tutorial Prod.patom_set) of_pat (view self.old.rest.now) result (view self.new.rest.now) }
+        ensures reads { Makes free (rule Tutorial Prod.patom_set) of_pat (view self.old.cursor.rest.now) result (view self.new.cursor.rest.now) }
         ensures room { IfOk result (λ p. p.height ≤ free) }
-        ensures shorter { length self.new.rest.now ≤ length self.old.rest.now }
+        ensures shorter { length self.new.cursor.rest.now ≤ length self.old.cursor.rest.now }
     {
-        self.opens(Mark::Set, 0, free)?;
-        self.expect(Mark::Open)?;
+        self.cursor.opens(Mark::Set, 0, free)?;
+        self.cursor.expect(Mark::Open)?;
         let members = self.pattern_sequence(Bracket::Round, free - 1)?;
-        Ok(build::set_pat(members))
+        Ok(pattern_forms::set_pat(members))
     }
 
     /// PSeq ::= [ PPar { "," PPar } ] [ [","] "..." ( Word | "_" ) ], with the comma only after a PPar, and the
     /// sign that closes it
     #[cycle(parse)]
     fn pattern_sequence(&mut self, bracket: Bracket, free: u32) -> Result<Part<Sequence>, Fault>
-        ensures reads { Gives free (Sort.Seq (bracket_of bracket)) of_sequence (view self.old.rest.now) result (view self.new.rest.now) }
+        ensures reads { Gives free (Sort.Seq (bracket_of bracket)) of_sequence (view self.old.cursor.rest.now) result (view self.new.cursor.rest.now) }
         ensures room { IfOk result (λ p. p.height ≤ free) }
-        ensures shorter { length self.new.rest.now ≤ length self.old.rest.now }
+        ensures shorter { length self.new.cursor.rest.now ≤ length self.old.cursor.rest.now }
     {
-        if self.sees_closing(bracket) {
-            self.sequence_none(bracket)
-        } else if self.sees(Mark::Ellipsis) {
-            self.sequence_only_rest(bracket)
+        if self.cursor.sees_closing(bracket) {
+            self.cursor.sequence_none(bracket)
+        } else if self.cursor.sees(Mark::Ellipsis) {
+            self.cursor.sequence_only_rest(bracket)
         } else {
             self.sequence_some(bracket, free)
         }
     }
 
-    /// A remainder without members.
-    fn sequence_only_rest(&mut self, bracket: Bracket) -> Result<Part<Sequence>, Fault>
-        ensures reads { (free : ℕ) → Makes free (rule Tutorial (Prod.seq_rest (bracket_of bracket))) of_sequence (view self.old.rest.now) result (view self.new.rest.now) }
-        ensures height { IfOk result (λ p. p.height ≡ 0) }
-        ensures shorter { length self.new.rest.now ≤ length self.old.rest.now }
-    {
-        let none = build::no_pats(self.alloc);
-        self.sequence_rest(bracket, none)
-    }
-
     /// One member or more.
     #[cycle(parse)]
     fn sequence_some(&mut self, bracket: Bracket, free: u32) -> Result<Part<Sequence>, Fault>
-        ensures reads { Makes free (rule Tutorial (Prod.seq_some (bracket_of bracket))) of_sequence (view self.old.rest.now) result (view self.new.rest.now) }
+        ensures reads { Makes free (rule Tutorial (Prod.seq_some (bracket_of bracket))) of_sequence (view self.old.cursor.rest.now) result (view self.new.cursor.rest.now) }
         ensures room { IfOk result (λ p. p.height ≤ free) }
-        ensures shorter { length self.new.rest.now ≤ length self.old.rest.now }
+        ensures shorter { length self.new.cursor.rest.now ≤ length self.old.cursor.rest.now }
     {
         let first = self.pattern_par(free)?;
-        let mut pats = build::start(self.alloc, first)?;
-        while self.sees_member() {
+        let mut pats = parts::start(self.cursor.alloc, first)?;
+        while self.cursor.sees_member() {
             pats = self.sequence_more(bracket, pats, free)?;
         }
-        self.sequence_end(bracket, pats)
+        self.cursor.sequence_end(bracket, pats)
     }
 
     /// A comma and one more member.
@@ -282,25 +251,25 @@ impl<'a> Parser<'a> {
         pats: Part<Vec<Pat>>,
         free: u32,
     ) -> Result<Part<Vec<Pat>>, Fault>
-        requires member { sees_member (view self.old.rest.now) ≡ true }
+        requires member { sees_member (view self.old.cursor.rest.now) ≡ true }
         requires room { pats.height ≤ free }
-        ensures reads { Turns free (rule Tutorial (choose (Sort.SeqTail (bracket_of bracket) (map pat_written pats.value.items) pats.height) (view self.old.rest.now))) (λ p. last (Sort.SeqTail (bracket_of bracket) (map pat_written p.value.items) p.height)) (view self.old.rest.now) result (view self.new.rest.now) }
+        ensures reads { Turns free (rule Tutorial (choose (Sort.SeqTail (bracket_of bracket) (map pat_written pats.value.items) pats.height) (view self.old.cursor.rest.now))) (λ p. last (Sort.SeqTail (bracket_of bracket) (map pat_written p.value.items) p.height)) (view self.old.cursor.rest.now) result (view self.new.cursor.rest.now) }
         ensures room { IfOk result (λ p. p.height ≤ free) }
-        ensures shorter { MatchResult result (λ _. length self.new.rest.now < length self.old.rest.now) (λ _. length self.new.rest.now ≤ length self.old.rest.now) }
+        ensures shorter { MatchResult result (λ _. length self.new.cursor.rest.now < length self.old.cursor.rest.now) (λ _. length self.new.cursor.rest.now ≤ length self.old.cursor.rest.now) }
     {
-        self.expect(Mark::Comma)?;
+        self.cursor.expect(Mark::Comma)?;
         let next = self.pattern_par(free)?;
-        build::push(pats, next)
+        parts::push(pats, next)
     }
 
     /// A map, or a pattern in braces.
     #[cycle(parse)]
     fn pattern_brace(&mut self, free: u32) -> Result<Part<Pat>, Fault>
-        ensures reads { Makes free (rule Tutorial Prod.patom_brace) of_pat (view self.old.rest.now) result (view self.new.rest.now) }
+        ensures reads { Makes free (rule Tutorial Prod.patom_brace) of_pat (view self.old.cursor.rest.now) result (view self.new.cursor.rest.now) }
         ensures room { IfOk result (λ p. p.height ≤ free) }
-        ensures shorter { length self.new.rest.now ≤ length self.old.rest.now }
+        ensures shorter { length self.new.cursor.rest.now ≤ length self.old.cursor.rest.now }
     {
-        self.opens(Mark::OpenBrace, 0, free)?;
+        self.cursor.opens(Mark::OpenBrace, 0, free)?;
         self.pattern_braced(free)
     }
 
@@ -308,14 +277,14 @@ impl<'a> Parser<'a> {
     #[cycle(parse)]
     fn pattern_braced(&mut self, free: u32) -> Result<Part<Pat>, Fault>
         requires { 0 < free }
-        ensures reads { Gives free Sort.PBrace of_pat (view self.old.rest.now) result (view self.new.rest.now) }
+        ensures reads { Gives free Sort.PBrace of_pat (view self.old.cursor.rest.now) result (view self.new.cursor.rest.now) }
         ensures room { IfOk result (λ p. p.height ≤ free) }
-        ensures shorter { length self.new.rest.now ≤ length self.old.rest.now }
+        ensures shorter { length self.new.cursor.rest.now ≤ length self.old.cursor.rest.now }
     {
-        if self.sees(Mark::CloseBrace) {
-            self.empty_map_pat()
-        } else if self.sees(Mark::Ellipsis) {
-            self.rest_map_pat()
+        if self.cursor.sees(Mark::CloseBrace) {
+            self.cursor.empty_map_pat()
+        } else if self.cursor.sees(Mark::Ellipsis) {
+            self.cursor.rest_map_pat()
         } else {
             self.pattern_brace_some(free)
         }
@@ -325,9 +294,9 @@ impl<'a> Parser<'a> {
     #[cycle(parse)]
     fn pattern_brace_some(&mut self, free: u32) -> Result<Part<Pat>, Fault>
         requires { 0 < free }
-        ensures reads { Makes free (rule Tutorial Prod.pbrace_some) of_pat (view self.old.rest.now) result (view self.new.rest.now) }
+        ensures reads { Makes free (rule Tutorial Prod.pbrace_some) of_pat (view self.old.cursor.rest.now) result (view self.new.cursor.rest.now) }
         ensures room { IfOk result (λ p. p.height ≤ free) }
-        ensures shorter { length self.new.rest.now ≤ length self.old.rest.now }
+        ensures shorter { length self.new.cursor.rest.now ≤ length self.old.cursor.rest.now }
     {
         let first = self.pattern_par(free - 1)?;
         self.pattern_brace_tail(first, free)
@@ -337,26 +306,15 @@ impl<'a> Parser<'a> {
     #[cycle(parse)]
     fn pattern_brace_tail(&mut self, first: Part<Pat>, free: u32) -> Result<Part<Pat>, Fault>
         requires { first.height < free }
-        ensures reads { Gives free (Sort.PBraceTail (of_pat first)) of_pat (view self.old.rest.now) result (view self.new.rest.now) }
+        ensures reads { Gives free (Sort.PBraceTail (of_pat first)) of_pat (view self.old.cursor.rest.now) result (view self.new.cursor.rest.now) }
         ensures room { IfOk result (λ p. p.height ≤ free) }
-        ensures shorter { length self.new.rest.now ≤ length self.old.rest.now }
+        ensures shorter { length self.new.cursor.rest.now ≤ length self.old.cursor.rest.now }
     {
-        if self.sees(Mark::Colon) {
+        if self.cursor.sees(Mark::Colon) {
             self.pattern_pairs(first, free)
         } else {
-            self.pattern_brace_close(first)
+            self.cursor.pattern_brace_close(first)
         }
-    }
-
-    /// The brace that closes a pattern.
-    fn pattern_brace_close(&mut self, first: Part<Pat>) -> Result<Part<Pat>, Fault>
-        requires { first.height + 1 < 2 ^ 32 }
-        ensures reads { (free : ℕ) → Makes free (rule Tutorial (Prod.pbrace_close (of_pat first))) of_pat (view self.old.rest.now) result (view self.new.rest.now) }
-        ensures height { IfOk result (λ p. p.height ≡ first.height + 1) }
-        ensures shorter { length self.new.rest.now ≤ length self.old.rest.now }
-    {
-        self.expect(Mark::CloseBrace)?;
-        Ok(build::opened_pat(first))
     }
 
     /// PMap ::= [ PPar ":" PPar { "," PPar ":" PPar } ] [ [","] "..." ( Word | "_" ) ], with the comma only
@@ -364,18 +322,18 @@ impl<'a> Parser<'a> {
     #[cycle(parse)]
     fn pattern_pairs(&mut self, first: Part<Pat>, free: u32) -> Result<Part<Pat>, Fault>
         requires { first.height < free }
-        ensures reads { Makes free (rule Tutorial (Prod.pbrace_pair (of_pat first))) of_pat (view self.old.rest.now) result (view self.new.rest.now) }
+        ensures reads { Makes free (rule Tutorial (Prod.pbrace_pair (of_pat first))) of_pat (view self.old.cursor.rest.now) result (view self.new.cursor.rest.now) }
         ensures room { IfOk result (λ p. p.height ≤ free) }
-        ensures shorter { length self.new.rest.now ≤ length self.old.rest.now }
+        ensures shorter { length self.new.cursor.rest.now ≤ length self.old.cursor.rest.now }
     {
-        self.expect(Mark::Colon)?;
+        self.cursor.expect(Mark::Colon)?;
         let value = self.pattern_par(free - 1)?;
-        let pair = build::pair(first, value);
-        let mut pairs = build::start(self.alloc, pair)?;
-        while self.sees_member() {
+        let pair = parts::pair(first, value);
+        let mut pairs = parts::start(self.cursor.alloc, pair)?;
+        while self.cursor.sees_member() {
             pairs = self.pattern_pairs_more(pairs, free)?;
         }
-        self.pairs_end(pairs)
+        self.cursor.pairs_end(pairs)
     }
 
     /// A comma and one more pair.
@@ -385,17 +343,17 @@ impl<'a> Parser<'a> {
         pairs: Part<Vec<(Pat, Pat)>>,
         free: u32,
     ) -> Result<Part<Vec<(Pat, Pat)>>, Fault>
-        requires member { sees_member (view self.old.rest.now) ≡ true }
+        requires member { sees_member (view self.old.cursor.rest.now) ≡ true }
         requires room { pairs.height < free }
-        ensures reads { Turns free (rule Tutorial (choose (Sort.PPairs (pat_pairs_written pairs.value.items) pairs.height) (view self.old.rest.now))) (λ p. last (Sort.PPairs (pat_pairs_written p.value.items) p.height)) (view self.old.rest.now) result (view self.new.rest.now) }
+        ensures reads { Turns free (rule Tutorial (choose (Sort.PPairs (pat_pairs_written pairs.value.items) pairs.height) (view self.old.cursor.rest.now))) (λ p. last (Sort.PPairs (pat_pairs_written p.value.items) p.height)) (view self.old.cursor.rest.now) result (view self.new.cursor.rest.now) }
         ensures room { IfOk result (λ p. p.height < free) }
-        ensures shorter { MatchResult result (λ _. length self.new.rest.now < length self.old.rest.now) (λ _. length self.new.rest.now ≤ length self.old.rest.now) }
+        ensures shorter { MatchResult result (λ _. length self.new.cursor.rest.now < length self.old.cursor.rest.now) (λ _. length self.new.cursor.rest.now ≤ length self.old.cursor.rest.now) }
     {
-        self.expect(Mark::Comma)?;
+        self.cursor.expect(Mark::Comma)?;
         let key = self.pattern_par(free - 1)?;
-        self.expect(Mark::Colon)?;
+        self.cursor.expect(Mark::Colon)?;
         let value = self.pattern_par(free - 1)?;
-        let pair = build::pair(key, value);
-        build::push(pairs, pair)
+        let pair = parts::pair(key, value);
+        parts::push(pairs, pair)
     }
 }

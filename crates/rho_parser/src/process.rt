@@ -5,58 +5,57 @@ ghost use Rattle.grammar.specs.Productions.{Prod};
 ghost use Rattle.grammar.specs.Rules.{Sort, last};
 ghost use Rattle.grammar.specs.Values.{processes};
 ghost use Rattle.grammar.specs.declared.dialect.Dialect.TheVariants.{Tutorial};
-ghost use Rattle.rho_parser.specs.Meaning.{view};
-ghost use Rattle.rho_parser.specs.Reading.{Gives, Makes, Turns, of_name, of_proc};
+ghost use Rattle.token_cursor.specs.Meaning.{view};
+ghost use Rattle.token_cursor.specs.Reading.{Gives, Makes, Turns, of_name, of_proc};
 ghost use Rattle.std.specs.Prelude.{◌≡◌, ◌<◌, ◌≤◌, IfOk, MatchResult, length, map};
 
-use crate::build;
-use crate::cursor::Parser;
-use crate::level::Level;
-use crate::part::{Bracket, Part};
+use crate::parser::Parser;
 use calculus::{Name, Proc};
 use grammar::{Fault, Mark};
+use token_cursor::part::{Bracket, Part};
+use token_cursor::{Level, parts, process_forms};
 
 impl<'a> Parser<'a> {
     /// Par ::= One { "|" One }
     #[cycle(parse)]
     pub fn par(&mut self, free: u32) -> Result<Part<Proc>, Fault>
-        ensures reads { Gives free (Sort.Par processes) of_proc (view self.old.rest.now) result (view self.new.rest.now) }
+        ensures reads { Gives free (Sort.Par processes) of_proc (view self.old.cursor.rest.now) result (view self.new.cursor.rest.now) }
         ensures room { IfOk result (λ p. p.height ≤ free) }
-        ensures shorter { length self.new.rest.now ≤ length self.old.rest.now }
+        ensures shorter { length self.new.cursor.rest.now ≤ length self.old.cursor.rest.now }
     {
         let first = self.one(free)?;
-        let mut parts = build::start(self.alloc, first)?;
-        while self.sees(Mark::Bar) {
+        let mut parts = parts::start(self.cursor.alloc, first)?;
+        while self.cursor.sees(Mark::Bar) {
             parts = self.next_part(parts, free)?;
         }
-        Ok(build::composed(parts))
+        Ok(process_forms::composed(parts))
     }
 
     /// A bar and one more part.
     #[cycle(parse)]
     pub fn next_part(&mut self, parts: Part<Vec<Proc>>, free: u32) -> Result<Part<Vec<Proc>>, Fault>
         requires { parts.height ≤ free }
-        ensures reads { Turns free (rule Tutorial (Prod.par_more processes (map proc_written parts.value.items) parts.height)) (λ p. last (Sort.ParTail processes (map proc_written p.value.items) p.height)) (view self.old.rest.now) result (view self.new.rest.now) }
+        ensures reads { Turns free (rule Tutorial (Prod.par_more processes (map proc_written parts.value.items) parts.height)) (λ p. last (Sort.ParTail processes (map proc_written p.value.items) p.height)) (view self.old.cursor.rest.now) result (view self.new.cursor.rest.now) }
         ensures room { IfOk result (λ p. p.height ≤ free) }
-        ensures shorter { MatchResult result (λ _. length self.new.rest.now < length self.old.rest.now) (λ _. length self.new.rest.now ≤ length self.old.rest.now) }
+        ensures shorter { MatchResult result (λ _. length self.new.cursor.rest.now < length self.old.cursor.rest.now) (λ _. length self.new.cursor.rest.now ≤ length self.old.cursor.rest.now) }
     {
-        self.expect(Mark::Bar)?;
+        self.cursor.expect(Mark::Bar)?;
         let next = self.one(free)?;
-        build::push(parts, next)
+        parts::push(parts, next)
     }
 
     /// One ::= New | If | Contract | Two
     #[cycle(parse)]
     pub fn one(&mut self, free: u32) -> Result<Part<Proc>, Fault>
-        ensures reads { Gives free Sort.One of_proc (view self.old.rest.now) result (view self.new.rest.now) }
+        ensures reads { Gives free Sort.One of_proc (view self.old.cursor.rest.now) result (view self.new.cursor.rest.now) }
         ensures room { IfOk result (λ p. p.height ≤ free) }
-        ensures shorter { length self.new.rest.now ≤ length self.old.rest.now }
+        ensures shorter { length self.new.cursor.rest.now ≤ length self.old.cursor.rest.now }
     {
-        if self.sees(Mark::New) {
+        if self.cursor.sees(Mark::New) {
             self.new_form(free)
-        } else if self.sees(Mark::If) {
+        } else if self.cursor.sees(Mark::If) {
             self.if_form(free)
-        } else if self.sees(Mark::Contract) {
+        } else if self.cursor.sees(Mark::Contract) {
             self.contract_form(free)
         } else {
             self.two(free)
@@ -66,28 +65,28 @@ impl<'a> Parser<'a> {
     /// New ::= "new" Decl { "," Decl } "in" One
     #[cycle(parse)]
     pub fn new_form(&mut self, free: u32) -> Result<Part<Proc>, Fault>
-        ensures reads { Gives free Sort.New of_proc (view self.old.rest.now) result (view self.new.rest.now) }
+        ensures reads { Gives free Sort.New of_proc (view self.old.cursor.rest.now) result (view self.new.cursor.rest.now) }
         ensures room { IfOk result (λ p. p.height ≤ free) }
-        ensures shorter { length self.new.rest.now ≤ length self.old.rest.now }
+        ensures shorter { length self.new.cursor.rest.now ≤ length self.old.cursor.rest.now }
     {
-        self.opens(Mark::New, 0, free)?;
-        let names = self.declarations()?;
-        self.expect(Mark::In)?;
+        self.cursor.opens(Mark::New, 0, free)?;
+        let names = self.cursor.declarations()?;
+        self.cursor.expect(Mark::In)?;
         let body = self.one(free - 1)?;
-        build::new_process(self.alloc, names, body)
+        process_forms::new_process(self.cursor.alloc, names, body)
     }
 
     /// If ::= "if" "(" Par ")" Two [ "else" One ]
     #[cycle(parse)]
     pub fn if_form(&mut self, free: u32) -> Result<Part<Proc>, Fault>
-        ensures reads { Gives free Sort.If of_proc (view self.old.rest.now) result (view self.new.rest.now) }
+        ensures reads { Gives free Sort.If of_proc (view self.old.cursor.rest.now) result (view self.new.cursor.rest.now) }
         ensures room { IfOk result (λ p. p.height ≤ free) }
-        ensures shorter { length self.new.rest.now ≤ length self.old.rest.now }
+        ensures shorter { length self.new.cursor.rest.now ≤ length self.old.cursor.rest.now }
     {
-        self.opens(Mark::If, 0, free)?;
-        self.expect(Mark::Open)?;
+        self.cursor.opens(Mark::If, 0, free)?;
+        self.cursor.expect(Mark::Open)?;
         let condition = self.par(free - 1)?;
-        self.expect(Mark::Close)?;
+        self.cursor.expect(Mark::Close)?;
         let yes = self.two(free - 1)?;
         self.if_tail(condition, yes, free)
     }
@@ -102,14 +101,14 @@ impl<'a> Parser<'a> {
     ) -> Result<Part<Proc>, Fault>
         requires condition { condition.height < free }
         requires yes { yes.height < free }
-        ensures reads { Gives free (Sort.IfTail (of_proc condition) (of_proc yes)) of_proc (view self.old.rest.now) result (view self.new.rest.now) }
+        ensures reads { Gives free (Sort.IfTail (of_proc condition) (of_proc yes)) of_proc (view self.old.cursor.rest.now) result (view self.new.cursor.rest.now) }
         ensures room { IfOk result (λ p. p.height ≤ free) }
-        ensures shorter { length self.new.rest.now ≤ length self.old.rest.now }
+        ensures shorter { length self.new.cursor.rest.now ≤ length self.old.cursor.rest.now }
     {
-        if self.sees(Mark::Else) {
+        if self.cursor.sees(Mark::Else) {
             self.if_else(condition, yes, free)
         } else {
-            build::if_only(self.alloc, condition, yes)
+            process_forms::if_only(self.cursor.alloc, condition, yes)
         }
     }
 
@@ -123,48 +122,48 @@ impl<'a> Parser<'a> {
     ) -> Result<Part<Proc>, Fault>
         requires condition { condition.height < free }
         requires yes { yes.height < free }
-        ensures reads { Makes free (rule Tutorial (Prod.if_else (of_proc condition) (of_proc yes))) of_proc (view self.old.rest.now) result (view self.new.rest.now) }
+        ensures reads { Makes free (rule Tutorial (Prod.if_else (of_proc condition) (of_proc yes))) of_proc (view self.old.cursor.rest.now) result (view self.new.cursor.rest.now) }
         ensures room { IfOk result (λ p. p.height ≤ free) }
-        ensures shorter { length self.new.rest.now ≤ length self.old.rest.now }
+        ensures shorter { length self.new.cursor.rest.now ≤ length self.old.cursor.rest.now }
     {
-        self.expect(Mark::Else)?;
+        self.cursor.expect(Mark::Else)?;
         let no = self.one(free - 1)?;
-        build::choice(self.alloc, condition, yes, no)
+        process_forms::choice(self.cursor.alloc, condition, yes, no)
     }
 
     /// Contract ::= "contract" Name "(" Left ")" "=" One
     #[cycle(parse)]
     pub fn contract_form(&mut self, free: u32) -> Result<Part<Proc>, Fault>
-        ensures reads { Gives free Sort.Contract of_proc (view self.old.rest.now) result (view self.new.rest.now) }
+        ensures reads { Gives free Sort.Contract of_proc (view self.old.cursor.rest.now) result (view self.new.cursor.rest.now) }
         ensures room { IfOk result (λ p. p.height ≤ free) }
-        ensures shorter { length self.new.rest.now ≤ length self.old.rest.now }
+        ensures shorter { length self.new.cursor.rest.now ≤ length self.old.cursor.rest.now }
     {
-        self.opens(Mark::Contract, 0, free)?;
+        self.cursor.opens(Mark::Contract, 0, free)?;
         let name = self.name(free - 1)?;
-        self.expect(Mark::Open)?;
+        self.cursor.expect(Mark::Open)?;
         let left = self.left(free - 1)?;
-        self.expect(Mark::Close)?;
-        self.expect(Mark::Assign)?;
+        self.cursor.expect(Mark::Close)?;
+        self.cursor.expect(Mark::Assign)?;
         let body = self.one(free - 1)?;
-        build::contract(self.alloc, name, left, body)
+        process_forms::contract(self.cursor.alloc, name, left, body)
     }
 
     /// Two ::= For | Match | Bundle | Name ( "!" | "!!" ) "(" [ Par { "," Par } ] ")" | Or
     #[cycle(parse)]
     pub fn two(&mut self, free: u32) -> Result<Part<Proc>, Fault>
-        ensures reads { Gives free Sort.Two of_proc (view self.old.rest.now) result (view self.new.rest.now) }
+        ensures reads { Gives free Sort.Two of_proc (view self.old.cursor.rest.now) result (view self.new.cursor.rest.now) }
         ensures room { IfOk result (λ p. p.height ≤ free) }
-        ensures shorter { length self.new.rest.now ≤ length self.old.rest.now }
+        ensures shorter { length self.new.cursor.rest.now ≤ length self.old.cursor.rest.now }
     {
-        if self.sees(Mark::For) {
+        if self.cursor.sees(Mark::For) {
             self.for_form(free)
-        } else if self.sees(Mark::Match) {
+        } else if self.cursor.sees(Mark::Match) {
             self.match_form(free)
-        } else if self.sees_bundle() {
+        } else if self.cursor.sees_bundle() {
             self.bundle(free)
-        } else if self.sees(Mark::At) {
+        } else if self.cursor.sees(Mark::At) {
             self.two_quote(free)
-        } else if self.sees_send() {
+        } else if self.cursor.sees_send() {
             self.two_word(free)
         } else {
             self.level(Level::Or, free)
@@ -174,23 +173,23 @@ impl<'a> Parser<'a> {
     /// A send on a variable.
     #[cycle(parse)]
     pub fn two_word(&mut self, free: u32) -> Result<Part<Proc>, Fault>
-        ensures reads { Makes free (rule Tutorial Prod.two_word) of_proc (view self.old.rest.now) result (view self.new.rest.now) }
+        ensures reads { Makes free (rule Tutorial Prod.two_word) of_proc (view self.old.cursor.rest.now) result (view self.new.cursor.rest.now) }
         ensures room { IfOk result (λ p. p.height ≤ free) }
-        ensures shorter { length self.new.rest.now ≤ length self.old.rest.now }
+        ensures shorter { length self.new.cursor.rest.now ≤ length self.old.cursor.rest.now }
     {
-        let name = self.word()?;
-        self.sent(build::channel(name), free)
+        let name = self.cursor.word()?;
+        self.sent(process_forms::channel(name), free)
     }
 
     /// What follows the variable of a send, which is opened here.
     #[cycle(parse)]
     pub fn sent(&mut self, channel: Part<Name>, free: u32) -> Result<Part<Proc>, Fault>
         requires { channel.height ≡ 0 }
-        ensures reads { Gives free (Sort.Sent processes (of_name channel)) of_proc (view self.old.rest.now) result (view self.new.rest.now) }
+        ensures reads { Gives free (Sort.Sent processes (of_name channel)) of_proc (view self.old.cursor.rest.now) result (view self.new.cursor.rest.now) }
         ensures room { IfOk result (λ p. p.height ≤ free) }
-        ensures shorter { length self.new.rest.now ≤ length self.old.rest.now }
+        ensures shorter { length self.new.cursor.rest.now ≤ length self.old.cursor.rest.now }
     {
-        let persistent = self.sees(Mark::DoubleBang);
+        let persistent = self.cursor.sees(Mark::DoubleBang);
         self.send(channel, persistent, free)
     }
 
@@ -203,26 +202,26 @@ impl<'a> Parser<'a> {
         free: u32,
     ) -> Result<Part<Proc>, Fault>
         requires { channel.height ≡ 0 }
-        ensures reads { Makes free (rule Tutorial (Prod.sent processes (of_name channel) persistent)) of_proc (view self.old.rest.now) result (view self.new.rest.now) }
+        ensures reads { Makes free (rule Tutorial (Prod.sent processes (of_name channel) persistent)) of_proc (view self.old.cursor.rest.now) result (view self.new.cursor.rest.now) }
         ensures room { IfOk result (λ p. p.height ≤ free) }
-        ensures shorter { length self.new.rest.now ≤ length self.old.rest.now }
+        ensures shorter { length self.new.cursor.rest.now ≤ length self.old.cursor.rest.now }
     {
-        self.opens_bang(persistent, free)?;
-        self.expect(Mark::Open)?;
+        self.cursor.opens_bang(persistent, free)?;
+        self.cursor.expect(Mark::Open)?;
         let args = self.row(Bracket::Round, free - 1)?;
-        Ok(build::send(channel, args, persistent))
+        Ok(process_forms::send(channel, args, persistent))
     }
 
     /// A send on a quoted process, which is opened at the `@`.
     #[cycle(parse)]
     pub fn two_quote(&mut self, free: u32) -> Result<Part<Proc>, Fault>
-        ensures reads { Makes free (rule Tutorial Prod.two_quote) of_proc (view self.old.rest.now) result (view self.new.rest.now) }
+        ensures reads { Makes free (rule Tutorial Prod.two_quote) of_proc (view self.old.cursor.rest.now) result (view self.new.cursor.rest.now) }
         ensures room { IfOk result (λ p. p.height ≤ free) }
-        ensures shorter { length self.new.rest.now ≤ length self.old.rest.now }
+        ensures shorter { length self.new.cursor.rest.now ≤ length self.old.cursor.rest.now }
     {
-        self.opens(Mark::At, 0, free)?;
+        self.cursor.opens(Mark::At, 0, free)?;
         let quoted = self.drop_form(free - 1)?;
-        let channel = build::quote(self.alloc, quoted)?;
+        let channel = process_forms::quote(self.cursor.alloc, quoted)?;
         self.sent_tail(channel, free)
     }
 
@@ -230,11 +229,11 @@ impl<'a> Parser<'a> {
     #[cycle(parse)]
     pub fn sent_tail(&mut self, channel: Part<Name>, free: u32) -> Result<Part<Proc>, Fault>
         requires { channel.height < free }
-        ensures reads { Gives free (Sort.SentTail processes (of_name channel)) of_proc (view self.old.rest.now) result (view self.new.rest.now) }
+        ensures reads { Gives free (Sort.SentTail processes (of_name channel)) of_proc (view self.old.cursor.rest.now) result (view self.new.cursor.rest.now) }
         ensures room { IfOk result (λ p. p.height ≤ free) }
-        ensures shorter { length self.new.rest.now ≤ length self.old.rest.now }
+        ensures shorter { length self.new.cursor.rest.now ≤ length self.old.cursor.rest.now }
     {
-        let persistent = self.sees(Mark::DoubleBang);
+        let persistent = self.cursor.sees(Mark::DoubleBang);
         self.send_on(channel, persistent, free)
     }
 
@@ -247,28 +246,28 @@ impl<'a> Parser<'a> {
         free: u32,
     ) -> Result<Part<Proc>, Fault>
         requires { channel.height < free }
-        ensures reads { Makes free (rule Tutorial (Prod.sent_tail processes (of_name channel) persistent)) of_proc (view self.old.rest.now) result (view self.new.rest.now) }
+        ensures reads { Makes free (rule Tutorial (Prod.sent_tail processes (of_name channel) persistent)) of_proc (view self.old.cursor.rest.now) result (view self.new.cursor.rest.now) }
         ensures room { IfOk result (λ p. p.height ≤ free) }
-        ensures shorter { length self.new.rest.now ≤ length self.old.rest.now }
+        ensures shorter { length self.new.cursor.rest.now ≤ length self.old.cursor.rest.now }
     {
-        self.expect_bang(persistent)?;
-        self.expect(Mark::Open)?;
+        self.cursor.expect_bang(persistent)?;
+        self.cursor.expect(Mark::Open)?;
         let args = self.row(Bracket::Round, free - 1)?;
-        Ok(build::send(channel, args, persistent))
+        Ok(process_forms::send(channel, args, persistent))
     }
 
     /// Bundle ::= ( "bundle" | "bundle+" | "bundle-" | "bundle0" ) "{" Par "}"
     #[cycle(parse)]
     pub fn bundle(&mut self, free: u32) -> Result<Part<Proc>, Fault>
-        ensures reads { Gives free (Sort.Bundle processes) of_proc (view self.old.rest.now) result (view self.new.rest.now) }
+        ensures reads { Gives free (Sort.Bundle processes) of_proc (view self.old.cursor.rest.now) result (view self.new.cursor.rest.now) }
         ensures room { IfOk result (λ p. p.height ≤ free) }
-        ensures shorter { length self.new.rest.now ≤ length self.old.rest.now }
+        ensures shorter { length self.new.cursor.rest.now ≤ length self.old.cursor.rest.now }
     {
-        let rights = self.rights();
-        self.opens_bundle(rights, free)?;
-        self.expect(Mark::OpenBrace)?;
+        let rights = self.cursor.rights();
+        self.cursor.opens_bundle(rights, free)?;
+        self.cursor.expect(Mark::OpenBrace)?;
         let body = self.par(free - 1)?;
-        self.expect(Mark::CloseBrace)?;
-        build::bundle(self.alloc, rights, body)
+        self.cursor.expect(Mark::CloseBrace)?;
+        process_forms::bundle(self.cursor.alloc, rights, body)
     }
 }

@@ -4,28 +4,28 @@ ghost use Rattle.grammar.specs.Grammar.{rule};
 ghost use Rattle.grammar.specs.Productions.{Prod};
 ghost use Rattle.grammar.specs.Rules.{Sort, last};
 ghost use Rattle.grammar.specs.declared.dialect.Dialect.TheVariants.{Tutorial};
-ghost use Rattle.rho_parser.specs.Meaning.{view};
-ghost use Rattle.rho_parser.specs.Reading.{Gives, Makes, MoreBinds, ReadsCase, ReadsCases, Turns, of_bind, of_left, of_proc, separator_of};
+ghost use Rattle.token_cursor.specs.Meaning.{view};
+ghost use Rattle.rho_parser.specs.Reading.{MoreBinds, ReadsCase, ReadsCases};
+ghost use Rattle.token_cursor.specs.Reading.{Gives, Makes, Turns, of_bind, of_left, of_proc, separator_of};
 ghost use Rattle.grammar.specs.Rules as separators;
 ghost use Rattle.std.specs.Prelude.{◌<◌, ◌≤◌, IfOk, MatchResult, ℕ, length, map};
 
-use crate::build;
-use crate::cursor::Parser;
-use crate::level::Level;
-use crate::part::{Left, Part, Separator};
+use crate::parser::Parser;
 use calculus::{Bind, Case, Kind, Proc};
 use grammar::{Fault, Mark};
+use token_cursor::part::{Left, Part, Separator};
+use token_cursor::{Level, parts, process_forms};
 
 impl<'a> Parser<'a> {
     /// For ::= "for" "(" Binds ")" "{" Par "}"
     #[cycle(parse)]
     pub fn for_form(&mut self, free: u32) -> Result<Part<Proc>, Fault>
-        ensures reads { Gives free Sort.For of_proc (view self.old.rest.now) result (view self.new.rest.now) }
+        ensures reads { Gives free Sort.For of_proc (view self.old.cursor.rest.now) result (view self.new.cursor.rest.now) }
         ensures room { IfOk result (λ p. p.height ≤ free) }
-        ensures shorter { length self.new.rest.now ≤ length self.old.rest.now }
+        ensures shorter { length self.new.cursor.rest.now ≤ length self.old.cursor.rest.now }
     {
-        self.opens(Mark::For, 0, free)?;
-        self.expect(Mark::Open)?;
+        self.cursor.opens(Mark::For, 0, free)?;
+        self.cursor.expect(Mark::Open)?;
         self.bind(free)
     }
 
@@ -33,9 +33,9 @@ impl<'a> Parser<'a> {
     #[cycle(parse)]
     pub fn bind(&mut self, free: u32) -> Result<Part<Proc>, Fault>
         requires { 0 < free }
-        ensures reads { Gives free Sort.Bind of_proc (view self.old.rest.now) result (view self.new.rest.now) }
+        ensures reads { Gives free Sort.Bind of_proc (view self.old.cursor.rest.now) result (view self.new.cursor.rest.now) }
         ensures room { IfOk result (λ p. p.height ≤ free) }
-        ensures shorter { length self.new.rest.now ≤ length self.old.rest.now }
+        ensures shorter { length self.new.cursor.rest.now ≤ length self.old.cursor.rest.now }
     {
         let left = self.left(free - 1)?;
         self.arrow_form(left, free)
@@ -45,14 +45,14 @@ impl<'a> Parser<'a> {
     #[cycle(parse)]
     pub fn arrow_form(&mut self, left: Part<Left>, free: u32) -> Result<Part<Proc>, Fault>
         requires { left.height < free }
-        ensures reads { Gives free (Sort.Arrow (of_left left)) of_proc (view self.old.rest.now) result (view self.new.rest.now) }
+        ensures reads { Gives free (Sort.Arrow (of_left left)) of_proc (view self.old.cursor.rest.now) result (view self.new.cursor.rest.now) }
         ensures room { IfOk result (λ p. p.height ≤ free) }
-        ensures shorter { length self.new.rest.now ≤ length self.old.rest.now }
+        ensures shorter { length self.new.cursor.rest.now ≤ length self.old.cursor.rest.now }
     {
-        let kind = self.arrow();
-        self.expect_arrow(kind)?;
+        let kind = self.cursor.arrow();
+        self.cursor.expect_arrow(kind)?;
         let channel = self.name(free - 1)?;
-        self.first_tail(kind, build::bind(left, channel), free)
+        self.first_tail(kind, process_forms::bind(left, channel), free)
     }
 
     /// What follows a first bind.
@@ -64,13 +64,13 @@ impl<'a> Parser<'a> {
         free: u32,
     ) -> Result<Part<Proc>, Fault>
         requires { bind.height < free }
-        ensures reads { Gives free (Sort.FirstTail kind (of_bind bind)) of_proc (view self.old.rest.now) result (view self.new.rest.now) }
+        ensures reads { Gives free (Sort.FirstTail kind (of_bind bind)) of_proc (view self.old.cursor.rest.now) result (view self.new.cursor.rest.now) }
         ensures room { IfOk result (λ p. p.height ≤ free) }
-        ensures shorter { length self.new.rest.now ≤ length self.old.rest.now }
+        ensures shorter { length self.new.cursor.rest.now ≤ length self.old.cursor.rest.now }
     {
-        if self.sees(Mark::Semicolon) {
+        if self.cursor.sees(Mark::Semicolon) {
             self.first_more(kind, Separator::Semicolon, bind, free)
-        } else if self.sees(Mark::Ampersand) {
+        } else if self.cursor.sees(Mark::Ampersand) {
             self.first_more(kind, Separator::Ampersand, bind, free)
         } else {
             self.first_end(kind, bind, free)
@@ -86,11 +86,11 @@ impl<'a> Parser<'a> {
         free: u32,
     ) -> Result<Part<Proc>, Fault>
         requires { bind.height < free }
-        ensures reads { Makes free (rule Tutorial (Prod.first_end kind (of_bind bind))) of_proc (view self.old.rest.now) result (view self.new.rest.now) }
+        ensures reads { Makes free (rule Tutorial (Prod.first_end kind (of_bind bind))) of_proc (view self.old.cursor.rest.now) result (view self.new.cursor.rest.now) }
         ensures room { IfOk result (λ p. p.height ≤ free) }
-        ensures shorter { length self.new.rest.now ≤ length self.old.rest.now }
+        ensures shorter { length self.new.cursor.rest.now ≤ length self.old.cursor.rest.now }
     {
-        let binds = build::start(self.alloc, bind)?;
+        let binds = parts::start(self.cursor.alloc, bind)?;
         self.body(kind, binds, free)
     }
 
@@ -104,12 +104,12 @@ impl<'a> Parser<'a> {
         free: u32,
     ) -> Result<Part<Proc>, Fault>
         requires { bind.height < free }
-        ensures reads { Makes free (rule Tutorial (Prod.first_more kind (of_bind bind) (separator_of separator))) of_proc (view self.old.rest.now) result (view self.new.rest.now) }
+        ensures reads { Makes free (rule Tutorial (Prod.first_more kind (of_bind bind) (separator_of separator))) of_proc (view self.old.cursor.rest.now) result (view self.new.cursor.rest.now) }
         ensures room { IfOk result (λ p. p.height ≤ free) }
-        ensures shorter { length self.new.rest.now ≤ length self.old.rest.now }
+        ensures shorter { length self.new.cursor.rest.now ≤ length self.old.cursor.rest.now }
     {
-        self.expect_separator(separator)?;
-        let first = build::start(self.alloc, bind)?;
+        self.cursor.expect_separator(separator)?;
+        let first = parts::start(self.cursor.alloc, bind)?;
         let binds = self.next_bind(kind, first, free)?;
         self.binds_tail(kind, separator, 14, binds, free)
     }
@@ -125,11 +125,11 @@ impl<'a> Parser<'a> {
         free: u32,
     ) -> Result<Part<Proc>, Fault>
         requires { binds.height < free }
-        ensures reads { Gives free (Sort.BindsTail kind (separator_of separator) more (map bind_written binds.value.items) binds.height) of_proc (view self.old.rest.now) result (view self.new.rest.now) }
+        ensures reads { Gives free (Sort.BindsTail kind (separator_of separator) more (map bind_written binds.value.items) binds.height) of_proc (view self.old.cursor.rest.now) result (view self.new.cursor.rest.now) }
         ensures room { IfOk result (λ p. p.height ≤ free) }
-        ensures shorter { length self.new.rest.now ≤ length self.old.rest.now }
+        ensures shorter { length self.new.cursor.rest.now ≤ length self.old.cursor.rest.now }
     {
-        if self.sees_bind(separator, more) {
+        if self.cursor.sees_bind(separator, more) {
             let all = self.more_binds(kind, separator, binds, free)?;
             return self.binds_tail(kind, separator, more - 1, all, free);
         }
@@ -146,11 +146,11 @@ impl<'a> Parser<'a> {
         free: u32,
     ) -> Result<Part<Vec<Bind>>, Fault>
         requires { binds.height < free }
-        ensures reads { MoreBinds free kind (separator_of separator) binds (view self.old.rest.now) result (view self.new.rest.now) }
+        ensures reads { MoreBinds free kind (separator_of separator) binds (view self.old.cursor.rest.now) result (view self.new.cursor.rest.now) }
         ensures room { IfOk result (λ p. p.height < free) }
-        ensures shorter { MatchResult result (λ _. length self.new.rest.now < length self.old.rest.now) (λ _. length self.new.rest.now ≤ length self.old.rest.now) }
+        ensures shorter { MatchResult result (λ _. length self.new.cursor.rest.now < length self.old.cursor.rest.now) (λ _. length self.new.cursor.rest.now ≤ length self.old.cursor.rest.now) }
     {
-        self.expect_separator(separator)?;
+        self.cursor.expect_separator(separator)?;
         self.next_bind(kind, binds, free)
     }
 
@@ -163,14 +163,14 @@ impl<'a> Parser<'a> {
         free: u32,
     ) -> Result<Part<Vec<Bind>>, Fault>
         requires { binds.height < free }
-        ensures reads { (m : separators.Separator) (left : ℕ) → Turns free (rule Tutorial (Prod.binds kind m left (map bind_written binds.value.items) binds.height)) (λ b. last (Sort.BindsTail kind m left (map bind_written b.value.items) b.height)) (view self.old.rest.now) result (view self.new.rest.now) }
+        ensures reads { (m : separators.Separator) (left : ℕ) → Turns free (rule Tutorial (Prod.binds kind m left (map bind_written binds.value.items) binds.height)) (λ b. last (Sort.BindsTail kind m left (map bind_written b.value.items) b.height)) (view self.old.cursor.rest.now) result (view self.new.cursor.rest.now) }
         ensures room { IfOk result (λ p. p.height < free) }
-        ensures shorter { MatchResult result (λ _. length self.new.rest.now < length self.old.rest.now) (λ _. length self.new.rest.now ≤ length self.old.rest.now) }
+        ensures shorter { MatchResult result (λ _. length self.new.cursor.rest.now < length self.old.cursor.rest.now) (λ _. length self.new.cursor.rest.now ≤ length self.old.cursor.rest.now) }
     {
         let left = self.left(free - 1)?;
-        self.expect_arrow(kind)?;
+        self.cursor.expect_arrow(kind)?;
         let channel = self.name(free - 1)?;
-        build::push(binds, build::bind(left, channel))
+        parts::push(binds, process_forms::bind(left, channel))
     }
 
     /// The body of a receive.
@@ -182,43 +182,43 @@ impl<'a> Parser<'a> {
         free: u32,
     ) -> Result<Part<Proc>, Fault>
         requires { binds.height < free }
-        ensures reads { Gives free (Sort.Body kind (map bind_written binds.value.items) binds.height) of_proc (view self.old.rest.now) result (view self.new.rest.now) }
+        ensures reads { Gives free (Sort.Body kind (map bind_written binds.value.items) binds.height) of_proc (view self.old.cursor.rest.now) result (view self.new.cursor.rest.now) }
         ensures room { IfOk result (λ p. p.height ≤ free) }
-        ensures shorter { length self.new.rest.now ≤ length self.old.rest.now }
+        ensures shorter { length self.new.cursor.rest.now ≤ length self.old.cursor.rest.now }
     {
-        self.expect(Mark::Close)?;
-        self.expect(Mark::OpenBrace)?;
+        self.cursor.expect(Mark::Close)?;
+        self.cursor.expect(Mark::OpenBrace)?;
         let body = self.par(free - 1)?;
-        self.expect(Mark::CloseBrace)?;
-        build::receive(self.alloc, kind, binds, body)
+        self.cursor.expect(Mark::CloseBrace)?;
+        process_forms::receive(self.cursor.alloc, kind, binds, body)
     }
 
     /// Match ::= "match" Or "{" Case { Case } "}"
     #[cycle(parse)]
     pub fn match_form(&mut self, free: u32) -> Result<Part<Proc>, Fault>
-        ensures reads { Gives free Sort.Match of_proc (view self.old.rest.now) result (view self.new.rest.now) }
+        ensures reads { Gives free Sort.Match of_proc (view self.old.cursor.rest.now) result (view self.new.cursor.rest.now) }
         ensures room { IfOk result (λ p. p.height ≤ free) }
-        ensures shorter { length self.new.rest.now ≤ length self.old.rest.now }
+        ensures shorter { length self.new.cursor.rest.now ≤ length self.old.cursor.rest.now }
     {
-        self.opens(Mark::Match, 0, free)?;
+        self.cursor.opens(Mark::Match, 0, free)?;
         let target = self.level(Level::Or, free - 1)?;
-        self.expect(Mark::OpenBrace)?;
+        self.cursor.expect(Mark::OpenBrace)?;
         let cases = self.cases(target.height, free)?;
-        self.expect(Mark::CloseBrace)?;
-        build::matches(self.alloc, target.value, cases)
+        self.cursor.expect(Mark::CloseBrace)?;
+        process_forms::matches(self.cursor.alloc, target.value, cases)
     }
 
     /// The cases of a `match` whose target has this height.
     #[cycle(parse)]
     pub fn cases(&mut self, height: u32, free: u32) -> Result<Part<Vec<Case>>, Fault>
         requires { height < free }
-        ensures reads { ReadsCases free height (view self.old.rest.now) result (view self.new.rest.now) }
+        ensures reads { ReadsCases free height (view self.old.cursor.rest.now) result (view self.new.cursor.rest.now) }
         ensures room { IfOk result (λ p. p.height < free) }
-        ensures shorter { length self.new.rest.now ≤ length self.old.rest.now }
+        ensures shorter { length self.new.cursor.rest.now ≤ length self.old.cursor.rest.now }
     {
-        let none = build::no_cases(self.alloc, height);
+        let none = process_forms::no_cases(self.cursor.alloc, height);
         let mut cases = self.case(none, free)?;
-        while !self.sees(Mark::CloseBrace) {
+        while !self.cursor.sees(Mark::CloseBrace) {
             cases = self.case(cases, free)?;
         }
         Ok(cases)
@@ -228,14 +228,14 @@ impl<'a> Parser<'a> {
     #[cycle(parse)]
     pub fn case(&mut self, cases: Part<Vec<Case>>, free: u32) -> Result<Part<Vec<Case>>, Fault>
         requires { cases.height < free }
-        ensures reads { ReadsCase free cases (view self.old.rest.now) result (view self.new.rest.now) }
+        ensures reads { ReadsCase free cases (view self.old.cursor.rest.now) result (view self.new.cursor.rest.now) }
         ensures room { IfOk result (λ p. p.height < free) }
-        ensures shorter { MatchResult result (λ _. length self.new.rest.now < length self.old.rest.now) (λ _. length self.new.rest.now ≤ length self.old.rest.now) }
+        ensures shorter { MatchResult result (λ _. length self.new.cursor.rest.now < length self.old.cursor.rest.now) (λ _. length self.new.cursor.rest.now ≤ length self.old.cursor.rest.now) }
     {
-        self.refuse_minus()?;
+        self.cursor.refuse_minus()?;
         let pattern = self.pattern_one(free - 1)?;
-        self.expect(Mark::FatArrow)?;
+        self.cursor.expect(Mark::FatArrow)?;
         let body = self.one(free - 1)?;
-        build::push(cases, build::case(pattern, body))
+        parts::push(cases, process_forms::case(pattern, body))
     }
 }

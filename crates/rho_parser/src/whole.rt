@@ -4,19 +4,18 @@ ghost use Rattle.calculus.specs.Meaning.{proc_written};
 ghost use Rattle.calculus.specs.Written.{Written};
 ghost use Rattle.grammar.specs.Spells.{Spells};
 ghost use Rattle.grammar.specs.declared.dialect.Dialect.TheVariants.{Tutorial};
-ghost use Rattle.rho_parser.specs.Meaning.{plain_tokens};
-ghost use Rattle.rho_parser.specs.Parsed.{AreOfText, IsRefused, most_height, place_of};
+ghost use Rattle.token_cursor.specs.Meaning.{most_height, plain_tokens};
+ghost use Rattle.rho_parser.specs.Parsed.{AreOfText, IsRefused, place_of};
 ghost use Rattle.tokens.specs.Token.{source};
 
-use crate::cursor::Parser;
 use crate::parse_fault::ParseFault;
+use crate::parser::Parser;
 use calculus::Proc;
-use grammar::{Dialect, Fault, Mark};
+use grammar::{Dialect, Fault};
 use rho_lexer::Token;
 use std::alloc::Global;
-
-/// The greatest height of a source.
-const MOST_HEIGHT: u32 = 200;
+use token_cursor::Cursor;
+use token_cursor::cursor::most_height;
 
 /// The place of the first byte of the token that so many tokens follow, itself among them.
 fn place(tokens: &[Token], left: usize) -> usize
@@ -43,24 +42,26 @@ pub fn parse(alloc: Global, tokens: &[Token], dialect: Dialect) -> Result<Proc, 
 {
     let Dialect::Tutorial = dialect;
     let mut parser = Parser {
-        alloc,
-        rest: tokens,
+        cursor: Cursor {
+            alloc,
+            rest: tokens,
+        },
     };
-    match parser.par(MOST_HEIGHT) {
+    match parser.par(most_height()) {
         Ok(part) => {
-            if parser.sees(Mark::End) {
+            if parser.cursor.ended() {
                 Ok(part.value)
             } else {
-                let at = place(tokens, parser.rest.len());
+                let at = place(tokens, parser.cursor.rest.len());
                 Err(ParseFault::Syntax { at })
             }
         }
         Err(Fault::Syntax) => {
-            let at = place(tokens, parser.rest.len());
+            let at = place(tokens, parser.cursor.rest.len());
             Err(ParseFault::Syntax { at })
         }
         Err(Fault::TooDeep) => {
-            let at = place(tokens, parser.rest.len());
+            let at = place(tokens, parser.cursor.rest.len());
             Err(ParseFault::TooDeep { at })
         }
         Err(Fault::NoMemory) => Err(ParseFault::NoMemory),

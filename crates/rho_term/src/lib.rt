@@ -10,8 +10,6 @@ mod lengths;
 mod measure;
 pub mod op;
 pub mod term;
-#[cfg(test)]
-mod tests;
 
 pub use calculus::{Origin, TermRest};
 pub use op::Op;

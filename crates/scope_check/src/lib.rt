@@ -6,8 +6,6 @@ mod declared;
 pub mod fault;
 mod open;
 pub mod scoped;
-#[cfg(test)]
-mod tests;
 mod variables;
 mod wide;
 

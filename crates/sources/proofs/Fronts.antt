@@ -9,7 +9,7 @@ use Rattle.grammar.specs.Spells.{Spells, SpellsNothing}
 use Rattle.places.specs.Places.{PassesAt, EndsAt}
 use Rattle.rho_lexer.specs.Meaning.{kind_token, spanned_tokens}
 use Rattle.rho_lexer.specs.declared.token.Token.{Token}
-use Rattle.rho_parser.specs.Meaning.{plain_tokens}
+use Rattle.token_cursor.specs.Meaning.{plain_tokens}
 use Rattle.rho_parser.specs.Parsed as parsed
 use Rattle.rho_parser.specs.Parsed.{place_of}
 use Rattle.rho_parser.specs.declared.parse_fault.ParseFault.{ParseFault}

@@ -4,8 +4,6 @@
 pub mod fault;
 pub mod laws;
 pub mod reading;
-#[cfg(test)]
-mod tests;
 
 pub use fault::SourceFault;
 pub use reading::read_source;

@@ -1,15 +1,15 @@
 -- What the whole decoder answers where bytes are a code.
-use Rattle.std.proofs.Common.{◌≡◌, ℕ, ◌<◌, ◌^◌, List, [], ◌∷◌, ◌++◌, length, refl, ap, sym, ◌∙◌, subst, arith, append_assoc, append-nil, length-append, inl, inr}
-use Rattle.std.specs.Prelude.{true, false, ◌⊎◌}
+use Rattle.std.proofs.Common.{Err, ◌≡◌, ℕ, ◌<◌, ◌-◌, ◌^◌, List, [], ◌∷◌, ◌++◌, length, refl, ap, sym, ◌∙◌, subst, arith, append_assoc, append-nil, length-append, take, inl, inr, ⊎_elim}
+use Rattle.std.specs.Prelude.{Result, true, ◌⊎◌}
 use Rattle.calculus.specs.Tree.{Tree}
 use Rattle.calculus.specs.Code.{code}
-use Rattle.calculus.specs.CodeLaws.{IsShort}
 use Rattle.calculus.specs.Form.{term}
 use Rattle.calculus.proofs.FromFits.{no_code_is_prefix}
 use Rattle.term_code.specs.declared.fault.CodeFault.{CodeFault}
 use Rattle.term_code.specs.declared.fault.CodeFault.TheVariants as fault
 use Rattle.term_code.specs.Reading.{Reads}
-use Rattle.term_code.specs.Readable.{IsReadable, IsCutCode, at_end}
+use Rattle.term_code.specs.Readable.{IsReadable, IsCutCode, IsBegun, IsBegunTo, at_end}
+use Rattle.term_code.specs.Beginning.{HasPlace, IsAt, IsUnnamed, Goes, Begun}
 use Rattle.term_code.specs.Refusing.{IsRight, HasRoom, Refuses, MayFollow}
 use Rattle.term_code.proofs.Kids.{no_false}
 
@@ -66,3 +66,103 @@ pub none-past : (t u : Tree) (bs next : List ℕ) → Reads term [] 400 u bs nex
 none-past t u bs [] h r e l = omega arith
 none-past t u bs (k ∷ next) h r e l =
     no_code_is_prefix u t h.fits r.closed (omega (arith, r.short, ap length e, ap length h.is, length-append (code u) (k ∷ next))) r.short k next (e ∙ h.is)
+
+pub err-same : {T : Type 0} {x y : CodeFault} → ◌≡◌ {A = Result T CodeFault} (Err x) (Err y) → x ≡ y
+err-same q = cc
+
+not-canonical : {j k : ℕ} → fault.NotCanonical j ≡ fault.NotCanonical k → j ≡ k
+not-canonical e = cc
+
+too-deep : {j k : ℕ} → fault.TooDeep j ≡ fault.TooDeep k → j ≡ k
+too-deep e = cc
+
+-- only bytes that begin a code are told to end early
+pub begun-only : (bs : List ℕ) (e : CodeFault) (len at : ℕ) → (HasPlace e → Goes e (Begun true term [] 400 bs)) → at_end e len ≡ fault.Short at → IsBegun bs
+begun-only bs (fault.Short k) len at f q = let g = f tt in on g.after g.begun g.place
+  where
+    on : (after : List ℕ) → Begun true term [] 400 bs after → IsAt (fault.Short k) after ⊎ IsUnnamed (fault.Short k) after → IsBegun bs
+    on after b (inl p) = record {
+      process = b.tree;
+      closed = b.fits;
+      low = b.low;
+      more = b.cut.more;
+      is = ap (λ (z : List ℕ). z ++ b.cut.more) (sym b.cut.is ∙ ap (λ (z : List ℕ). b.cut.before ++ z) p ∙ append-nil b.cut.before) ∙ b.cut.goes;
+      proper = b.cut.some;
+    }
+    on after b (inr u) = absurd (apart u.place)
+      where
+        apart : {j i : ℕ} → fault.Short j ≡ fault.NotCanonical i → ⊥
+        apart e = cc
+begun-only bs (fault.NotCanonical k) len at f q = absurd (cc)
+begun-only bs (fault.TooDeep k) len at f q = absurd (cc)
+begun-only bs fault.NoMemory len at f q = absurd (cc)
+
+-- up to another place they begin one too
+begun-to : {bs after : List ℕ} (at : ℕ) → Begun true term [] 400 bs after → at ≡ length bs - length after → IsBegunTo bs at
+begun-to {after = after} at b p = record {
+  process = b.tree;
+  closed = b.fits;
+  low = b.low;
+  before = b.cut.before;
+  more = b.cut.more;
+  goes = b.cut.goes;
+  after = after;
+  is = b.cut.is;
+  place = inl (omega (arith, p, ap length b.cut.is, length-append b.cut.before after));
+}
+
+unnamed-to : {bs after : List ℕ} (at : ℕ) (others : List ℕ) → Begun true term [] 400 bs after → after ≡ 0 ∷ 0 ∷ 0 ∷ 0 ∷ others → at ≡ length bs - length others → IsBegunTo bs at
+unnamed-to {after = after} at others b e p = record {
+  process = b.tree;
+  closed = b.fits;
+  low = b.low;
+  before = b.cut.before;
+  more = b.cut.more;
+  goes = b.cut.goes;
+  after = after;
+  is = b.cut.is;
+  place = inr (omega (arith, p, ap length e, ap length b.cut.is, length-append b.cut.before after), ap (take 4) e);
+}
+
+pub begun-until : (bs : List ℕ) (e : CodeFault) (len at : ℕ) → len ≡ length bs → (HasPlace e → Goes e (Begun true term [] 400 bs)) → (at_end e len ≡ fault.NotCanonical at) ⊎ (at_end e len ≡ fault.TooDeep at) → IsBegunTo bs at
+begun-until bs (fault.Short k) len at l f (inl q) = absurd (cc)
+begun-until bs (fault.Short k) len at l f (inr q) = absurd (cc)
+begun-until bs (fault.NotCanonical k) len at l f (inl q) = let g = f tt in ⊎_elim
+    (λ p. begun-to at g.begun (omega (arith, not-canonical q, p, l)))
+    (λ u. unnamed-to at u.others g.begun u.is (omega (arith, not-canonical q, not-canonical u.place, l)))
+    g.place
+begun-until bs (fault.NotCanonical k) len at l f (inr q) = absurd (cc)
+begun-until bs (fault.TooDeep k) len at l f (inl q) = absurd (cc)
+begun-until bs (fault.TooDeep k) len at l f (inr q) = let g = f tt in ⊎_elim
+    (λ p. begun-to at g.begun (omega (arith, too-deep q, p, l)))
+    (λ u. absurd (apart u.place))
+    g.place
+  where
+    apart : {j i : ℕ} → fault.TooDeep j ≡ fault.NotCanonical i → ⊥
+    apart e = cc
+begun-until bs fault.NoMemory len at l f (inl q) = absurd (cc)
+begun-until bs fault.NoMemory len at l f (inr q) = absurd (cc)
+
+-- a further byte stands behind a whole code
+pub further : (u : Tree) (bs left : List ℕ) (k at : ℕ) → Reads term [] 400 u bs left → k ≡ length bs - length left → (fault.NotCanonical k ≡ fault.NotCanonical at) ⊎ (fault.NotCanonical k ≡ fault.TooDeep at) → IsBegunTo bs at
+further u bs left k at h p (inl q) = record {
+  process = u;
+  closed = h.fits;
+  low = h.low;
+  before = code u;
+  more = [];
+  goes = append-nil (code u);
+  after = left;
+  is = sym h.is;
+  place = inl (omega (arith, p, not-canonical q, ap length h.is, length-append (code u) left));
+}
+further u bs left k at h p (inr q) = absurd (cc)
+
+pub err-either : {T : Type 0} {x y z : CodeFault} → (◌≡◌ {A = Result T CodeFault} (Err x) (Err y)) ⊎ (◌≡◌ {A = Result T CodeFault} (Err x) (Err z)) → (x ≡ y) ⊎ (x ≡ z)
+err-either (inl q) = inl (err-same q)
+err-either (inr q) = inr (err-same q)
+
+-- what is told is what was found
+pub told-same : {x y z w : CodeFault} → x ≡ y → (x ≡ z) ⊎ (x ≡ w) → (y ≡ z) ⊎ (y ≡ w)
+told-same p (inl q) = inl (sym p ∙ q)
+told-same p (inr q) = inr (sym p ∙ q)

@@ -11,3 +11,6 @@ exit Q (Err y) e h q = subst Q (sym h) q
 pub exit-map : {T : Type 0} (P Q : CodeFault → Type 0) (r : Result T CodeFault) → ((e : CodeFault) → P e → Q e) → IfErr r P → IfErr r Q
 exit-map P Q (Ok x) f h = tt
 exit-map P Q (Err e) f h = f e h
+
+pub exit-on : {T : Type 0} (P Q : CodeFault → Type 0) (r : Result T CodeFault) → IfErr r P → ((e : CodeFault) → P e → Q e) → IfErr r Q
+exit-on P Q r h f = exit-map P Q r f h

@@ -52,25 +52,25 @@ as-part v (node (new os) ts) us h n = h
 as-part v (node match ts) us h n = h
 as-part v (node _ ts) us h n = h
 
-from_either : (c : Bool) (v : Scope) (own : List Sense) (ts : Trees) → (c ≡ true → ⊥) → Hold (cond c (all name_part) (all pat_part)) v own ts → Hold (all pat_part) v own ts
+pub from_either : (c : Bool) (v : Scope) (own : List Sense) (ts : Trees) → (c ≡ true → ⊥) → Hold (cond c (all name_part) (all pat_part)) v own ts → Hold (all pat_part) v own ts
 from_either true v own ts n h = absurd (n refl)
 from_either false v own ts n h = h
 
 -- the bytes of a name variable alone, and of a process variable alone
-name_bytes : List ℕ
+unfoldable pub name_bytes : List ℕ
 name_bytes = 0 ∷ 0 ∷ 0 ∷ 1 ∷ 0x51 ∷ []
 
-process_bytes : List ℕ
+pub process_bytes : List ℕ
 process_bytes = 0 ∷ 0 ∷ 0 ∷ 1 ∷ 0x50 ∷ []
 
-record Change (bs : List ℕ) : Type 0 where
+pub record Change (bs : List ℕ) : Type 0 where
   pub more : List ℕ
   pub is : bs ++ more ≡ process_bytes
 
 in-two : (a b : ℕ) (xs ys : List ℕ) → a ∷ xs ≡ b ∷ ys → (a ≡ b) × (xs ≡ ys)
 in-two a b xs ys e = (cc, cc)
 
-changed : (bs x y : List ℕ) → bs ++ x ≡ name_bytes ++ y → (5 ≤ length bs → ⊥) → Change bs
+pub changed : (bs x y : List ℕ) → bs ++ x ≡ name_bytes ++ y → (5 ≤ length bs → ⊥) → Change bs
 unfolding name_bytes process_bytes
 changed [] x y e n = record { more = process_bytes; is = refl }
 changed (a ∷ []) x y e n =
@@ -93,15 +93,15 @@ changed (a ∷ b ∷ c ∷ d ∷ []) x y e n =
     record { more = 0x50 ∷ []; is = cc (p.0, q.0, r.0, s.0) }
 changed (a ∷ b ∷ c ∷ d ∷ f ∷ bs) x y e n = absurd (n (omega arith))
 
-process_right : (v : Scope) (room : ℕ) → IsRight true pat v room (node pattern (also (leaf some_process) none))
+pub process_right : (v : Scope) (room : ℕ) → IsRight true pat v room (node pattern (also (leaf some_process) none))
 unfolding be32
 process_right v room = record { fits = ((omega arith, omega arith), ((tt, tt), tt)); low = omega arith; short = omega arith; free = λ q. absurd (no_false q) }
 
-process_code : code (node pattern (also (leaf some_process) none)) ≡ process_bytes
+pub process_code : code (node pattern (also (leaf some_process) none)) ≡ process_bytes
 unfolding be32 process_bytes
 process_code = refl
 
-name_code : code (node pattern (also (leaf some_name) none)) ≡ name_bytes
+pub name_code : code (node pattern (also (leaf some_name) none)) ≡ name_bytes
 unfolding be32 name_bytes
 name_code = refl
 

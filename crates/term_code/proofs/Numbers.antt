@@ -1,13 +1,13 @@
 -- Numbers of four and of eight bytes, and variables at an index.
 use Rattle.std.proofs.Common.{◌≡◌, ℕ, zero, suc, ◌-◌, ◌<◌, ◌≤◌, ◌^◌, List, [], ◌∷◌, ◌++◌, take, drop, get_or, length, refl, sym, ap, ◌∙◌, arith}
-use Rattle.std.specs.Int.{w32, w64, from_be_bytes}
-use Rattle.std.proofs.lemmas.Nat.{be_bytes_4, be_bytes_8}
+use Rattle.std.specs.Int.{w32, from_be_bytes}
+use Rattle.std.proofs.lemmas.Nat.{be_bytes_4}
 use Rattle.std.proofs.Math.Seq.{take-length}
 use Rattle.std.proofs.lemmas.List.Elements.{All-from_get_or}
-use Rattle.calculus.specs.Bytes.{be32, be64}
+use Rattle.calculus.specs.Bytes.{be32}
 use Rattle.calculus.specs.Variables.{Sense}
 use Rattle.calculus.specs.Form.{Scope, HasVariable, IsBytes}
-use Rattle.calculus.proofs.BytesLemmas.{to_be_bytes-be32, to_be_bytes-be64}
+use Rattle.calculus.proofs.BytesLemmas.{to_be_bytes-be32}
 
 all_taken : (ys : List ℕ) (k : ℕ) → k ≡ length ys → ys ≡ take k ys
 all_taken ys k e = sym (rw e (take-length ys))
@@ -43,34 +43,6 @@ four [] n l fits p q r s e = absurd (omega arith)
 four (a ∷ []) n l fits p q r s e = absurd (omega arith)
 four (a ∷ b ∷ []) n l fits p q r s e = absurd (omega arith)
 four (a ∷ b ∷ c ∷ []) n l fits p q r s e = absurd (omega arith)
-
--- the first eight of a list
-abbrev eight_of : List ℕ → List ℕ
-eight_of xs = get_or xs 0 0 ∷ get_or xs 1 0 ∷ get_or xs 2 0 ∷ get_or xs 3 0 ∷ get_or xs 4 0 ∷ get_or xs 5 0 ∷ get_or xs 6 0 ∷ get_or xs 7 0 ∷ []
-
--- a list of at least eight begins with these
-eight_first : (xs : List ℕ) → 8 ≤ length xs → xs ≡ eight_of xs ++ take (length xs - 8) (drop 8 xs)
-eight_first (a ∷ b ∷ c ∷ d ∷ e ∷ f ∷ g ∷ h ∷ ys) l =
-    let k : length (a ∷ b ∷ c ∷ d ∷ e ∷ f ∷ g ∷ h ∷ ys) - 8 ≡ length ys = omega arith in
-    ap (λ (zs : List ℕ). a ∷ b ∷ c ∷ d ∷ e ∷ f ∷ g ∷ h ∷ zs) (all_taken ys (length (a ∷ b ∷ c ∷ d ∷ e ∷ f ∷ g ∷ h ∷ ys) - 8) k)
-eight_first [] l = absurd (omega arith)
-eight_first (a ∷ []) l = absurd (omega arith)
-eight_first (a ∷ b ∷ []) l = absurd (omega arith)
-eight_first (a ∷ b ∷ c ∷ []) l = absurd (omega arith)
-eight_first (a ∷ b ∷ c ∷ d ∷ []) l = absurd (omega arith)
-eight_first (a ∷ b ∷ c ∷ d ∷ e ∷ []) l = absurd (omega arith)
-eight_first (a ∷ b ∷ c ∷ d ∷ e ∷ f ∷ []) l = absurd (omega arith)
-eight_first (a ∷ b ∷ c ∷ d ∷ e ∷ f ∷ g ∷ []) l = absurd (omega arith)
-
-pub eight : (xs : List ℕ) (n : ℕ) → 8 ≤ length xs → n < 2 ^ 64
-    → get_or xs 0 0 < 256 → get_or xs 1 0 < 256 → get_or xs 2 0 < 256 → get_or xs 3 0 < 256
-    → get_or xs 4 0 < 256 → get_or xs 5 0 < 256 → get_or xs 6 0 < 256 → get_or xs 7 0 < 256
-    → n ≡ from_be_bytes w64 (eight_of xs)
-    → xs ≡ be64 n ++ take (length xs - 8) (drop 8 xs)
-eight xs n l fits p q r s t u v w e =
-    let small : AreSmall (eight_of xs) = small-more p (small-more q (small-more r (small-more s (small-more t (small-more u (small-more v (small-more w small-none))))))) in
-    let is : be64 n ≡ eight_of xs = sym (to_be_bytes-be64 n fits) ∙ be_bytes_8 (eight_of xs) n refl small.at e in
-    eight_first xs l ∙ ap (λ (zs : List ℕ). zs ++ take (length xs - 8) (drop 8 xs)) (sym is)
 
 -- a variable of a scope, by what stands at its index
 pub has_variable : (ws : Scope) (i : ℕ) (v d : Sense) → i < length ws → get_or ws i d ≡ v → HasVariable ws i v

@@ -24,7 +24,7 @@ use Rattle.term_code.proofs.Tags.{first}
 abbrev pub wide_code : List ℕ → ℕ
 wide_code c = cond (is_wide_tag (first c)) 1 0
 
-abbrev wide_codes : List (List ℕ) → ℕ
+abbrev pub wide_codes : List (List ℕ) → ℕ
 wide_codes [] = 0
 wide_codes (c ∷ cs) = wide_code c + wide_codes cs
 
@@ -52,7 +52,7 @@ code-wide v (node (new x) ts) h = refl
 code-wide v (node match ts) h = refl
 code-wide v (node _ ts) h = absurd h.1
 
-wides-codes : (v : Scope) (ts : Trees) → Hold (all pat_part) v [] ts → wides (listed ts) ≡ wide_codes (codes ts)
+pub wides-codes : (v : Scope) (ts : Trees) → Hold (all pat_part) v [] ts → wides (listed ts) ≡ wide_codes (codes ts)
 wides-codes v none h = refl
 wides-codes v (also t ts) h =
     sum_by-cons (λ (x : Tree). cond (is_wide (label_of x)) 1 0) t (listed ts)
@@ -62,18 +62,18 @@ wides-codes v (also t ts) h =
 wide-le : (c : List ℕ) → wide_code c ≤ 1
 wide-le c = elim (is_wide_tag (first c)) as (λ (b : Bool). cond b 1 0 ≤ 1) [ true ↦ omega arith | false ↦ omega arith ]
 
-wides-le : (cs : List (List ℕ)) → wide_codes cs ≤ length cs
+pub wides-le : (cs : List (List ℕ)) → wide_codes cs ≤ length cs
 wides-le [] = omega arith
 wides-le (c ∷ cs) = omega (arith, wide-le c, wides-le cs)
 
-wides-append : (cs ds : List (List ℕ)) → wide_codes (cs ++ ds) ≡ wide_codes cs + wide_codes ds
+pub wides-append : (cs ds : List (List ℕ)) → wide_codes (cs ++ ds) ≡ wide_codes cs + wide_codes ds
 wides-append [] ds = omega arith
 wides-append (c ∷ cs) ds = omega (arith, wides-append cs ds)
 
 pub narrow-are : {b : Bool} {v : Scope} {room : ℕ} (ts : Trees) → IsRight b pat v room (node pattern ts) → AreRight b pat_part v room ts
 narrow-are ts g = record { fits = g.fits.1; low = omega (arith, g.low); short = kids-short pattern ts g.short; free = g.free }
 
-wides-read : {A : Type 0} {f : A → Tree} {v : Scope} {room : ℕ} {xs : List A} {start now : List ℕ} → Row f pat_part v room xs start now → wides (map f xs) ≡ wide_codes (map (λ y. code (f y)) xs)
+pub wides-read : {A : Type 0} {f : A → Tree} {v : Scope} {room : ℕ} {xs : List A} {start now : List ℕ} → Row f pat_part v room xs start now → wides (map f xs) ≡ wide_codes (map (λ y. code (f y)) xs)
 wides-read {f = f} {v = v} {xs = xs} h = ap wides (sym (listed-trees (map f xs))) ∙ wides-codes v (trees (map f xs)) h.fits ∙ ap wide_codes (map-codes f xs)
 
 module _ {b : Bool} {v : Scope} {room : ℕ} {e : CodeFault} (bs : List ℕ) where

@@ -128,7 +128,7 @@ form-utf8 kind.Word bs h = IsUtf8-from_ascii bs (go-ascii bs (words-go bs h.0))
 
 -- origins
 
-origin-le : (x : Origin) → origin_number x ≤ 2
+pub origin-le : (x : Origin) → origin_number x ≤ 2
 origin-le origins.Plain = omega arith
 origin-le origins.Stdout = omega arith
 origin-le origins.StdoutAck = omega arith

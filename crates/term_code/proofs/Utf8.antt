@@ -1,13 +1,13 @@
 -- UTF-8 that is cut within a character.
-use Rattle.std.proofs.Common.{◌≡◌, ◌⊎◌, ℕ, zero, suc, ◌+◌, ◌-◌, ◌*◌, ◌/◌, ◌%◌, ◌<◌, ◌≤◌, true, false, cond, List, [], ◌∷◌, ◌++◌, take, drop, length, slice_index, IsUtf8, refl, sym, ap, subst, le-ltb, lt-ltb, ◌∙◌, arith, inl, inr, ⊎_elim, append_assoc, append-nil, length-append, length-drop, length-take, take-append-drop}
+use Rattle.std.proofs.Common.{◌≡◌, ◌⊎◌, ℕ, ◌+◌, ◌-◌, ◌*◌, ◌/◌, ◌%◌, ◌<◌, ◌≤◌, true, false, List, [], ◌∷◌, ◌++◌, take, drop, length, IsUtf8, refl, sym, ap, subst, le-ltb, lt-ltb, ◌∙◌, arith, inl, inr, ⊎_elim, append_assoc, length-append, length-drop, take-append-drop}
 use Rattle.std.proofs.lemmas.List.{take-append-le, drop-append-le, length-take-le, take_at}
-use Rattle.std.specs.Prelude.{Option, None, Some}
+use Rattle.std.specs.Prelude.{None}
 use Rattle.std.specs.Char.{IsScalar, encode_utf8}
 use Rattle.std.specs.Str.{encode_utf8_all, IsValidUpTo}
 use Rattle.std.specs.Str.Lossy.{second_byte_min, second_byte_max, utf8_error_len}
 use Rattle.std.proofs.lemmas.Bool.{cases_lt, cond-true, cond-false, and_parts}
 use Rattle.std.proofs.lemmas.Bool.Decides.{nat_tests}
-use Rattle.std.proofs.lemmas.Str.{IsUtf8-nil, IsUtf8-append, IsUtf8-encode, IsUtf8-drop, IsCharBoundary-from_take, length-encode, len_utf8_bounds}
+use Rattle.std.proofs.lemmas.Str.{IsUtf8-append, IsUtf8-encode, IsUtf8-drop, IsCharBoundary-from_take, length-encode, len_utf8_bounds}
 use lib.Dec.{ltb}
 use lib.Utf8.{scalar, scalars, scalar_cases, low_scalar}
 use Rattle.term_code.specs.Texts.{character_len, IsClear}
@@ -30,7 +30,7 @@ abbrev by : (A : Type 0) → A → A
 by A a = a
 
 -- the bytes of a character, by their number
-shape : (c : ℕ) → (P : List ℕ → Type 0)
+pub shape : (c : ℕ) → (P : List ℕ → Type 0)
     → (c < 128 → P (c ∷ []))
     → (128 ≤ c → c < 2048 → P ((192 + c / 64) ∷ (128 + c % 64) ∷ []))
     → (2048 ≤ c → c < 65536 → P ((224 + c / 4096) ∷ (128 + (c / 64) % 64) ∷ (128 + c % 64) ∷ []))

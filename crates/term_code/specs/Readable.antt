@@ -1,5 +1,5 @@
 -- What a decoder has to read.
-use Rattle.std.specs.Prelude.{◌≡◌, ◌≤◌, ◌<◌, ℕ, List, ◌++◌, length}
+use Rattle.std.specs.Prelude.{◌≡◌, ◌≤◌, ◌<◌, ◌-◌, ℕ, List, ◌++◌, length, ◌+◌, ◌⊎◌, [], ◌∷◌, take}
 use Rattle.calculus.specs.Tree.{Tree}
 use Rattle.calculus.specs.Size.{height}
 use Rattle.calculus.specs.Code.{code}
@@ -22,7 +22,31 @@ pub record IsCutCode (bs : List ℕ) : Type 0 where
   pub is : bs ++ more ≡ code process
   pub proper : 0 < length more
 
--- the fault of so many bytes: where they end early, it tells of their length
+-- a proper prefix of the code of a closed process of height at most 400, however long that code is
+pub record IsBegun (bs : List ℕ) : Type 0 where
+  pub process : Tree
+  pub closed : IsClosed process
+  pub low : height process ≤ 400
+  pub more : List ℕ
+  pub is : bs ++ more ≡ code process
+  pub proper : 0 < length more
+
+-- up to this place bytes are a prefix of the code of a closed process of height at most 400; or they are but for the last
+-- four, zeros, as the length of a method's name of no bytes, which is blamed behind it
+pub record IsBegunTo (bs : List ℕ) (at : ℕ) : Type 0 where
+  pub process : Tree
+  pub closed : IsClosed process
+  pub low : height process ≤ 400
+  pub before : List ℕ
+  pub more : List ℕ
+  pub goes : before ++ more ≡ code process
+  pub after : List ℕ
+  pub is : before ++ after ≡ bs
+  pub place : (at ≡ length before) ⊎ ((at ≡ length before + 4) × (take 4 after ≡ 0 ∷ 0 ∷ 0 ∷ 0 ∷ []))
+
+-- the fault of so many bytes: where they end early, it tells of their length, and a place is told from their beginning
 abbrev pub at_end : CodeFault → ℕ → CodeFault
 at_end (fault.Short at) len = fault.Short len
-at_end e len = e
+at_end (fault.NotCanonical at) len = fault.NotCanonical (len - at)
+at_end (fault.TooDeep at) len = fault.TooDeep (len - at)
+at_end fault.NoMemory len = fault.NoMemory

@@ -1,5 +1,5 @@
 // Reading of codes: one method for each sort of constituent.
-ghost use Rattle.std.specs.Prelude.{◌≡◌, ◌∷◌, ◌++◌, ◌≤◌, ◌+◌, ◌⊎◌, length, map, IfOk, IfErr, replicate, true, ℕ};
+ghost use Rattle.std.specs.Prelude.{◌≡◌, ◌∷◌, ◌++◌, ◌≤◌, ◌<◌, ◌+◌, ◌^◌, ◌⊎◌, length, map, IfOk, IfErr, replicate, true, ℕ, ◌-◌, drop};
 ghost use Rattle.std.specs.Result.{IsErrAnd};
 ghost use Rattle.calculus.specs.Code.{code};
 ghost use Rattle.calculus.specs.Form.{IsClosed, term, part, a_bind, a_case, pat, row_of, pair_of};
@@ -11,10 +11,12 @@ ghost use Rattle.rho_term.specs.Normal.{IsOrdered};
 ghost use Rattle.rho_term.specs.Parts.{part_tree, pair_tree, bind_tree, case_tree};
 ghost use Rattle.term_code.specs.Scopes.{scope_of, senses_of};
 ghost use Rattle.term_code.specs.Reading.{Reads, ReadsBag};
+ghost use Rattle.term_code.specs.Beginning.{HasPlace, Goes, Begun, BegunRow, BegunBag};
 ghost use Rattle.term_code.specs.Refusing.{Refuses, RefusesRow, RefusesBag, is_form_tag};
 ghost use Rattle.term_code.specs.declared.reader.Sense.TheVariants.{Name};
-ghost use Rattle.term_code.specs.declared.fault.CodeFault.TheVariants.{Short, NoMemory};
-ghost use Rattle.term_code.specs.Readable.{IsReadable, IsCutCode, at_end};
+ghost use Rattle.term_code.specs.declared.fault.CodeFault.TheVariants.{Short, NotCanonical, TooDeep, NoMemory};
+ghost use Rattle.term_code.specs.Readable.{IsReadable, IsCutCode, at_end, IsBegun, IsBegunTo};
+ghost use Rattle.term_code.specs.Blaming.{Wrong, InTree, InRow, InBag, over, IsWrongAt, BeginsForm};
 
 use crate::fault::CodeFault;
 use crate::reader::{Reader, Sense, check_order, is_form};
@@ -25,14 +27,25 @@ use std::alloc::{AllocError, Global};
 /// The closed process, of height at most 400, whose code is exactly these bytes.
 ///
 /// Each code of fewer than 2^32 bytes is read, and each proper prefix of one is `Short`, with its length.
-/// `NotCanonical` and `TooDeep` tell of other bytes, with the first place where no code goes on so, or
-/// where a part that is no leaf stands under 400 forms. Want of memory alone is free.
+/// `Short` tells of nothing else than proper prefixes of codes of such processes, of any length.
+/// `NotCanonical` and `TooDeep` tell of other bytes, with the place of what is wrong. Up to that place the
+/// bytes are a prefix of the code of such a process; but a method's name of no bytes is blamed behind its
+/// length, four zeros, as other names are, though no code has that length. Below 2^32 it is wrong there:
+/// where the code of such a process, at `NotCanonical` of one of any height, agrees with the bytes before
+/// the place, a tag, a flag, a number or a text begins there that the bytes are not, however they go on, or
+/// a part, a set's member or a map's pair, and the bytes fall below the one before it, or that code ends
+/// there. Of what falls below, the outermost is blamed. At the place of `TooDeep` stands the tag of a part
+/// that is no leaf. Want of memory alone is free.
 pub fn decode_term(alloc: Global, bytes: &[u8]) -> Result<Term, CodeFault>
     ensures code { IfOk result (λ t. code t ≡ bytes.now) }
     ensures closed { IfOk result (λ t. IsClosed t) }
     ensures height { IfOk result (λ t. height t ≤ 400) }
     ensures short { (at : ℕ) → result ≡ Err (Short at) → at ≡ length bytes.now }
     ensures all { (t : Tree) → IsReadable t → code t ≡ bytes.now → IfErr result (λ e. e ≡ NoMemory) }
+    ensures wrong { (at high : ℕ) → at < 2 ^ 32 → result ≡ Err (NotCanonical at) → IsWrongAt high at bytes.now }
+    ensures deep { (at : ℕ) → at < 2 ^ 32 → result ≡ Err (TooDeep at) → IsWrongAt 400 at bytes.now × BeginsForm (drop at bytes.now) }
+    ensures begun { (at : ℕ) → result ≡ Err (Short at) → IsBegun bytes.now }
+    ensures goes { (at : ℕ) → (result ≡ Err (NotCanonical at)) ⊎ (result ≡ Err (TooDeep at)) → IsBegunTo bytes.now at }
     ensures cut { IsCutCode bytes.now → IsErrAnd result (λ e. (e ≡ Short (length bytes.now)) ⊎ (e ≡ NoMemory)) }
 {
     let mut reader = Reader {
@@ -46,18 +59,26 @@ pub fn decode_term(alloc: Global, bytes: &[u8]) -> Result<Term, CodeFault>
         Err(fault) => return Err(at_end(fault, bytes.len())),
     };
     if !reader.input.is_empty() {
-        return Err(CodeFault::NotCanonical { at: reader.place() });
+        let at = bytes.len().saturating_sub(reader.place());
+        return Err(CodeFault::NotCanonical { at });
     }
     Ok(term)
 }
 
-// A fault in so many bytes: where they end early, that is told of their length.
+// A fault in so many bytes: where they end early, that is told of their length, and a place is told from
+// their beginning.
 fn at_end(fault: CodeFault, len: usize) -> CodeFault
     ensures { result ≡ at_end fault len }
 {
     match fault {
         CodeFault::Short { .. } => CodeFault::Short { at: len },
-        other => other,
+        CodeFault::NotCanonical { at } => CodeFault::NotCanonical {
+            at: len.saturating_sub(at),
+        },
+        CodeFault::TooDeep { at } => CodeFault::TooDeep {
+            at: len.saturating_sub(at),
+        },
+        CodeFault::NoMemory => CodeFault::NoMemory,
     }
 }
 
@@ -65,62 +86,63 @@ impl<'a> Reader<'a> {
     #[cycle(read)]
     pub(crate) fn term(&mut self, scope: &Vec<Sense>, room: u32) -> Result<Term, CodeFault>
         ensures reads { IfOk result (λ t. Reads term (scope_of scope.now.items) room t self.old.input.now self.new.input.now) }
+        ensures wrong { (more : ℕ) → IfErr result (λ e. Wrong (InTree true term (scope_of scope.now.items) (room + over e more)) e self.old.input.now) }
         ensures refuses { IfErr result (λ e. Refuses true term (scope_of scope.now.items) room e self.old.input.now) }
+        ensures begun { IfErr result (λ e. HasPlace e → Goes e (Begun true term (scope_of scope.now.items) room self.old.input.now)) }
     {
         let count = self.number(0, u32::MAX)?;
         let mut parts = Vec::new(self.alloc);
         let mut last: &'a [u8] = &[];
         for _i in 0..count {
             let start = self.input;
-            let at = self.place();
             let tag = self.byte()?;
             if room == 0 && is_form(tag) {
-                return Err(CodeFault::TooDeep { at });
+                return Err(CodeFault::TooDeep { at: start.len() });
             }
-            check_order(last, start, at)?;
-            let part = self.part(tag, at, scope, room)?;
-            last = self.read_since(start, last, at)?;
+            check_order(last, start)?;
+            let part = self.part(tag, scope, room)?;
+            last = self.read_since(start, last)?;
             parts.push(part)?;
         }
         Ok(Term::from_sorted(parts))
     }
 
-    // The part that goes on so after its tag, which stands at this place.
+    // The part that goes on so after its tag.
     #[cycle(read)]
-    pub(crate) fn part(
-        &mut self,
-        tag: u8,
-        at: usize,
-        scope: &Vec<Sense>,
-        room: u32,
-    ) -> Result<Part, CodeFault>
+    pub(crate) fn part(&mut self, tag: u8, scope: &Vec<Sense>, room: u32) -> Result<Part, CodeFault>
         ensures reads { IfOk result (λ p. Reads part (scope_of scope.now.items) room (part_tree p) (tag ∷ self.old.input.now) self.new.input.now) }
         ensures ordered { IfOk result (λ p. IsOrdered (part_tree p)) }
+        ensures wrong { (more : ℕ) → IfErr result (λ e. Wrong (InTree true part (scope_of scope.now.items) (room + over e more)) e (tag ∷ self.old.input.now)) }
         ensures refuses { IfErr result (λ e. Refuses true part (scope_of scope.now.items) room e (tag ∷ self.old.input.now)) }
+        ensures begun { IfErr result (λ e. HasPlace e → Goes e (Begun true part (scope_of scope.now.items) room (tag ∷ self.old.input.now))) }
     {
         match tag {
             0x15 => Ok(Part::Fresh(self.digest()?)),
-            0x16 => Ok(Part::Var(self.variable(at, scope, Sense::Process)?)),
-            0x17 => Ok(Part::NameVar(self.variable(at, scope, Sense::Name)?)),
+            0x16 => Ok(Part::Var(self.variable(scope, Sense::Process)?)),
+            0x17 => Ok(Part::NameVar(self.variable(scope, Sense::Name)?)),
             _ => {
                 if is_form(tag) {
                     if room == 0 {
-                        return Err(CodeFault::TooDeep { at });
+                        return Err(CodeFault::TooDeep {
+                            at: self.last_place(),
+                        });
                     }
-                    self.form(tag, at, scope, room - 1)
+                    self.form(tag, scope, room - 1)
                 } else {
-                    Ok(Part::Ground(self.ground(tag, at)?))
+                    Ok(Part::Ground(self.ground(tag)?))
                 }
             }
         }
     }
 
     #[cycle(read)]
-    fn form(&mut self, tag: u8, at: usize, scope: &Vec<Sense>, room: u32) -> Result<Part, CodeFault>
+    fn form(&mut self, tag: u8, scope: &Vec<Sense>, room: u32) -> Result<Part, CodeFault>
         requires { is_form_tag tag ≡ true }
         ensures reads { IfOk result (λ p. Reads part (scope_of scope.now.items) (room + 1) (part_tree p) (tag ∷ self.old.input.now) self.new.input.now) }
         ensures ordered { IfOk result (λ p. IsOrdered (part_tree p)) }
+        ensures wrong { (more : ℕ) → IfErr result (λ e. Wrong (InTree true part (scope_of scope.now.items) ((room + 1) + over e more)) e (tag ∷ self.old.input.now)) }
         ensures refuses { IfErr result (λ e. Refuses true part (scope_of scope.now.items) (room + 1) e (tag ∷ self.old.input.now)) }
+        ensures begun { IfErr result (λ e. HasPlace e → Goes e (Begun true part (scope_of scope.now.items) (room + 1) (tag ∷ self.old.input.now))) }
     {
         match tag {
             0x20 => Ok(Part::List(self.terms(0, scope, room)?)),
@@ -177,7 +199,9 @@ impl<'a> Reader<'a> {
                 let args = self.terms(0, scope, room)?;
                 Ok(Part::Method { name, target, args })
             }
-            _ => Err(CodeFault::NotCanonical { at }),
+            _ => Err(CodeFault::NotCanonical {
+                at: self.last_place(),
+            }),
         }
     }
 }
@@ -188,7 +212,9 @@ impl<'a> Reader<'a> {
     fn terms(&mut self, least: u32, scope: &Vec<Sense>, room: u32) -> Result<Vec<Term>, CodeFault>
         ensures reads { IfOk result (λ ts. Reads (row_of term) (scope_of scope.now.items) room (many row ts.items) self.old.input.now self.new.input.now) }
         ensures least { IfOk result (λ ts. least ≤ length ts.items) }
+        ensures wrong { (more : ℕ) → IfErr result (λ e. Wrong (InRow true term (scope_of scope.now.items) (room + over e more) least 0xFFFFFFFF) e self.old.input.now) }
         ensures refuses { IfErr result (λ e. RefusesRow true term (scope_of scope.now.items) room least 0xFFFFFFFF e self.old.input.now) }
+        ensures begun { IfErr result (λ e. HasPlace e → Goes e (BegunRow true term (scope_of scope.now.items) room least 0xFFFFFFFF self.old.input.now)) }
     {
         let count = self.number(least, u32::MAX)?;
         let mut terms = Vec::new(self.alloc);
@@ -203,17 +229,18 @@ impl<'a> Reader<'a> {
     #[cycle(read)]
     fn members(&mut self, scope: &Vec<Sense>, room: u32) -> Result<Vec<Term>, CodeFault>
         ensures reads { IfOk result (λ ts. ReadsBag term (scope_of scope.now.items) room ts.items self.old.input.now self.new.input.now) }
+        ensures wrong { (more : ℕ) → IfErr result (λ e. Wrong (InBag term (scope_of scope.now.items) (room + over e more)) e self.old.input.now) }
         ensures refuses { IfErr result (λ e. RefusesBag term (scope_of scope.now.items) room e self.old.input.now) }
+        ensures begun { IfErr result (λ e. HasPlace e → Goes e (BegunBag term (scope_of scope.now.items) room self.old.input.now)) }
     {
         let count = self.number(0, u32::MAX)?;
         let mut terms = Vec::new(self.alloc);
         let mut last: &'a [u8] = &[];
         for _i in 0..count {
             let start = self.input;
-            let at = self.place();
-            check_order(last, start, at)?;
+            check_order(last, start)?;
             let term = self.term(scope, room)?;
-            last = self.read_since(start, last, at)?;
+            last = self.read_since(start, last)?;
             terms.push(term)?;
         }
         Ok(terms)
@@ -223,18 +250,19 @@ impl<'a> Reader<'a> {
     #[cycle(read)]
     fn pairs(&mut self, scope: &Vec<Sense>, room: u32) -> Result<Vec<(Term, Term)>, CodeFault>
         ensures reads { IfOk result (λ ps. ReadsBag (pair_of term) (scope_of scope.now.items) room (map pair_tree ps.items) self.old.input.now self.new.input.now) }
+        ensures wrong { (more : ℕ) → IfErr result (λ e. Wrong (InBag (pair_of term) (scope_of scope.now.items) (room + over e more)) e self.old.input.now) }
         ensures refuses { IfErr result (λ e. RefusesBag (pair_of term) (scope_of scope.now.items) room e self.old.input.now) }
+        ensures begun { IfErr result (λ e. HasPlace e → Goes e (BegunBag (pair_of term) (scope_of scope.now.items) room self.old.input.now)) }
     {
         let count = self.number(0, u32::MAX)?;
         let mut pairs = Vec::new(self.alloc);
         let mut last: &'a [u8] = &[];
         for _i in 0..count {
             let start = self.input;
-            let at = self.place();
-            check_order(last, start, at)?;
+            check_order(last, start)?;
             let key = self.term(scope, room)?;
             let value = self.term(scope, room)?;
-            last = self.read_since(start, last, at)?;
+            last = self.read_since(start, last)?;
             pairs.push((key, value))?;
         }
         Ok(pairs)
@@ -252,7 +280,9 @@ impl<'a> Reader<'a> {
         ensures bound { IfOk result (λ bs. senses_of found.new.items ≡ senses_of found.old.items ++ bound (many row (map bind_tree bs.items))) }
         ensures some { IfOk result (λ bs. 1 ≤ length bs.items) }
         ensures few { IfOk result (λ bs. length bs.items ≤ 16) }
+        ensures wrong { (more : ℕ) → IfErr result (λ e. Wrong (InRow true a_bind (scope_of scope.now.items) (room + over e more) 1 16) e self.old.input.now) }
         ensures refuses { IfErr result (λ e. RefusesRow true a_bind (scope_of scope.now.items) room 1 16 e self.old.input.now) }
+        ensures begun { IfErr result (λ e. HasPlace e → Goes e (BegunRow true a_bind (scope_of scope.now.items) room 1 16 self.old.input.now)) }
     {
         let count = self.number(1, 16)?;
         let mut binds = Vec::new(self.alloc);
@@ -274,7 +304,9 @@ impl<'a> Reader<'a> {
     fn cases(&mut self, scope: &Vec<Sense>, room: u32) -> Result<Vec<TermCase>, CodeFault>
         ensures reads { IfOk result (λ cs. Reads (row_of a_case) (scope_of scope.now.items) room (many row (map case_tree cs.items)) self.old.input.now self.new.input.now) }
         ensures some { IfOk result (λ cs. 1 ≤ length cs.items) }
+        ensures wrong { (more : ℕ) → IfErr result (λ e. Wrong (InRow true a_case (scope_of scope.now.items) (room + over e more) 1 0xFFFFFFFF) e self.old.input.now) }
         ensures refuses { IfErr result (λ e. RefusesRow true a_case (scope_of scope.now.items) room 1 0xFFFFFFFF e self.old.input.now) }
+        ensures begun { IfErr result (λ e. HasPlace e → Goes e (BegunRow true a_case (scope_of scope.now.items) room 1 0xFFFFFFFF self.old.input.now)) }
     {
         let count = self.number(1, u32::MAX)?;
         let mut cases = Vec::new(self.alloc);

@@ -1,5 +1,5 @@
 // Fields of codes of one kind each.
-ghost use Rattle.std.specs.Prelude.{◌≡◌, ◌++◌, ◌∷◌, ◌+ℤ◌, pos, nat_abs, ◌^◌, ℕ, List, IfOk, IfErr, IsTrue, ◌≤◌, ◌<◌, length, string_bytes, map};
+ghost use Rattle.std.specs.Prelude.{◌≡◌, ◌++◌, ◌∷◌, ◌+ℤ◌, pos, nat_abs, ◌^◌, ℕ, List, IfOk, IfErr, IsTrue, ◌≤◌, ◌<◌, ◌⊎◌, length, string_bytes, map, ◌-◌, [], false};
 ghost use Rattle.calculus.specs.Bytes.{be32, be64};
 ghost use Rattle.calculus.specs.Code.{byte_of, code, text};
 ghost use Rattle.calculus.specs.Meaning.{ground_label};
@@ -10,8 +10,11 @@ ghost use Rattle.rho_term.specs.Parts.{ground_tree};
 ghost use Rattle.calculus.specs.Kinds.{rest_number, kind_number, rights_number, unary_op_number, binary_op_number, simple_number, origin_number};
 ghost use Rattle.calculus.specs.Form.{HasVariable, IsDigest, IsBytes, IsPlain, Sort, Scope};
 ghost use Rattle.term_code.specs.Scopes.{scope_of, sense_of, senses_of};
-ghost use Rattle.term_code.specs.Texts.{HasForm};
+ghost use Rattle.term_code.specs.Texts.{HasForm, BeginsText};
+ghost use Rattle.term_code.specs.Beginning.{HasPlace, IsAt, Goes, BegunDigest, BegunOrigins, BegunGround, BegunBytes, BegunText, BegunIndex, BegunVariable, IsInScope};
+ghost use Rattle.term_code.specs.declared.fault.CodeFault.TheVariants.{Short, NotCanonical};
 ghost use Rattle.term_code.specs.Refusing.{Denies, RefusesByte, RefusesGround, RefusesOrigins, RefusesRest};
+ghost use Rattle.term_code.specs.Blaming.{TellsNone, Wrong, WrongVariable, InByte, InGround, InBytes, InText, InOrigins, InRest};
 
 use crate::fault::CodeFault;
 use crate::reader::{Reader, Sense, number_bounds};
@@ -22,7 +25,9 @@ use std::str;
 impl<'a> Reader<'a> {
     pub(crate) fn boolean(&mut self) -> Result<bool, CodeFault>
         ensures is { IfOk result (λ x. self.old.input.now ≡ byte_of x ∷ self.new.input.now) }
+        ensures wrong { IfErr result (λ e. Wrong (InByte 1) e self.old.input.now) }
         ensures refuses { IfErr result (λ e. RefusesByte 1 e self.old.input.now) }
+        ensures place { IfErr result (λ e. IsAt e self.old.input.now) }
     {
         let byte = self.flag(1)?;
         Ok(byte == 1)
@@ -30,7 +35,9 @@ impl<'a> Reader<'a> {
 
     pub(crate) fn kind(&mut self) -> Result<Kind, CodeFault>
         ensures is { IfOk result (λ x. self.old.input.now ≡ kind_number x ∷ self.new.input.now) }
+        ensures wrong { IfErr result (λ e. Wrong (InByte 2) e self.old.input.now) }
         ensures refuses { IfErr result (λ e. RefusesByte 2 e self.old.input.now) }
+        ensures place { IfErr result (λ e. IsAt e self.old.input.now) }
     {
         match self.flag(2)? {
             0 => Ok(Kind::Linear),
@@ -41,7 +48,9 @@ impl<'a> Reader<'a> {
 
     pub(crate) fn rights(&mut self) -> Result<Rights, CodeFault>
         ensures is { IfOk result (λ x. self.old.input.now ≡ rights_number x ∷ self.new.input.now) }
+        ensures wrong { IfErr result (λ e. Wrong (InByte 3) e self.old.input.now) }
         ensures refuses { IfErr result (λ e. RefusesByte 3 e self.old.input.now) }
+        ensures place { IfErr result (λ e. IsAt e self.old.input.now) }
     {
         match self.flag(3)? {
             0 => Ok(Rights::Neither),
@@ -53,7 +62,9 @@ impl<'a> Reader<'a> {
 
     pub(crate) fn unary_op(&mut self) -> Result<UnaryOp, CodeFault>
         ensures is { IfOk result (λ x. self.old.input.now ≡ unary_op_number x ∷ self.new.input.now) }
+        ensures wrong { IfErr result (λ e. Wrong (InByte 1) e self.old.input.now) }
         ensures refuses { IfErr result (λ e. RefusesByte 1 e self.old.input.now) }
+        ensures place { IfErr result (λ e. IsAt e self.old.input.now) }
     {
         match self.flag(1)? {
             0 => Ok(UnaryOp::Not),
@@ -63,7 +74,9 @@ impl<'a> Reader<'a> {
 
     pub(crate) fn binary_op(&mut self) -> Result<BinaryOp, CodeFault>
         ensures is { IfOk result (λ x. self.old.input.now ≡ binary_op_number x ∷ self.new.input.now) }
+        ensures wrong { IfErr result (λ e. Wrong (InByte 14) e self.old.input.now) }
         ensures refuses { IfErr result (λ e. RefusesByte 14 e self.old.input.now) }
+        ensures place { IfErr result (λ e. IsAt e self.old.input.now) }
     {
         match self.flag(14)? {
             0 => Ok(BinaryOp::Or),
@@ -86,7 +99,9 @@ impl<'a> Reader<'a> {
 
     pub(crate) fn simple(&mut self) -> Result<Simple, CodeFault>
         ensures is { IfOk result (λ x. self.old.input.now ≡ simple_number x ∷ self.new.input.now) }
+        ensures wrong { IfErr result (λ e. Wrong (InByte 4) e self.old.input.now) }
         ensures refuses { IfErr result (λ e. RefusesByte 4 e self.old.input.now) }
+        ensures place { IfErr result (λ e. IsAt e self.old.input.now) }
     {
         match self.flag(4)? {
             0 => Ok(Simple::Bool),
@@ -100,7 +115,10 @@ impl<'a> Reader<'a> {
     // A remainder, which is a variable only where one may be bound.
     pub(crate) fn remainder(&mut self, binds: bool) -> Result<TermRest, CodeFault>
         ensures is { IfOk result (λ x. self.old.input.now ≡ rest_number x ∷ self.new.input.now) }
+        ensures wrong { IfErr result (λ e. Wrong (InRest binds) e self.old.input.now) }
         ensures refuses { IfErr result (λ e. RefusesRest binds e self.old.input.now) }
+        ensures place { IfErr result (λ e. IsAt e self.old.input.now) }
+        ensures free { binds ≡ false → IfOk result (λ x. bound (leaf (rest x)) ≡ []) }
     {
         let at = self.place();
         match self.flag(2)? {
@@ -124,7 +142,10 @@ impl<'a> Reader<'a> {
     ) -> Result<TermRest, CodeFault>
         ensures is { IfOk result (λ x. self.old.input.now ≡ rest_number x ∷ self.new.input.now) }
         ensures bound { IfOk result (λ x. senses_of found.new.items ≡ senses_of found.old.items ++ bound (leaf (rest x))) }
+        ensures wrong { IfErr result (λ e. Wrong (InRest binds) e self.old.input.now) }
         ensures refuses { IfErr result (λ e. RefusesRest binds e self.old.input.now) }
+        ensures place { IfErr result (λ e. IsAt e self.old.input.now) }
+        ensures free { binds ≡ false → IfOk result (λ x. bound (leaf (rest x)) ≡ []) }
     {
         let rest = self.remainder(binds)?;
         match rest {
@@ -139,7 +160,9 @@ impl<'a> Reader<'a> {
 
     fn origin(&mut self) -> Result<Origin, CodeFault>
         ensures is { IfOk result (λ x. self.old.input.now ≡ origin_number x ∷ self.new.input.now) }
+        ensures wrong { IfErr result (λ e. Wrong (InByte 2) e self.old.input.now) }
         ensures refuses { IfErr result (λ e. RefusesByte 2 e self.old.input.now) }
+        ensures place { IfErr result (λ e. IsAt e self.old.input.now) }
     {
         match self.flag(2)? {
             0 => Ok(Origin::Plain),
@@ -154,7 +177,9 @@ impl<'a> Reader<'a> {
     pub(crate) fn origins(&mut self) -> Result<Vec<Origin>, CodeFault>
         ensures is { IfOk result (λ v. self.old.input.now ≡ be32 (length v.items) ++ map origin_number v.items ++ self.new.input.now) }
         ensures some { IfOk result (λ v. 1 ≤ length v.items) }
+        ensures wrong { IfErr result (λ e. Wrong InOrigins e self.old.input.now) }
         ensures refuses { IfErr result (λ e. RefusesOrigins e self.old.input.now) }
+        ensures begun { IfErr result (λ e. HasPlace e → Goes e (BegunOrigins self.old.input.now)) }
     {
         let count = self.number(1, u32::MAX)?;
         let mut origins = Vec::new(self.alloc);
@@ -165,10 +190,12 @@ impl<'a> Reader<'a> {
     }
 
     // The ground value that goes on so after its tag.
-    pub(crate) fn ground(&mut self, tag: u8, at: usize) -> Result<Ground, CodeFault>
+    pub(crate) fn ground(&mut self, tag: u8) -> Result<Ground, CodeFault>
         ensures is { IfOk result (λ g. tag ∷ self.old.input.now ≡ code (ground_tree g) ++ self.new.input.now) }
         ensures plain { IfOk result (λ g. (s : Sort) (v : Scope) → IsPlain s v (ground_label g) none) }
+        ensures wrong { IfErr result (λ e. Wrong InGround e (tag ∷ self.old.input.now)) }
         ensures refuses { IfErr result (λ e. RefusesGround e (tag ∷ self.old.input.now)) }
+        ensures begun { IfErr result (λ e. HasPlace e → Goes e (BegunGround (tag ∷ self.old.input.now))) }
     {
         match tag {
             0x10 => Ok(Ground::Bool(self.boolean()?)),
@@ -176,14 +203,18 @@ impl<'a> Reader<'a> {
             0x12 => Ok(Ground::Str(self.text(TextKind::Str)?)),
             0x13 => Ok(Ground::Uri(self.text(TextKind::Uri)?)),
             0x14 => Ok(Ground::Bytes(self.bytes()?)),
-            _ => Err(CodeFault::NotCanonical { at }),
+            _ => Err(CodeFault::NotCanonical {
+                at: self.last_place(),
+            }),
         }
     }
 
     pub(crate) fn digest(&mut self) -> Result<Digest, CodeFault>
         ensures is { IfOk result (λ d. self.old.input.now ≡ d.0 ++ self.new.input.now) }
         ensures digest { IfOk result (λ d. IsDigest d.0) }
+        ensures tells { IfErr result (λ e. TellsNone e) }
         ensures refuses { IfErr result (λ e. (x : List ℕ) → length x ≡ 32 → Denies e self.old.input.now x) }
+        ensures begun { IfErr result (λ e. HasPlace e → Goes e (BegunDigest self.old.input.now)) }
     {
         let taken = self.take(32)?;
         Ok(Digest(array_of(taken)))
@@ -191,22 +222,22 @@ impl<'a> Reader<'a> {
 
     pub(crate) fn int(&mut self) -> Result<i64, CodeFault>
         ensures is { IfOk result (λ z. self.old.input.now ≡ be64 (nat_abs (z +ℤ pos (2 ^ 63))) ++ self.new.input.now) }
+        ensures tells { IfErr result (λ e. TellsNone e) }
         ensures refuses { IfErr result (λ e. (n : ℕ) → Denies e self.old.input.now (be64 n)) }
+        ensures place { IfErr result (λ e. IsAt e []) }
+        ensures ends { IfErr result (λ e. length self.old.input.now < 8) }
+        ensures left { IfErr result (λ e. IsBytes self.old.input.now) }
     {
-        match self.input {
-            [a, b, c, d, e, f, g, h, others @ ..] => {
-                let n = u64::from_be_bytes([*a, *b, *c, *d, *e, *f, *g, *h]);
-                self.input = others;
-                Ok(from_least(n))
-            }
-            _ => Err(CodeFault::Short { at: self.whole }),
-        }
+        let taken = self.take(8)?;
+        Ok(from_least(number_of(taken)))
     }
 
     pub(crate) fn bytes(&mut self) -> Result<Vec<u8>, CodeFault>
         ensures is { IfOk result (λ v. self.old.input.now ≡ text v.items ++ self.new.input.now) }
         ensures bytes { IfOk result (λ v. IsBytes v.items) }
+        ensures wrong { IfErr result (λ e. Wrong InBytes e self.old.input.now) }
         ensures refuses { IfErr result (λ e. (x : List ℕ) → length x < 2 ^ 32 → Denies e self.old.input.now (text x)) }
+        ensures begun { IfErr result (λ e. HasPlace e → Goes e (BegunBytes self.old.input.now)) }
     {
         let len = self.number(0, u32::MAX)? as usize;
         let taken = self.take(len)?;
@@ -218,12 +249,14 @@ impl<'a> Reader<'a> {
         ensures is { IfOk result (λ s. self.old.input.now ≡ text (string_bytes s) ++ self.new.input.now) }
         ensures form { IfOk result (λ s. HasForm kind (string_bytes s)) }
         ensures bytes { IfOk result (λ s. IsBytes (string_bytes s)) }
+        ensures wrong { IfErr result (λ e. Wrong (InText kind) e self.old.input.now) }
         ensures refuses { IfErr result (λ e. (x : List ℕ) → HasForm kind x → length x < 2 ^ 32 → Denies e self.old.input.now (text x)) }
+        ensures begun { IfErr result (λ e. HasPlace e → Goes e (BegunText kind self.old.input.now)) }
     {
         let len = self.number(0, u32::MAX)? as usize;
         let at = self.place();
-        if self.input.len() < len && !begins_text(kind, self.input, len) {
-            return Err(CodeFault::NotCanonical { at });
+        if self.input.len() < len {
+            return Err(cut_text(kind, self.input, len, at, self.whole));
         }
         let taken = self.take(len)?;
         if !is_text(kind, taken) {
@@ -235,25 +268,22 @@ impl<'a> Reader<'a> {
         }
     }
 
-    // The index of a variable of this sense. `at` is the place of its tag, which is blamed where none
-    // is in scope.
-    pub(crate) fn variable(
-        &mut self,
-        at: usize,
-        scope: &Vec<Sense>,
-        sense: Sense,
-    ) -> Result<u32, CodeFault>
+    // The index of a variable of this sense. Its tag, which stands before it, is blamed where none is in
+    // scope.
+    pub(crate) fn variable(&mut self, scope: &Vec<Sense>, sense: Sense) -> Result<u32, CodeFault>
         ensures is { IfOk result (λ i. self.old.input.now ≡ be32 i ++ self.new.input.now) }
         ensures has { IfOk result (λ i. HasVariable (scope_of scope.now.items) i (sense_of sense)) }
+        ensures wrong { IfErr result (λ e. WrongVariable (scope_of scope.now.items) (sense_of sense) e self.old.input.now) }
         ensures refuses { IfErr result (λ e. (i : ℕ) → i < 2 ^ 32 → HasVariable (scope_of scope.now.items) i (sense_of sense) → Denies e self.old.input.now (be32 i)) }
+        ensures begun { (tag : ℕ) → IfErr result (λ e. HasPlace e → Goes e (BegunVariable (scope_of scope.now.items) (sense_of sense) tag self.old.input.now)) }
     {
-        let place = self.place();
+        let (tag, place) = (self.last_place(), self.place());
         if self.input.len() < 4 {
             if begins_index(scope, sense, self.input) {
                 return Err(CodeFault::Short { at: self.whole });
             }
             return Err(CodeFault::NotCanonical {
-                at: blamed(scope, sense, at, place),
+                at: blamed(scope, sense, tag, place),
             });
         }
         let index = self.number(0, u32::MAX)?;
@@ -261,15 +291,44 @@ impl<'a> Reader<'a> {
             return Ok(index);
         }
         Err(CodeFault::NotCanonical {
-            at: blamed(scope, sense, at, place),
+            at: blamed(scope, sense, tag, place),
         })
+    }
+}
+
+// The fault of a text of `len` bytes that ends early: where no more bytes make it a text, its first
+// byte is blamed.
+fn cut_text(kind: TextKind, bytes: &[u8], len: usize, at: usize, whole: usize) -> CodeFault
+    requires { length bytes.now < len }
+    ensures refuses { (x : List ℕ) → HasForm kind x → length x ≡ len → Denies result bytes.now x }
+    ensures begun { (BeginsText kind bytes.now len × (result ≡ Short whole)) ⊎ ((result ≡ NotCanonical at) × (BeginsText kind bytes.now len → ⊥)) }
+{
+    if begins_text(kind, bytes, len) {
+        CodeFault::Short { at: whole }
+    } else {
+        CodeFault::NotCanonical { at }
     }
 }
 
 // What is blamed for a variable that is not in scope: its index, or its tag where the scope has none of
 // its sense.
-fn blamed(scope: &Vec<Sense>, sense: Sense, tag: usize, index: usize) -> usize {
-    if scope.contains(&sense) { index } else { tag }
+fn blamed(scope: &Vec<Sense>, sense: Sense, tag: usize, index: usize) -> usize
+    ensures { ((result ≡ index) × IsInScope (scope_of scope.now.items) (sense_of sense)) ⊎ ((result ≡ tag) × ((i : ℕ) → HasVariable (scope_of scope.now.items) i (sense_of sense) → ⊥)) }
+{
+    if has_sense(scope, sense) { index } else { tag }
+}
+
+// Whether a variable of this sense is in scope.
+fn has_sense(scope: &Vec<Sense>, sense: Sense) -> bool
+    ensures only { IsTrue result → IsInScope (scope_of scope.now.items) (sense_of sense) }
+    ensures all { (i : ℕ) → HasVariable (scope_of scope.now.items) i (sense_of sense) → IsTrue result }
+{
+    for index in 0..scope.len() {
+        if has_variable(scope, index, sense) {
+            return true;
+        }
+    }
+    false
 }
 
 fn array_of(bytes: &[u8]) -> [u8; 32]
@@ -280,6 +339,16 @@ fn array_of(bytes: &[u8]) -> [u8; 32]
     let mut array = [0; 32];
     array.copy_from_slice(bytes);
     array
+}
+
+// The number of these eight bytes.
+fn number_of(bytes: &[u8]) -> u64
+    requires { length bytes.now ≡ 8 }
+    ensures { bytes.now ≡ be64 result }
+{
+    let mut array = [0; 8];
+    array.copy_from_slice(bytes);
+    u64::from_be_bytes(array)
 }
 
 // The number that stands so far above the least `i64`.
@@ -298,7 +367,8 @@ fn has_variable(scope: &Vec<Sense>, index: usize, sense: Sense) -> bool
 
 // Whether these bytes begin the index of a variable of this sense.
 fn begins_index(scope: &Vec<Sense>, sense: Sense, bytes: &[u8]) -> bool
-    ensures { (i : ℕ) (x y : List ℕ) → i < 2 ^ 32 → HasVariable (scope_of scope.now.items) i (sense_of sense) → bytes.now ++ x ≡ be32 i ++ y → IsTrue result }
+    ensures all { (i : ℕ) (x y : List ℕ) → i < 2 ^ 32 → HasVariable (scope_of scope.now.items) i (sense_of sense) → bytes.now ++ x ≡ be32 i ++ y → IsTrue result }
+    ensures only { IsTrue result → length bytes.now < 4 → BegunIndex (scope_of scope.now.items) (sense_of sense) bytes.now [] }
 {
     let (low, high) = number_bounds(bytes);
     let end = scope.len().min(high as usize + 1);

@@ -2,14 +2,12 @@
 #![tactic(auto)]
 
 mod decode;
-#[cfg(test)]
-mod decode_tests;
+pub mod examples;
 pub mod fault;
 mod fields;
+pub mod laws;
 mod patterns;
 mod reader;
-#[cfg(test)]
-mod samples;
 mod text;
 
 pub use decode::decode_term;

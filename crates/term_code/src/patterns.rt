@@ -1,5 +1,5 @@
 // Reading of patterns in codes.
-ghost use Rattle.std.specs.Prelude.{◌≡◌, ◌∷◌, ◌++◌, ◌≤◌, ◌+◌, ◌<◌, [], cond, length, map, true, false, List, ℕ, IfOk, IfErr, IfSome, IfNone};
+ghost use Rattle.std.specs.Prelude.{◌≡◌, ◌∷◌, ◌++◌, ◌-◌, ◌≤◌, ◌+◌, ◌<◌, [], cond, length, map, true, false, List, ℕ, IfOk, IfErr, IfSome, IfNone};
 ghost use Rattle.calculus.specs.Form.{pat, name_pat, pat_part, row_of, pair_of};
 ghost use Rattle.calculus.specs.Shape.{many};
 ghost use Rattle.calculus.specs.Tree.{row};
@@ -8,8 +8,11 @@ ghost use Rattle.rho_term.specs.Normal.{IsOrdered};
 ghost use Rattle.rho_term.specs.Parts.{pat_part_tree, pair_tree};
 ghost use Rattle.term_code.specs.Scopes.{scope_of, senses_of};
 ghost use Rattle.term_code.specs.Reading.{Reads};
+ghost use Rattle.term_code.specs.Beginning.{HasPlace, Goes, Begun, BegunRow};
 ghost use Rattle.term_code.specs.Refusing.{Refuses, RefusesRow, is_pat_form_tag};
 ghost use Rattle.term_code.specs.Wide.{is_wide_tag};
+ghost use Rattle.term_code.specs.Blaming.{Wrong, InTree, InRow, over};
+ghost use Rattle.term_code.specs.declared.fault.CodeFault.TheVariants.{NotCanonical};
 
 use crate::fault::CodeFault;
 use crate::reader::{Reader, Sense};
@@ -29,6 +32,7 @@ fn more_wide(wide: u32, i: u32, tag: u8, at: usize) -> Result<u32, CodeFault>
     ensures is { IfOk result (λ n. n ≡ wide + cond (is_wide_tag tag) 1 0) }
     ensures one { IfOk result (λ n. n ≤ 1) }
     ensures thin { IfOk result (λ n. i + 1 ≤ 8 + n) }
+    ensures place { IfErr result (λ e. e ≡ NotCanonical at) }
     ensures many { IfErr result (λ e. wide + cond (is_wide_tag tag) 1 0 ≤ 1 → i + 1 ≤ 8 + (wide + cond (is_wide_tag tag) 1 0) → ⊥) }
 {
     if 0x50 <= tag && tag <= 0x56 {
@@ -77,7 +81,10 @@ impl<'a> Reader<'a> {
     ) -> Result<TermPat, CodeFault>
         ensures reads { IfOk result (λ t. Reads pat (scope_of scope.now.items) room t self.old.input.now self.new.input.now) }
         ensures bound { IfOk result (λ t. senses_of found.new.items ≡ senses_of found.old.items ++ bound t) }
+        ensures wrong { (more : ℕ) → IfErr result (λ e. Wrong (InTree binds pat (scope_of scope.now.items) (room + over e more)) e self.old.input.now) }
         ensures refuses { IfErr result (λ e. Refuses binds pat (scope_of scope.now.items) room e self.old.input.now) }
+        ensures free { binds ≡ false → IfOk result (λ t. bound t ≡ []) }
+        ensures begun { IfErr result (λ e. HasPlace e → Goes e (Begun binds pat (scope_of scope.now.items) room self.old.input.now)) }
     {
         let count = self.number(0, 9)?;
         let mut parts = Vec::new(self.alloc);
@@ -89,7 +96,7 @@ impl<'a> Reader<'a> {
                 return Err(CodeFault::TooDeep { at });
             }
             wide = more_wide(wide, i, tag, at)?;
-            let part = self.pat_part(tag, at, binds, scope, found, room)?;
+            let part = self.pat_part(tag, binds, scope, found, room)?;
             parts.push(part)?;
         }
         Ok(TermPat::new(parts))
@@ -106,7 +113,10 @@ impl<'a> Reader<'a> {
     ) -> Result<TermPat, CodeFault>
         ensures reads { IfOk result (λ t. Reads name_pat (scope_of scope.now.items) room t self.old.input.now self.new.input.now) }
         ensures bound { IfOk result (λ t. senses_of found.new.items ≡ senses_of found.old.items ++ bound t) }
+        ensures wrong { (more : ℕ) → IfErr result (λ e. Wrong (InTree binds name_pat (scope_of scope.now.items) (room + over e more)) e self.old.input.now) }
         ensures refuses { IfErr result (λ e. Refuses binds name_pat (scope_of scope.now.items) room e self.old.input.now) }
+        ensures free { binds ≡ false → IfOk result (λ t. bound t ≡ []) }
+        ensures begun { IfErr result (λ e. HasPlace e → Goes e (Begun binds name_pat (scope_of scope.now.items) room self.old.input.now)) }
     {
         match after_name_variable(binds, self.input) {
             Some(others) => {
@@ -120,12 +130,11 @@ impl<'a> Reader<'a> {
         }
     }
 
-    // The part of a pattern that goes on so after its tag, which stands at this place.
+    // The part of a pattern that goes on so after its tag.
     #[cycle(read)]
     fn pat_part(
         &mut self,
         tag: u8,
-        at: usize,
         binds: bool,
         scope: &Vec<Sense>,
         found: &mut Vec<Sense>,
@@ -134,12 +143,17 @@ impl<'a> Reader<'a> {
         ensures reads { IfOk result (λ p. Reads pat_part (scope_of scope.now.items) room (pat_part_tree p) (tag ∷ self.old.input.now) self.new.input.now) }
         ensures ordered { IfOk result (λ p. IsOrdered (pat_part_tree p)) }
         ensures bound { IfOk result (λ p. senses_of found.new.items ≡ senses_of found.old.items ++ bound (pat_part_tree p)) }
+        ensures wrong { (more : ℕ) → IfErr result (λ e. Wrong (InTree binds pat_part (scope_of scope.now.items) (room + over e more)) e (tag ∷ self.old.input.now)) }
         ensures refuses { IfErr result (λ e. Refuses binds pat_part (scope_of scope.now.items) room e (tag ∷ self.old.input.now)) }
+        ensures free { binds ≡ false → IfOk result (λ p. bound (pat_part_tree p) ≡ []) }
+        ensures begun { IfErr result (λ e. HasPlace e → Goes e (Begun binds pat_part (scope_of scope.now.items) room (tag ∷ self.old.input.now))) }
     {
         match tag {
             0x50 => {
                 if !binds {
-                    return Err(CodeFault::NotCanonical { at });
+                    return Err(CodeFault::NotCanonical {
+                        at: self.last_place(),
+                    });
                 }
                 found.push(Sense::Process)?;
                 Ok(PatPart::Var)
@@ -148,16 +162,18 @@ impl<'a> Reader<'a> {
             0x57 => Ok(PatPart::Simple(self.simple()?)),
             0x31..=0x33 => {
                 let outside = Vec::new(self.alloc);
-                Ok(PatPart::Closed(self.part(tag, at, &outside, room)?))
+                Ok(PatPart::Closed(self.part(tag, &outside, room)?))
             }
             _ => {
                 if is_pat_form(tag) {
                     if room == 0 {
-                        return Err(CodeFault::TooDeep { at });
+                        return Err(CodeFault::TooDeep {
+                            at: self.last_place(),
+                        });
                     }
-                    self.pat_form(tag, at, binds, scope, found, room - 1)
+                    self.pat_form(tag, binds, scope, found, room - 1)
                 } else {
-                    Ok(PatPart::Ground(self.ground(tag, at)?))
+                    Ok(PatPart::Ground(self.ground(tag)?))
                 }
             }
         }
@@ -169,7 +185,6 @@ impl<'a> Reader<'a> {
     fn pat_form(
         &mut self,
         tag: u8,
-        at: usize,
         binds: bool,
         scope: &Vec<Sense>,
         found: &mut Vec<Sense>,
@@ -180,7 +195,10 @@ impl<'a> Reader<'a> {
         ensures reads { IfOk result (λ p. Reads pat_part (scope_of scope.now.items) (room + 1) (pat_part_tree p) (tag ∷ self.old.input.now) self.new.input.now) }
         ensures ordered { IfOk result (λ p. IsOrdered (pat_part_tree p)) }
         ensures bound { IfOk result (λ p. senses_of found.new.items ≡ senses_of found.old.items ++ bound (pat_part_tree p)) }
+        ensures wrong { (more : ℕ) → IfErr result (λ e. Wrong (InTree binds pat_part (scope_of scope.now.items) ((room + 1) + over e more)) e (tag ∷ self.old.input.now)) }
         ensures refuses { IfErr result (λ e. Refuses binds pat_part (scope_of scope.now.items) (room + 1) e (tag ∷ self.old.input.now)) }
+        ensures free { binds ≡ false → IfOk result (λ p. bound (pat_part_tree p) ≡ []) }
+        ensures begun { IfErr result (λ e. HasPlace e → Goes e (Begun binds pat_part (scope_of scope.now.items) (room + 1) (tag ∷ self.old.input.now))) }
     {
         match tag {
             0x20 => {
@@ -226,22 +244,25 @@ impl<'a> Reader<'a> {
                 Ok(PatPart::Either(left, right))
             }
             0x56 => Ok(PatPart::Not(self.free_pat(scope, room)?)),
-            _ => Err(CodeFault::NotCanonical { at }),
+            _ => Err(CodeFault::NotCanonical {
+                at: self.last_place(),
+            }),
         }
     }
 
-    // A pattern that binds no variable.
+    // A pattern that binds no variable. What binds none has found none.
     #[cycle(read)]
     fn free_pat(&mut self, scope: &Vec<Sense>, room: u32) -> Result<TermPat, CodeFault>
         ensures reads { IfOk result (λ t. Reads pat (scope_of scope.now.items) room t self.old.input.now self.new.input.now) }
         ensures bound { IfOk result (λ t. bound t ≡ []) }
+        ensures wrong { (more : ℕ) → IfErr result (λ e. Wrong (InTree false pat (scope_of scope.now.items) (room + over e more)) e self.old.input.now) }
         ensures refuses { IfErr result (λ e. Refuses false pat (scope_of scope.now.items) room e self.old.input.now) }
+        ensures begun { IfErr result (λ e. HasPlace e → Goes e (Begun false pat (scope_of scope.now.items) room self.old.input.now)) }
     {
-        let at = self.place();
         let mut found = Vec::new(self.alloc);
         let pat = self.pat(false, scope, &mut found, room)?;
         if !found.is_empty() {
-            return Err(CodeFault::NotCanonical { at });
+            return Err(CodeFault::NotCanonical { at: self.place() });
         }
         Ok(pat)
     }
@@ -261,7 +282,10 @@ impl<'a> Reader<'a> {
         ensures bound { IfOk result (λ ts. senses_of found.new.items ≡ senses_of found.old.items ++ bound (many row ts.items)) }
         ensures least { IfOk result (λ ts. least ≤ length ts.items) }
         ensures most { IfOk result (λ ts. length ts.items ≤ most) }
+        ensures wrong { (more : ℕ) → IfErr result (λ e. Wrong (InRow binds pat (scope_of scope.now.items) (room + over e more) least most) e self.old.input.now) }
         ensures refuses { IfErr result (λ e. RefusesRow binds pat (scope_of scope.now.items) room least most e self.old.input.now) }
+        ensures free { binds ≡ false → IfOk result (λ ts. bound (many row ts.items) ≡ []) }
+        ensures begun { IfErr result (λ e. HasPlace e → least ≤ most → Goes e (BegunRow binds pat (scope_of scope.now.items) room least most self.old.input.now)) }
     {
         let count = self.number(least, most)?;
         let mut pats = Vec::new(self.alloc);
@@ -281,7 +305,9 @@ impl<'a> Reader<'a> {
     ) -> Result<Vec<TermPat>, CodeFault>
         ensures reads { IfOk result (λ ts. Reads (row_of name_pat) (scope_of scope.now.items) room (many row ts.items) self.old.input.now self.new.input.now) }
         ensures bound { IfOk result (λ ts. senses_of found.new.items ≡ senses_of found.old.items ++ bound (many row ts.items)) }
+        ensures wrong { (more : ℕ) → IfErr result (λ e. Wrong (InRow true name_pat (scope_of scope.now.items) (room + over e more) 0 0xFFFFFFFF) e self.old.input.now) }
         ensures refuses { IfErr result (λ e. RefusesRow true name_pat (scope_of scope.now.items) room 0 0xFFFFFFFF e self.old.input.now) }
+        ensures begun { IfErr result (λ e. HasPlace e → Goes e (BegunRow true name_pat (scope_of scope.now.items) room 0 0xFFFFFFFF self.old.input.now)) }
     {
         let count = self.number(0, u32::MAX)?;
         let mut pats = Vec::new(self.alloc);
@@ -304,7 +330,10 @@ impl<'a> Reader<'a> {
         ensures reads { IfOk result (λ ps. Reads (row_of (pair_of pat)) (scope_of scope.now.items) room (many row (map pair_tree ps.items)) self.old.input.now self.new.input.now) }
         ensures bound { IfOk result (λ ps. senses_of found.new.items ≡ senses_of found.old.items ++ bound (many row (map pair_tree ps.items))) }
         ensures few { IfOk result (λ ps. length ps.items ≤ 8) }
+        ensures wrong { (more : ℕ) → IfErr result (λ e. Wrong (InRow binds (pair_of pat) (scope_of scope.now.items) (room + over e more) 0 8) e self.old.input.now) }
         ensures refuses { IfErr result (λ e. RefusesRow binds (pair_of pat) (scope_of scope.now.items) room 0 8 e self.old.input.now) }
+        ensures free { binds ≡ false → IfOk result (λ ps. bound (many row (map pair_tree ps.items)) ≡ []) }
+        ensures begun { IfErr result (λ e. HasPlace e → Goes e (BegunRow binds (pair_of pat) (scope_of scope.now.items) room 0 8 self.old.input.now)) }
     {
         let count = self.number(0, 8)?;
         let mut pairs = Vec::new(self.alloc);

@@ -1,9 +1,13 @@
 // What stands in codes beside processes: bytes, flags, numbers, texts and variables.
-ghost use Rattle.std.specs.Prelude.{◌≡◌, ◌++◌, ◌∷◌, ◌≤◌, ◌<◌, ◌^◌, ℕ, List, length, true, IfOk, IfErr, take};
+ghost use Rattle.std.specs.Prelude.{◌≡◌, ◌++◌, ◌∷◌, ◌≤◌, ◌<◌, ◌^◌, ◌+◌, ℕ, List, length, true, IfOk, IfErr, take, ◌-◌, [], OnOk};
 ghost use Rattle.calculus.specs.Bytes.{be32};
 ghost use Rattle.calculus.specs.Order.{up_to};
 ghost use Rattle.calculus.specs.Form.{IsBytes};
+ghost use Rattle.term_code.specs.Beginning.{HasPlace, IsAt, Goes, Cuts, BegunNumber, Follows};
 ghost use Rattle.term_code.specs.Refusing.{Denies, RefusesByte, RefusesNumber, is_form_tag};
+ghost use Rattle.term_code.specs.Places.{Reaches};
+ghost use Rattle.term_code.specs.Blaming.{IsShallow, TellsNone, Wrong, InByte, InNumber};
+ghost use Rattle.term_code.specs.declared.fault.CodeFault.TheVariants.{NotCanonical};
 
 use crate::fault::CodeFault;
 use std::alloc::Global;
@@ -16,7 +20,8 @@ pub enum Sense {
     Name,
 }
 
-/// A reader of codes: the bytes that are left, and how many there were.
+/// A reader of codes: the bytes that are left, and how many there were. A wrong byte's place is told by how
+/// many bytes stand from there on.
 #[derive(Drop)]
 pub(crate) struct Reader<'a> {
     pub(crate) alloc: Global,
@@ -26,13 +31,24 @@ pub(crate) struct Reader<'a> {
 
 impl<'a> Reader<'a> {
     // The place of the next byte.
-    pub(crate) fn place(&self) -> usize {
-        self.whole.saturating_sub(self.input.len())
+    pub(crate) fn place(&self) -> usize
+        ensures { result ≡ length self.now.input.now }
+    {
+        self.input.len()
+    }
+
+    // The place of the byte before it.
+    pub(crate) fn last_place(&self) -> usize
+        ensures { result ≡ length self.now.input.now + 1 }
+    {
+        self.input.len() + 1
     }
 
     pub(crate) fn byte(&mut self) -> Result<u8, CodeFault>
         ensures is { IfOk result (λ b. self.old.input.now ≡ b ∷ self.new.input.now) }
+        ensures tells { IfErr result (λ e. TellsNone e) }
         ensures refuses { IfErr result (λ e. (c : List ℕ) → 0 < length c → Denies e self.old.input.now c) }
+        ensures place { IfErr result (λ e. IsAt e self.old.input.now) }
     {
         match self.input {
             [first, others @ ..] => {
@@ -48,30 +64,30 @@ impl<'a> Reader<'a> {
         ensures is { IfOk result (λ s. self.old.input.now ≡ s.now ++ self.new.input.now) }
         ensures long { IfOk result (λ s. length s.now ≡ n) }
         ensures bytes { IfOk result (λ s. IsBytes s.now) }
+        ensures tells { IfErr result (λ e. TellsNone e) }
         ensures refuses { IfErr result (λ e. (c : List ℕ) → length c ≡ n → Denies e self.old.input.now c) }
+        ensures place { IfErr result (λ e. IsAt e []) }
+        ensures ends { IfErr result (λ e. length self.old.input.now < n) }
+        ensures left { IfErr result (λ e. IsBytes self.old.input.now) }
     {
-        if self.input.len() < n {
+        let taken = front(self.input, n.min(self.input.len()));
+        if taken.len() < n {
             return Err(CodeFault::Short { at: self.whole });
         }
-        let taken = front(self.input, n);
         self.input = &self.input[n..];
         Ok(taken)
     }
 
     // The code that was read since these bytes were left, which is no less than the one before it.
-    pub(crate) fn read_since(
-        &self,
-        start: &'a [u8],
-        last: &[u8],
-        at: usize,
-    ) -> Result<&'a [u8], CodeFault>
+    pub(crate) fn read_since(&self, start: &'a [u8], last: &[u8]) -> Result<&'a [u8], CodeFault>
         ensures code { IfOk result (λ c. (d : List ℕ) → start.now ≡ d ++ self.now.input.now → c.now ≡ d) }
         ensures up { IfOk result (λ c. up_to last.now c.now ≡ true) }
+        ensures place { IfErr result (λ e. e ≡ NotCanonical (length start.now)) }
         ensures down { IfErr result (λ e. (d : List ℕ) → start.now ≡ d ++ self.now.input.now → up_to last.now d ≡ true → ⊥) }
     {
         let code = &start[..start.len().saturating_sub(self.input.len())];
         if last.cmp(code) == Ordering::Greater {
-            return Err(CodeFault::NotCanonical { at });
+            return Err(CodeFault::NotCanonical { at: start.len() });
         }
         Ok(code)
     }
@@ -80,7 +96,9 @@ impl<'a> Reader<'a> {
     pub(crate) fn flag(&mut self, most: u8) -> Result<u8, CodeFault>
         ensures is { IfOk result (λ b. self.old.input.now ≡ b ∷ self.new.input.now) }
         ensures few { IfOk result (λ b. b ≤ most) }
+        ensures wrong { IfErr result (λ e. Wrong (InByte most) e self.old.input.now) }
         ensures refuses { IfErr result (λ e. RefusesByte most e self.old.input.now) }
+        ensures place { IfErr result (λ e. IsAt e self.old.input.now) }
     {
         let at = self.place();
         let byte = self.byte()?;
@@ -90,12 +108,17 @@ impl<'a> Reader<'a> {
         Ok(byte)
     }
 
-    // A number from `least` to `most`. Where it is cut, its bytes begin that of some such number.
+    // A number from `least` to `most`. Where it is cut, its bytes begin that of some such number; where they
+    // do not, its first byte is blamed.
     pub(crate) fn number(&mut self, least: u32, most: u32) -> Result<u32, CodeFault>
         ensures is { IfOk result (λ n. self.old.input.now ≡ be32 n ++ self.new.input.now) }
         ensures least { IfOk result (λ n. least ≤ n) }
         ensures most { IfOk result (λ n. n ≤ most) }
+        ensures place { IfErr result (λ e. IsShallow e (length self.old.input.now)) }
+        ensures wrong { IfErr result (λ e. Wrong (InNumber least most) e self.old.input.now) }
         ensures refuses { IfErr result (λ e. RefusesNumber least most e self.old.input.now) }
+        ensures ends { least ≡ 0 → most ≡ 0xFFFFFFFF → IfErr result (λ e. length self.old.input.now < 4) }
+        ensures begun { IfErr result (λ e. HasPlace e → least ≤ most → Goes e (BegunNumber least most self.old.input.now)) }
     {
         let at = self.place();
         let (low, high) = number_bounds(self.input);
@@ -116,13 +139,17 @@ impl<'a> Reader<'a> {
     }
 }
 
-// Bytes that fall below the code before them are no code there, whatever follows the byte that does.
-pub(crate) fn check_order(last: &[u8], bytes: &[u8], at: usize) -> Result<(), CodeFault>
-    ensures { IfErr result (λ e. (c : List ℕ) → up_to last.now c ≡ true → Denies e bytes.now c) }
+// Bytes that fall below the code before them are no code there, whatever follows the byte that does. Else
+// bytes may follow so that they do not.
+pub(crate) fn check_order(last: &[u8], bytes: &[u8]) -> Result<(), CodeFault>
+    ensures up { IfOk result (λ _. Reaches last.now bytes.now) }
+    ensures follows { OnOk result (Follows last.now bytes.now) }
+    ensures place { IfErr result (λ e. e ≡ NotCanonical (length bytes.now)) }
+    ensures refuses { IfErr result (λ e. (c : List ℕ) → up_to last.now c ≡ true → Denies e bytes.now c) }
 {
     let both = last.len().min(bytes.len());
     if front(last, both).cmp(front(bytes, both)) == Ordering::Greater {
-        return Err(CodeFault::NotCanonical { at });
+        return Err(CodeFault::NotCanonical { at: bytes.len() });
     }
     Ok(())
 }
@@ -144,7 +171,9 @@ fn front(bytes: &[u8], n: usize) -> &[u8]
 
 // The least and the greatest number whose four bytes begin with these, or are the first four.
 pub(crate) fn number_bounds(bytes: &[u8]) -> (u32, u32)
-    ensures { (n : ℕ) (x y : List ℕ) → n < 2 ^ 32 → bytes.now ++ x ≡ be32 n ++ y → (result.0 ≤ n) × (n ≤ result.1) }
+    ensures all { (n : ℕ) (x y : List ℕ) → n < 2 ^ 32 → bytes.now ++ x ≡ be32 n ++ y → (result.0 ≤ n) × (n ≤ result.1) }
+    ensures only { (n : ℕ) → length bytes.now < 4 → n < 2 ^ 32 → result.0 ≤ n → n ≤ result.1 → Cuts bytes.now (be32 n) [] }
+    ensures order { result.0 ≤ result.1 }
 {
     match bytes {
         [] => (0, u32::MAX),

@@ -4,8 +4,6 @@
 pub mod encode;
 pub mod keys;
 pub mod length;
-#[cfg(test)]
-mod tests;
 
 pub use encode::{encode_part, encode_term};
 pub use keys::{group_key, shard_of};

@@ -12,8 +12,6 @@ pub mod pairs;
 pub mod parts;
 mod patterns;
 pub mod terms;
-#[cfg(test)]
-mod tests;
 
 pub use pairs::pair_order;
 pub use parts::part_order;

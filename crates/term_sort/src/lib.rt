@@ -8,8 +8,6 @@ mod order;
 pub mod size;
 pub mod substitution;
 mod suited;
-#[cfg(test)]
-mod tests;
 
 pub use make::{make_par, with_order};
 pub use size::put_size;

@@ -6,8 +6,6 @@ mod ints;
 pub mod methods;
 pub mod operators;
 pub mod stop;
-#[cfg(test)]
-mod tests;
 mod texts;
 mod values;
 

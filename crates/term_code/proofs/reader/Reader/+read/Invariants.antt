@@ -1,5 +1,5 @@
-use Rattle.std.proofs.Common.{◌≡◌, ◌≤◌, ◌+◌, ◌*◌, ◌++◌, map, length}
-use Rattle.std.specs.Prelude.{All}
+use Rattle.std.proofs.Common.{◌≡◌, ◌≤◌, ◌+◌, ◌*◌, [], ◌++◌, map, length}
+use Rattle.std.specs.Prelude.{All, false}
 use Rattle.calculus.specs.Form.{term, part, a_bind, a_case, pat, name_pat, pat_part, pair_of, wides}
 use Rattle.calculus.specs.Tree.{trees}
 use Rattle.calculus.specs.Variables.{bound_all}
@@ -98,6 +98,7 @@ invariant-binds-loop-i l = record {
 
 abbrev pub invariant-pat-loop-i : goal.invariant-pat-loop-i
 invariant-pat-loop-i l = record {
+  quiet : l.binds ≡ false → bound_all (trees (map pat_part_tree l.parts.items)) ≡ [];
   read : Row pat_part_tree pat_part (scope_of l.scope.items) l.room l.parts.items l.initial.self.input.now l.self.input.now;
   count : length l.parts.items ≡ l.i;
   ordered : All (λ p. IsOrdered (pat_part_tree p)) l.parts.items;
@@ -109,6 +110,7 @@ invariant-pat-loop-i l = record {
 
 abbrev pub invariant-pats-loop-i : goal.invariant-pats-loop-i
 invariant-pats-loop-i l = record {
+  quiet : l.binds ≡ false → bound_all (trees (map (λ t. t) l.pats.items)) ≡ [];
   read : Row (λ t. t) pat (scope_of l.scope.items) l.room l.pats.items l.initial.self.input.now l.self.input.now;
   count : length l.pats.items ≡ l._i;
   binding : senses_of l.found.items ≡ senses_of l.initial.found.items ++ bound_all (trees l.pats.items);
@@ -123,6 +125,7 @@ invariant-name_pats-loop-i l = record {
 
 abbrev pub invariant-pat_pairs-loop-i : goal.invariant-pat_pairs-loop-i
 invariant-pat_pairs-loop-i l = record {
+  quiet : l.binds ≡ false → bound_all (trees (map pair_tree l.pairs.items)) ≡ [];
   read : Row pair_tree (pair_of pat) (scope_of l.scope.items) l.room l.pairs.items l.initial.self.input.now l.self.input.now;
   count : length l.pairs.items ≡ l._i;
   binding : senses_of l.found.items ≡ senses_of l.initial.found.items ++ bound_all (trees (map pair_tree l.pairs.items));

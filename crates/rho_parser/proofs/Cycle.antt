@@ -1,0 +1,195 @@
+-- The steps of descent of the forms that hold further processes.
+use Rattle.std.proofs.Common.{◌≡◌, ◌&&◌, ◌-◌, zero, suc, not, refl, Option, arith, ◌+◌, max, map, ◌++◌, ℕ, ◌<◌, List, ◌∷◌, [], Result, Ok, Err, None, subst, sym, ap, ◌∙◌, Bool, true, false}
+use Rattle.std.specs.Prelude.{IfOk, MatchResult}
+use Rattle.std.specs.declared.alloc.Global.{Global}
+use Rattle.std.specs.declared.vec.Vec.{Vec}
+use Rattle.std.proofs.lemmas.List.{map-append}
+use Rattle.calculus.specs.Meaning.{pair_of, pat_written, proc_written}
+use Rattle.calculus.specs.Written.{Written}
+use Rattle.calculus.specs.declared.process.Pat.{Pat}
+use Rattle.calculus.specs.declared.process.Proc.{Proc}
+use Rattle.grammar.specs.declared.dialect.Dialect.TheVariants.{Tutorial}
+use Rattle.grammar.specs.declared.fault.Fault.{Fault}
+use Rattle.grammar.specs.declared.fault.Fault.TheVariants.{NoMemory}
+use Rattle.grammar.specs.declared.mark.Mark.TheVariants as marks
+use Rattle.std.proofs.lemmas.Bool.{false≢true}
+use Rattle.calculus.specs.declared.plain.Kind.{Kind}
+use Rattle.rho_lexer.specs.declared.token.Token.{Token}
+use Rattle.grammar.specs.Choice.{after, choose}
+use Rattle.grammar.specs.Descent.{Outcome, read, fault, Runs, Stuck, Takes, shows, runs_sign, runs_next, runs_opens_next, runs_at, no_at, runs_last, no_memory}
+use Rattle.grammar.specs.Grammar.{rule}
+use Rattle.grammar.specs.Productions.{Prod}
+use Rattle.grammar.specs.Rules.{Bracket, Separator, Sort, Rule, done, last, next, opens_next}
+use Rattle.grammar.specs.Terminals.{Terminal, mark, sees}
+use Rattle.grammar.specs.Values.{Spelt, spelt}
+use Rattle.token_cursor.specs.Levels.{inner_of, level_or_prefix, operand_of, sort_of, tail_of}
+use Rattle.token_cursor.specs.declared.level.Level.{Level}
+use Rattle.token_cursor.specs.declared.level.Level.TheVariants as levels
+use Rattle.token_cursor.specs.declared.part.Part.{Part}
+use Rattle.token_cursor.specs.Meaning.{view}
+use Rattle.token_cursor.specs.Reading.{Makes, Turns, sees_bind, sees_member, pairs_written, pat_pairs_written}
+use Rattle.token_cursor.proofs.Steps.{comma, ends, faulty, rows}
+
+-- the value that is made of the parts, unless memory runs out
+pub built : {T : Type 0} {free : ℕ} {ts : List Terminal} (f : T → Written) (v : Spelt) (res : Result (Part T) Fault)
+    → MatchResult res (λ p. f p.value ≡ v.tree) (λ e. e ≡ NoMemory) → IfOk res (λ p. p.height ≡ v.height)
+    → Makes free (done v) (λ p. spelt (f p.value) p.height) ts res ts
+built f v (Ok p) e g = ends v (spelt (f p.value) p.height) e g
+built f v (Err d) e g = faulty d NoMemory e no_memory
+
+-- a tail, at what was read, is the tail that the production says
+pub tails : {free : ℕ} {us : List Terminal} {out : Outcome} (tail : Spelt → Rule) (v w : Spelt) → w.tree ≡ v.tree → w.height ≡ v.height
+    → Runs Tutorial free (tail w) us out → Runs Tutorial free (tail v) us out
+tails {free} {us} {out} tail v w e g r =
+    subst (λ (x : ℕ). Runs Tutorial free (tail (spelt v.tree x)) us out) g
+    (subst (λ (x : Written). Runs Tutorial free (tail (spelt x w.height)) us out) e r)
+
+-- a tail goes on with the value that is made, unless memory runs out
+pub turned : {T : Type 0} (free : ℕ) (ts : List Terminal) (tail : Spelt → Rule) (f : T → Written) (v : Spelt) (res : Result (Part T) Fault)
+    → MatchResult res (λ p. f p.value ≡ v.tree) (λ e. e ≡ NoMemory) → IfOk res (λ p. p.height ≡ v.height)
+    → Turns free (tail v) (λ p. tail (spelt (f p.value) p.height)) ts res ts
+turned free ts tail f v (Ok p) e g = λ out h. tails tail v (spelt (f p.value) p.height) e g h
+turned free ts tail f v (Err d) e g = faulty d NoMemory e no_memory
+
+-- a tail goes on with one more part, unless memory runs out
+pub pushes : {T : Type 0} (free : ℕ) (ts : List Terminal) (tail : List Written → ℕ → Rule) (f : T → Written) (ps : List T) (p : T) (h k : ℕ) (res : Result (Part (Vec T Global)) Fault)
+    → MatchResult res (λ r. r.value.items ≡ ps ++ (p ∷ [])) (λ e. e ≡ NoMemory) → IfOk res (λ r. r.height ≡ max h k)
+    → Turns free (tail (map f ps ++ (f p ∷ [])) (max h k)) (λ r. tail (map f r.value.items) r.height) ts res ts
+pushes free ts tail f ps p h k (Ok r) e g = λ out t. rows tail (map f ps ++ (f p ∷ [])) (map f r.value.items) (max h k) r.height (ap (map f) e ∙ map-append f ps (p ∷ [])) g t
+pushes free ts tail f ps p h k (Err d) e g = faulty d NoMemory e no_memory
+
+-- the production that is chosen is this one
+pub chosen : {free : ℕ} {s : Sort} {ts : List Terminal} {out : Outcome} (p q : Prod s) → p ≡ q → Runs Tutorial free (rule Tutorial q) ts out → Runs Tutorial free (rule Tutorial p) ts out
+chosen {free} {s} {ts} {out} p q e h = subst (λ (x : Prod s). Runs Tutorial free (rule Tutorial x) ts out) (sym e) h
+
+-- the rule is this one
+pub as_rule : {free : ℕ} {ts : List Terminal} {out : Outcome} (r q : Rule) → r ≡ q → Runs Tutorial free q ts out → Runs Tutorial free r ts out
+as_rule {free} {ts} {out} r q e h = subst (λ (x : Rule). Runs Tutorial free x ts out) (sym e) h
+
+-- a tail goes on with one more tree, unless memory runs out
+pub pushed_by : {T : Type 0} (free : ℕ) (ts : List Terminal) (tail : List Written → ℕ → Rule) (f : List T → List Written) (ps : List T) (p : Part T) (x : Written) (h k : ℕ) (res : Result (Part (Vec T Global)) Fault)
+    → f (ps ++ (p.value ∷ [])) ≡ f ps ++ (x ∷ []) → p.height ≡ k
+    → MatchResult res (λ r. r.value.items ≡ ps ++ (p.value ∷ [])) (λ e. e ≡ NoMemory) → IfOk res (λ r. r.height ≡ max h p.height)
+    → Turns free (tail (f ps ++ (x ∷ [])) (max h k)) (λ r. tail (f r.value.items) r.height) ts res ts
+pushed_by free ts tail f ps p x h k (Ok r) i j e g = λ out t. rows tail (f ps ++ (x ∷ [])) (f r.value.items) (max h k) r.height (ap f e ∙ i) (g ∙ ap (max h) j) t
+pushed_by free ts tail f ps p x h k (Err d) i j e g = faulty d NoMemory e no_memory
+
+-- the same, tree by tree
+pub pushed_as : {T : Type 0} (free : ℕ) (ts : List Terminal) (tail : List Written → ℕ → Rule) (f : T → Written) (ps : List T) (p : Part T) (x : Written) (h k : ℕ) (res : Result (Part (Vec T Global)) Fault)
+    → f p.value ≡ x → p.height ≡ k
+    → MatchResult res (λ r. r.value.items ≡ ps ++ (p.value ∷ [])) (λ e. e ≡ NoMemory) → IfOk res (λ r. r.height ≡ max h p.height)
+    → Turns free (tail (map f ps ++ (x ∷ [])) (max h k)) (λ r. tail (map f r.value.items) r.height) ts res ts
+pushed_as free ts tail f ps p x h k res i j e g =
+    pushed_by free ts tail (map f) ps p x h k res (map-append f ps (p.value ∷ []) ∙ ap (λ y. map f ps ++ (y ∷ [])) i) j e g
+
+-- pairs, and one more of them
+pub pairs_pushed : (ps : List (Proc × Proc)) (p : Proc × Proc) (a b : Proc) → p ≡ (a, b) → pairs_written (ps ++ (p ∷ [])) ≡ pairs_written ps ++ (pair_of (proc_written a, proc_written b) ∷ [])
+pairs_pushed ps p a b e =
+    ap (map pair_of) (map-append (λ q. (proc_written q.0, proc_written q.1)) ps (p ∷ [])) ∙ (map-append pair_of (map (λ q. (proc_written q.0, proc_written q.1)) ps) ((proc_written p.0, proc_written p.1) ∷ [])
+    ∙ ap (λ q. pairs_written ps ++ (pair_of (proc_written q.0, proc_written q.1) ∷ [])) e)
+
+pub pat_pairs_pushed : (ps : List (Pat × Pat)) (p : Pat × Pat) (a b : Pat) → p ≡ (a, b) → pat_pairs_written (ps ++ (p ∷ [])) ≡ pat_pairs_written ps ++ (pair_of (pat_written a, pat_written b) ∷ [])
+pat_pairs_pushed ps p a b e =
+    ap (map pair_of) (map-append (λ q. (pat_written q.0, pat_written q.1)) ps (p ∷ [])) ∙ (map-append pair_of (map (λ q. (pat_written q.0, pat_written q.1)) ps) ((pat_written p.0, pat_written p.1) ∷ [])
+    ∙ ap (λ q. pat_pairs_written ps ++ (pair_of (pat_written q.0, pat_written q.1) ∷ [])) e)
+
+-- a height that no channel adds to
+pub flat : (h k n : ℕ) → h ≡ 0 → n ≡ max h k + 1 → n ≡ k + 1
+flat h k n e g = omega (arith, e, g)
+
+not_true : (b : Bool) → not b ≡ true → b ≡ false
+not_true false e = refl
+not_true true e = absurd (false≢true e)
+
+member_next : {ts us : List Terminal} → sees_member ts ≡ true → Takes marks.Comma ts us → sees marks.Ellipsis us ≡ false
+member_next {ts} {us} m t = not_true (sees marks.Ellipsis us) (sym (comma t) ∙ m)
+
+sees_comma : (ts : List Terminal) → sees_member ts ≡ true → sees marks.Comma ts ≡ true
+sees_comma ts m = first (sees marks.Comma ts) (not (sees marks.Ellipsis (after ts))) m
+  where
+    first : (x y : Bool) → (x && y) ≡ true → x ≡ true
+    first true y e = refl
+    first false y e = absurd (false≢true e)
+
+-- where a member follows a comma, the comma isn't missing
+pub no_comma : {free : ℕ} {r : Rule} {ts us : List Terminal} {e : Fault} → sees_member ts ≡ true → Stuck (sees marks.Comma ts) ts e us → Runs Tutorial free r ts (fault e us)
+no_comma {ts = ts} m s = absurd (false≢true (sym s.no ∙ sees_comma ts m))
+
+-- a comma and a pattern of a name
+pub left_on : {free : ℕ} {out : Outcome} (ps : List Written) (h : ℕ) (ts us : List Terminal) → sees_member ts ≡ true → Takes marks.Comma ts us
+    → Runs Tutorial free (rule Tutorial (Prod.left_more ps h)) us out → Runs Tutorial free (rule Tutorial (choose (Sort.LeftTail ps h) ts)) ts out
+left_on {free} {out} ps h ts us m t r =
+    let e : sees marks.Ellipsis us ≡ false = member_next m t in
+    let q : Runs Tutorial free (rule Tutorial (choose (Sort.LeftTail ps h) (mark marks.Comma ∷ us))) (mark marks.Comma ∷ us) out = runs_sign (record { is = refl }) (runs_last (rw e r)) in
+    subst (λ (x : List Terminal). Runs Tutorial free (rule Tutorial (choose (Sort.LeftTail ps h) x)) x out) (sym t.is) q
+
+-- a comma and a pattern
+pub sequence_on : {free : ℕ} {out : Outcome} (b : Bracket) (ps : List Written) (h : ℕ) (ts us : List Terminal) → sees_member ts ≡ true → Takes marks.Comma ts us
+    → Runs Tutorial free (rule Tutorial (Prod.seq_more b ps h)) us out → Runs Tutorial free (rule Tutorial (choose (Sort.SeqTail b ps h) ts)) ts out
+sequence_on {free} {out} b ps h ts us m t r =
+    let e : sees marks.Ellipsis us ≡ false = member_next m t in
+    let q : Runs Tutorial free (rule Tutorial (choose (Sort.SeqTail b ps h) (mark marks.Comma ∷ us))) (mark marks.Comma ∷ us) out = runs_sign (record { is = refl }) (runs_last (rw e r)) in
+    subst (λ (x : List Terminal). Runs Tutorial free (rule Tutorial (choose (Sort.SeqTail b ps h) x)) x out) (sym t.is) q
+
+-- a comma and a pair of patterns
+pub pairs_on : {free : ℕ} {out : Outcome} (ps : List Written) (h : ℕ) (ts us : List Terminal) → sees_member ts ≡ true → Takes marks.Comma ts us
+    → Runs Tutorial free (rule Tutorial (Prod.ppairs_more ps h)) us out → Runs Tutorial free (rule Tutorial (choose (Sort.PPairs ps h) ts)) ts out
+pairs_on {free} {out} ps h ts us m t r =
+    let e : sees marks.Ellipsis us ≡ false = member_next m t in
+    let q : Runs Tutorial free (rule Tutorial (choose (Sort.PPairs ps h) (mark marks.Comma ∷ us))) (mark marks.Comma ∷ us) out = runs_sign (record { is = refl }) (runs_last (rw e r)) in
+    subst (λ (x : List Terminal). Runs Tutorial free (rule Tutorial (choose (Sort.PPairs ps h) x)) x out) (sym t.is) q
+
+-- the next terminal passes a test, and stays
+pub passed : {free : ℕ} {r : Rule} {out : Outcome} {test : Terminal → Bool} {xs ys : List Token} → shows test (view xs) ≡ true → ys ≡ xs
+    → Runs Tutorial free r (view ys) out → Runs Tutorial free (next test r) (view xs) out
+passed {free} {r} {out} {test} {xs} {ys} s e h = runs_next s (subst (λ (x : List Token). Runs Tutorial free r (view x) out) e h)
+
+-- and opens a form
+pub opened_next : {free : ℕ} {r : Rule} {out : Outcome} {test : Terminal → Bool} {xs ys : List Token} → shows test (view xs) ≡ true → 0 < free → ys ≡ xs
+    → Runs Tutorial free r (view ys) out → Runs Tutorial free (opens_next test r) (view xs) out
+opened_next {free} {r} {out} {test} {xs} {ys} s z e h = runs_opens_next s z (subst (λ (x : List Token). Runs Tutorial free r (view x) out) e h)
+
+-- a further bind
+pub binds_on : {free : ℕ} {ts : List Terminal} {out : Outcome} (k : Kind) (m : Separator) (left : ℕ) (bs : List Written) (h : ℕ) → sees_bind m left ts ≡ true
+    → Runs Tutorial free (rule Tutorial (Prod.binds_more k m (left - 1) bs h)) ts out → Runs Tutorial free (rule Tutorial (choose (Sort.BindsTail k m left bs h) ts)) ts out
+binds_on k m zero bs h e r = absurd (false≢true e)
+binds_on {free} {ts} {out} k m (suc left) bs h e r =
+    let p : choose (Sort.BindsTail k m (suc left) bs h) ts ≡ Prod.binds_more k m left bs h = rw e refl in
+    let i : suc left - 1 ≡ left = omega arith in
+    chosen _ _ p (subst (λ (n : ℕ). Runs Tutorial free (rule Tutorial (Prod.binds_more k m n bs h)) ts out) i r)
+
+-- no further bind
+pub binds_off : {free : ℕ} {ts : List Terminal} {out : Outcome} (k : Kind) (m : Separator) (left : ℕ) (bs : List Written) (h : ℕ) → sees_bind m left ts ≡ false
+    → Runs Tutorial free (last (Sort.Body k bs h)) ts out → Runs Tutorial free (rule Tutorial (choose (Sort.BindsTail k m left bs h) ts)) ts out
+binds_off k m zero bs h e r = r
+binds_off k m (suc left) bs h e r = rw e r
+
+-- an operand, and what follows it on a level
+pub chain : {free : ℕ} {ts us : List Terminal} {out : Outcome} (l : Level) (a : Spelt) → Runs Tutorial free (rule Tutorial (choose (operand_of l) ts)) ts (read a us)
+    → Runs Tutorial free (last (tail_of l a)) us out → Runs Tutorial free (rule Tutorial (choose (sort_of l) ts)) ts out
+chain levels.Or a g h = runs_at g h
+chain levels.And a g h = runs_at g h
+chain levels.Eq a g h = runs_at g h
+chain levels.Cmp a g h = runs_at g h
+chain levels.Sum a g h = runs_at g h
+chain levels.Mul a g h = runs_at g h
+
+-- no operand
+pub no_chain : {free : ℕ} {ts us : List Terminal} {e : Fault} (l : Level) → Runs Tutorial free (rule Tutorial (choose (operand_of l) ts)) ts (fault e us)
+    → Runs Tutorial free (rule Tutorial (choose (sort_of l) ts)) ts (fault e us)
+no_chain levels.Or g = no_at g
+no_chain levels.And g = no_at g
+no_chain levels.Eq g = no_at g
+no_chain levels.Cmp g = no_at g
+no_chain levels.Sum g = no_at g
+no_chain levels.Mul g = no_at g
+
+-- an operand of a level
+pub operand_as : {free : ℕ} {ts : List Terminal} {out : Outcome} (l : Level) (o : Option Level) → o ≡ inner_of l
+    → Runs Tutorial free (rule Tutorial (choose (level_or_prefix o) ts)) ts out → Runs Tutorial free (rule Tutorial (choose (operand_of l) ts)) ts out
+operand_as {free} {ts} {out} l o e h = subst (λ (x : Option Level). Runs Tutorial free (rule Tutorial (choose (level_or_prefix x) ts)) ts out) e h
+
+-- an operand where no level is tighter
+pub prefix_as : {free : ℕ} {ts : List Terminal} {out : Outcome} (o : Option Level) → o ≡ None
+    → Runs Tutorial free (rule Tutorial (choose Sort.Pre ts)) ts out → Runs Tutorial free (rule Tutorial (choose (level_or_prefix o) ts)) ts out
+prefix_as {free} {ts} {out} o e h = subst (λ (x : Option Level). Runs Tutorial free (rule Tutorial (choose (level_or_prefix x) ts)) ts out) (sym e) h

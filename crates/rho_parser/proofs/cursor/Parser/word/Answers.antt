@@ -1,6 +1,0 @@
-use Rattle.std.proofs.Common.{refl, inl, arith}
-use Rattle.rho_parser.proofs.Fronts.{no_word}
-use Rattle.rho_parser.proofs.cursor.Parser.word.Goals as goal
-
-pub returns-in_default-kind : goal.returns-in_default-kind
-returns-in_default-kind c = record { reads = inl (record { no = no_word _ _ _ c.in-Some.ensures.cases c.in_default-kind.not-Word; is = refl; same = refl }); shorter = omega arith }

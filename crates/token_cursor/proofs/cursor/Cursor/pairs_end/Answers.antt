@@ -1,0 +1,10 @@
+use Rattle.grammar.specs.declared.mark.Mark.TheVariants.{Comma, Ellipsis}
+use Rattle.grammar.specs.Terminals.{sees}
+use Rattle.token_cursor.specs.Meaning.{view}
+use Rattle.std.proofs.Common.{◌≡◌, sym, ◌∙◌, true}
+use Rattle.grammar.specs.Descent.{runs_sign}
+use Rattle.token_cursor.proofs.Steps.{pairs_closed, rest_next}
+use Rattle.token_cursor.proofs.cursor.Cursor.pairs_end.Goals as goal
+
+pub returns-then-sees-2-clause-reads : goal.returns-then-sees-2-clause-reads
+returns-then-sees-2-clause-reads c = λ free. let b : sees Comma (view c.args.self.now.rest.now) ≡ true = sym c.sees-2.ensures ∙ c.if-sees-2.true in let e : sees Ellipsis (view c.expect.new.self.rest.now) ≡ true = rest_next c.requires.member c.in_ok-expect.ensures.reads in rw b (runs_sign c.in_ok-expect.ensures.reads (pairs_closed _ _ e (c.pairs_rest-then-sees-2.ensures.reads free)))

@@ -1,0 +1,8 @@
+use Rattle.grammar.specs.declared.dialect.Dialect.TheVariants.{Tutorial}
+use Rattle.grammar.specs.Grammar.{rule}
+use Rattle.grammar.specs.Productions.{Prod}
+use Rattle.token_cursor.proofs.Steps.{rows}
+use Rattle.token_cursor.proofs.cursor.Cursor.rest_map_pat.Goals as goal
+
+pub returns-clause-reads : goal.returns-clause-reads
+returns-clause-reads c = λ free. rows (λ ps h. rule Tutorial (Prod.ppairs_rest ps h)) _ _ _ _ c.no_pairs.ensures.tree c.no_pairs.ensures.height (c.pairs_rest.ensures.reads free)

@@ -1,0 +1,16 @@
+use Rattle.grammar.specs.Descent.{runs_sign, no_sign, runs_at, no_at}
+use Rattle.token_cursor.specs.Reading.{of_sequence}
+use Rattle.token_cursor.proofs.Steps.{ends, exit}
+use Rattle.token_cursor.proofs.cursor.Cursor.sequence_rest.Goals as goal
+
+pub returns-in_err-expect-clause-reads : goal.returns-in_err-expect-clause-reads
+returns-in_err-expect-clause-reads c = λ free. exit (of_sequence) _ _ c.from_residual.ensures.1 (no_sign c.in_err-expect.ensures.reads)
+
+pub returns-in_err-rest-clause-reads : goal.returns-in_err-rest-clause-reads
+returns-in_err-rest-clause-reads c = λ free. exit (of_sequence) _ _ c.from_residual-in_err-rest.ensures.1 (runs_sign c.in_ok-expect.ensures.reads (no_at (c.in_err-rest.ensures.reads _)))
+
+pub returns-in_err-expect_closing-clause-reads : goal.returns-in_err-expect_closing-clause-reads
+returns-in_err-expect_closing-clause-reads c = λ free. exit (of_sequence) _ _ c.from_residual-in_err-expect_closing.ensures.1 (runs_sign c.in_ok-expect.ensures.reads (runs_at (c.in_ok-rest.ensures.reads _) (no_sign c.in_err-expect_closing.ensures.reads)))
+
+pub returns-clause-reads : goal.returns-clause-reads
+returns-clause-reads c = λ free. runs_sign c.in_ok-expect.ensures.reads (runs_at (c.in_ok-rest.ensures.reads _) (runs_sign c.in_ok-expect_closing.ensures.reads (ends _ _ c.sequence.ensures.tree c.sequence.ensures.height)))

@@ -1,0 +1,6 @@
+use Rattle.std.proofs.Common.{refl, inl, arith}
+use Rattle.token_cursor.proofs.Fronts.{no_string}
+use Rattle.token_cursor.proofs.cursor.Cursor.string.Goals as goal
+
+pub returns-in_default-kind : goal.returns-in_default-kind
+returns-in_default-kind c = record { reads = inl (record { no = no_string _ _ _ c.in-Some.ensures.cases c.in_default-kind.not-Str; is = refl; same = refl }); shorter = omega arith }

@@ -1,0 +1,460 @@
+//! The forms that hold no process: names, ground values, remainders and declarations.
+ghost use Rattle.calculus.specs.Meaning.{declared, name_pat_written, pat_written};
+ghost use Rattle.grammar.specs.Choice.{choose};
+ghost use Rattle.grammar.specs.Grammar.{rule};
+ghost use Rattle.grammar.specs.Productions.{Prod};
+ghost use Rattle.grammar.specs.Rules.{Sort, last};
+ghost use Rattle.grammar.specs.Values.{Side};
+ghost use Rattle.grammar.specs.declared.dialect.Dialect.TheVariants.{Tutorial};
+ghost use Rattle.token_cursor.specs.Meaning.{view};
+ghost use Rattle.token_cursor.specs.Reading.{Gives, Makes, Turns, bracket_of, of_ground, of_left, of_name, of_name_pat, of_pat, of_proc, of_rest, of_sequence, pat_pairs_written, sees_member};
+ghost use Rattle.std.specs.Prelude.{◌≡◌, ◌+◌, ◌<◌, ◌≤◌, ◌^◌, ◌++◌, ◌∷◌, [], IfOk, List, MatchResult, Option, ℕ, false, length, map, option_map, string_bytes};
+
+use crate::cursor::Cursor;
+use crate::part::{Bracket, Left, Part, Sequence};
+use crate::{pattern_forms, process_forms};
+use calculus::{Decl, Ground, Name, NamePat, Pat, Proc, Rest, Simple};
+use grammar::{Fault, Mark};
+
+/// The greatest integer that stands without a `-`.
+const GREATEST: u64 = 9_223_372_036_854_775_807;
+
+impl<'a> Cursor<'a> {
+    /// A variable.
+    pub fn atom_word(&mut self) -> Result<Part<Proc>, Fault>
+        ensures reads { (free : ℕ) → Makes free (rule Tutorial Prod.atom_word) of_proc (view self.old.rest.now) result (view self.new.rest.now) }
+        ensures height { IfOk result (λ p. p.height ≡ 0) }
+        ensures shorter { length self.new.rest.now ≤ length self.old.rest.now }
+    {
+        let name = self.word()?;
+        Ok(process_forms::variable(name))
+    }
+
+    /// `Nil`
+    pub fn atom_nil(&mut self) -> Result<Part<Proc>, Fault>
+        ensures reads { (free : ℕ) → Makes free (rule Tutorial Prod.atom_nil) of_proc (view self.old.rest.now) result (view self.new.rest.now) }
+        ensures height { IfOk result (λ p. p.height ≡ 0) }
+        ensures shorter { length self.new.rest.now ≤ length self.old.rest.now }
+    {
+        self.expect(Mark::Nil)?;
+        Ok(process_forms::nil(self.alloc))
+    }
+
+    /// A ground value.
+    pub fn atom_ground(&mut self) -> Result<Part<Proc>, Fault>
+        ensures reads { (free : ℕ) → Makes free (rule Tutorial Prod.atom_ground) of_proc (view self.old.rest.now) result (view self.new.rest.now) }
+        ensures height { IfOk result (λ p. p.height ≡ 0) }
+        ensures shorter { length self.new.rest.now ≤ length self.old.rest.now }
+    {
+        let value = self.ground()?;
+        Ok(process_forms::ground(value))
+    }
+
+    /// A variable as a name.
+    pub fn name_word(&mut self) -> Result<Part<Name>, Fault>
+        ensures reads { (free : ℕ) → Makes free (rule Tutorial Prod.name_word) of_name (view self.old.rest.now) result (view self.new.rest.now) }
+        ensures height { IfOk result (λ p. p.height ≡ 0) }
+        ensures shorter { length self.new.rest.now ≤ length self.old.rest.now }
+    {
+        let name = self.word()?;
+        Ok(process_forms::channel(name))
+    }
+
+    /// The process that a variable quotes.
+    pub fn dropped_word(&mut self) -> Result<Part<Proc>, Fault>
+        ensures reads { (free : ℕ) → Makes free (rule Tutorial Prod.dropped_word) of_proc (view self.old.rest.now) result (view self.new.rest.now) }
+        ensures height { IfOk result (λ p. p.height ≡ 0) }
+        ensures shorter { length self.new.rest.now ≤ length self.old.rest.now }
+    {
+        let name = self.word()?;
+        Ok(process_forms::dropped_word(name))
+    }
+
+    /// The empty map.
+    pub fn empty_map(&mut self) -> Result<Part<Proc>, Fault>
+        ensures reads { (free : ℕ) → Makes free (rule Tutorial Prod.brace_empty) of_proc (view self.old.rest.now) result (view self.new.rest.now) }
+        ensures height { IfOk result (λ p. p.height ≡ 1) }
+        ensures shorter { length self.new.rest.now ≤ length self.old.rest.now }
+    {
+        self.expect(Mark::CloseBrace)?;
+        Ok(process_forms::empty_map(self.alloc))
+    }
+
+    /// A variable that is bound here.
+    pub fn pat_word(&mut self) -> Result<Part<Pat>, Fault>
+        ensures reads { (free : ℕ) → Makes free (rule Tutorial Prod.patom_word) of_pat (view self.old.rest.now) result (view self.new.rest.now) }
+        ensures height { IfOk result (λ p. p.height ≡ 0) }
+        ensures shorter { length self.new.rest.now ≤ length self.old.rest.now }
+    {
+        let name = self.word()?;
+        Ok(pattern_forms::bound(name))
+    }
+
+    /// `_`
+    pub fn pat_any(&mut self) -> Result<Part<Pat>, Fault>
+        ensures reads { (free : ℕ) → Makes free (rule Tutorial Prod.patom_any) of_pat (view self.old.rest.now) result (view self.new.rest.now) }
+        ensures height { IfOk result (λ p. p.height ≡ 0) }
+        ensures shorter { length self.new.rest.now ≤ length self.old.rest.now }
+    {
+        self.expect(Mark::Underscore)?;
+        Ok(pattern_forms::any())
+    }
+
+    /// The pattern `Nil`.
+    pub fn pat_nil(&mut self) -> Result<Part<Pat>, Fault>
+        ensures reads { (free : ℕ) → Makes free (rule Tutorial Prod.patom_nil) of_pat (view self.old.rest.now) result (view self.new.rest.now) }
+        ensures height { IfOk result (λ p. p.height ≡ 0) }
+        ensures shorter { length self.new.rest.now ≤ length self.old.rest.now }
+    {
+        self.expect(Mark::Nil)?;
+        Ok(pattern_forms::nil_pat(self.alloc))
+    }
+
+    /// A ground value as a pattern.
+    pub fn pat_ground(&mut self) -> Result<Part<Pat>, Fault>
+        ensures reads { (free : ℕ) → Makes free (rule Tutorial Prod.patom_ground) of_pat (view self.old.rest.now) result (view self.new.rest.now) }
+        ensures height { IfOk result (λ p. p.height ≡ 0) }
+        ensures shorter { length self.new.rest.now ≤ length self.old.rest.now }
+    {
+        let value = self.ground()?;
+        Ok(pattern_forms::ground_pat(value))
+    }
+
+    /// A simple type.
+    pub fn pat_type(&mut self, simple: Simple) -> Result<Part<Pat>, Fault>
+        ensures reads { (free : ℕ) → Makes free (rule Tutorial (Prod.patom_type simple)) of_pat (view self.old.rest.now) result (view self.new.rest.now) }
+        ensures height { IfOk result (λ p. p.height ≡ 0) }
+        ensures shorter { length self.new.rest.now ≤ length self.old.rest.now }
+    {
+        self.expect_type(simple)?;
+        Ok(pattern_forms::simple(simple))
+    }
+
+    /// Any name.
+    pub fn name_any(&mut self) -> Result<Part<NamePat>, Fault>
+        ensures reads { (free : ℕ) → Makes free (rule Tutorial Prod.pname_any) of_name_pat (view self.old.rest.now) result (view self.new.rest.now) }
+        ensures height { IfOk result (λ p. p.height ≡ 0) }
+        ensures shorter { length self.new.rest.now ≤ length self.old.rest.now }
+    {
+        self.expect(Mark::Underscore)?;
+        Ok(pattern_forms::any_channel())
+    }
+
+    /// A name that is bound here.
+    pub fn name_bound(&mut self) -> Result<Part<NamePat>, Fault>
+        ensures reads { (free : ℕ) → Makes free (rule Tutorial Prod.pname_word) of_name_pat (view self.old.rest.now) result (view self.new.rest.now) }
+        ensures height { IfOk result (λ p. p.height ≡ 0) }
+        ensures shorter { length self.new.rest.now ≤ length self.old.rest.now }
+    {
+        let name = self.word()?;
+        Ok(pattern_forms::bound_channel(name))
+    }
+
+    /// `=x`
+    pub fn same_word(&mut self) -> Result<Part<Pat>, Fault>
+        ensures reads { (free : ℕ) → Makes free (rule Tutorial Prod.same_word) of_pat (view self.old.rest.now) result (view self.new.rest.now) }
+        ensures height { IfOk result (λ p. p.height ≡ 1) }
+        ensures shorter { length self.new.rest.now ≤ length self.old.rest.now }
+    {
+        let name = self.word()?;
+        let body = process_forms::variable(name);
+        pattern_forms::same(self.alloc, body)
+    }
+
+    /// `=*x`
+    pub fn same_drop(&mut self) -> Result<Part<Pat>, Fault>
+        ensures reads { (free : ℕ) → Makes free (rule Tutorial Prod.same_drop) of_pat (view self.old.rest.now) result (view self.new.rest.now) }
+        ensures height { IfOk result (λ p. p.height ≡ 1) }
+        ensures shorter { length self.new.rest.now ≤ length self.old.rest.now }
+    {
+        self.expect(Mark::Star)?;
+        let name = self.word()?;
+        let body = process_forms::dropped_word(name);
+        pattern_forms::same(self.alloc, body)
+    }
+
+    /// "..." "@" and a remainder, after these patterns.
+    pub fn left_rest(&mut self, pats: Part<Vec<NamePat>>) -> Result<Part<Left>, Fault>
+        ensures reads { (free : ℕ) → Makes free (rule Tutorial (Prod.left_end_rest (map name_pat_written pats.value.items) pats.height)) of_left (view self.old.rest.now) result (view self.new.rest.now) }
+        ensures height { IfOk result (λ p. p.height ≡ pats.height) }
+        ensures shorter { length self.new.rest.now ≤ length self.old.rest.now }
+    {
+        self.expect(Mark::Ellipsis)?;
+        self.expect(Mark::At)?;
+        let rest = self.remainder()?;
+        Ok(pattern_forms::left(pats, rest))
+    }
+
+    /// No pattern and no remainder.
+    pub fn sequence_none(&mut self, bracket: Bracket) -> Result<Part<Sequence>, Fault>
+        ensures reads { (free : ℕ) → Makes free (rule Tutorial (Prod.seq_none (bracket_of bracket))) of_sequence (view self.old.rest.now) result (view self.new.rest.now) }
+        ensures height { IfOk result (λ p. p.height ≡ 0) }
+        ensures shorter { length self.new.rest.now ≤ length self.old.rest.now }
+    {
+        self.expect_closing(bracket)?;
+        let pats = pattern_forms::no_pats(self.alloc);
+        Ok(pattern_forms::sequence(pats, Rest::No))
+    }
+
+    /// "..." and a remainder, after these patterns.
+    pub fn sequence_rest(
+        &mut self,
+        bracket: Bracket,
+        pats: Part<Vec<Pat>>,
+    ) -> Result<Part<Sequence>, Fault>
+        ensures reads { (free : ℕ) → Makes free (rule Tutorial (Prod.seq_end_rest (bracket_of bracket) (map pat_written pats.value.items) pats.height)) of_sequence (view self.old.rest.now) result (view self.new.rest.now) }
+        ensures height { IfOk result (λ p. p.height ≡ pats.height) }
+        ensures shorter { length self.new.rest.now ≤ length self.old.rest.now }
+    {
+        self.expect(Mark::Ellipsis)?;
+        let rest = self.remainder()?;
+        self.expect_closing(bracket)?;
+        Ok(pattern_forms::sequence(pats, rest))
+    }
+
+    /// No remainder, after these patterns.
+    pub fn sequence_close(
+        &mut self,
+        bracket: Bracket,
+        pats: Part<Vec<Pat>>,
+    ) -> Result<Part<Sequence>, Fault>
+        ensures reads { (free : ℕ) → Makes free (rule Tutorial (Prod.seq_end (bracket_of bracket) (map pat_written pats.value.items) pats.height)) of_sequence (view self.old.rest.now) result (view self.new.rest.now) }
+        ensures height { IfOk result (λ p. p.height ≡ pats.height) }
+        ensures shorter { length self.new.rest.now ≤ length self.old.rest.now }
+    {
+        self.expect_closing(bracket)?;
+        Ok(pattern_forms::sequence(pats, Rest::No))
+    }
+
+    /// "..." and a remainder, after these pairs.
+    pub fn pairs_rest(&mut self, pairs: Part<Vec<(Pat, Pat)>>) -> Result<Part<Pat>, Fault>
+        requires { pairs.height + 1 < 2 ^ 32 }
+        ensures reads { (free : ℕ) → Makes free (rule Tutorial (Prod.ppairs_rest (pat_pairs_written pairs.value.items) pairs.height)) of_pat (view self.old.rest.now) result (view self.new.rest.now) }
+        ensures height { IfOk result (λ p. p.height ≡ pairs.height + 1) }
+        ensures shorter { length self.new.rest.now ≤ length self.old.rest.now }
+    {
+        self.expect(Mark::Ellipsis)?;
+        let rest = self.remainder()?;
+        self.expect(Mark::CloseBrace)?;
+        Ok(pattern_forms::map_pat(pairs, rest))
+    }
+
+    /// No remainder, after these pairs.
+    pub fn pairs_close(&mut self, pairs: Part<Vec<(Pat, Pat)>>) -> Result<Part<Pat>, Fault>
+        requires { pairs.height + 1 < 2 ^ 32 }
+        ensures reads { (free : ℕ) → Makes free (rule Tutorial (Prod.ppairs_end (pat_pairs_written pairs.value.items) pairs.height)) of_pat (view self.old.rest.now) result (view self.new.rest.now) }
+        ensures height { IfOk result (λ p. p.height ≡ pairs.height + 1) }
+        ensures shorter { length self.new.rest.now ≤ length self.old.rest.now }
+    {
+        self.expect(Mark::CloseBrace)?;
+        Ok(pattern_forms::map_pat(pairs, Rest::No))
+    }
+
+    /// The remainder that may follow these patterns.
+    pub fn left_end(&mut self, pats: Part<Vec<NamePat>>) -> Result<Part<Left>, Fault>
+        requires member { sees_member (view self.old.rest.now) ≡ false }
+        ensures reads { (free : ℕ) → Gives free (Sort.LeftTail (map name_pat_written pats.value.items) pats.height) of_left (view self.old.rest.now) result (view self.new.rest.now) }
+        ensures height { IfOk result (λ p. p.height ≡ pats.height) }
+        ensures shorter { length self.new.rest.now ≤ length self.old.rest.now }
+    {
+        if self.sees(Mark::Ellipsis) {
+            return self.left_rest(pats);
+        }
+        if self.sees(Mark::Comma) {
+            self.expect(Mark::Comma)?;
+            return self.left_rest(pats);
+        }
+        Ok(pattern_forms::left(pats, Rest::No))
+    }
+
+    /// The remainder that may follow these patterns.
+    pub fn sequence_end(
+        &mut self,
+        bracket: Bracket,
+        pats: Part<Vec<Pat>>,
+    ) -> Result<Part<Sequence>, Fault>
+        requires member { sees_member (view self.old.rest.now) ≡ false }
+        ensures reads { (free : ℕ) → Gives free (Sort.SeqTail (bracket_of bracket) (map pat_written pats.value.items) pats.height) of_sequence (view self.old.rest.now) result (view self.new.rest.now) }
+        ensures height { IfOk result (λ p. p.height ≡ pats.height) }
+        ensures shorter { length self.new.rest.now ≤ length self.old.rest.now }
+    {
+        if self.sees(Mark::Ellipsis) {
+            return self.sequence_rest(bracket, pats);
+        }
+        if self.sees(Mark::Comma) {
+            self.expect(Mark::Comma)?;
+            return self.sequence_rest(bracket, pats);
+        }
+        self.sequence_close(bracket, pats)
+    }
+
+    /// The remainder that may follow these pairs.
+    pub fn pairs_end(&mut self, pairs: Part<Vec<(Pat, Pat)>>) -> Result<Part<Pat>, Fault>
+        requires member { sees_member (view self.old.rest.now) ≡ false }
+        requires room { pairs.height + 1 < 2 ^ 32 }
+        ensures reads { (free : ℕ) → Gives free (Sort.PPairs (pat_pairs_written pairs.value.items) pairs.height) of_pat (view self.old.rest.now) result (view self.new.rest.now) }
+        ensures height { IfOk result (λ p. p.height ≡ pairs.height + 1) }
+        ensures shorter { length self.new.rest.now ≤ length self.old.rest.now }
+    {
+        if self.sees(Mark::Ellipsis) {
+            return self.pairs_rest(pairs);
+        }
+        if self.sees(Mark::Comma) {
+            self.expect(Mark::Comma)?;
+            return self.pairs_rest(pairs);
+        }
+        self.pairs_close(pairs)
+    }
+
+    /// The empty map of patterns.
+    pub fn empty_map_pat(&mut self) -> Result<Part<Pat>, Fault>
+        ensures reads { (free : ℕ) → Makes free (rule Tutorial Prod.pbrace_empty) of_pat (view self.old.rest.now) result (view self.new.rest.now) }
+        ensures height { IfOk result (λ p. p.height ≡ 1) }
+        ensures shorter { length self.new.rest.now ≤ length self.old.rest.now }
+    {
+        self.pairs_close(pattern_forms::no_pairs(self.alloc))
+    }
+
+    /// A map of patterns that is a remainder.
+    pub fn rest_map_pat(&mut self) -> Result<Part<Pat>, Fault>
+        ensures reads { (free : ℕ) → Makes free (rule Tutorial Prod.pbrace_rest) of_pat (view self.old.rest.now) result (view self.new.rest.now) }
+        ensures height { IfOk result (λ p. p.height ≡ 1) }
+        ensures shorter { length self.new.rest.now ≤ length self.old.rest.now }
+    {
+        self.pairs_rest(pattern_forms::no_pairs(self.alloc))
+    }
+
+    /// Remainder ::= Word | "_"
+    pub fn remainder(&mut self) -> Result<Rest, Fault>
+        ensures reads { (free : ℕ) → Gives free Sort.Remainder of_rest (view self.old.rest.now) result (view self.new.rest.now) }
+        ensures shorter { length self.new.rest.now ≤ length self.old.rest.now }
+    {
+        if self.sees(Mark::Underscore) {
+            self.expect(Mark::Underscore)?;
+            return Ok(Rest::Wild);
+        }
+        let name = self.word()?;
+        Ok(Rest::Var(name))
+    }
+
+    /// `true`
+    fn truth(&mut self) -> Result<Ground, Fault>
+        ensures reads { (side : Side) (free : ℕ) → Makes free (rule Tutorial (Prod.ground_true side)) (of_ground side) (view self.old.rest.now) result (view self.new.rest.now) }
+        ensures shorter { length self.new.rest.now ≤ length self.old.rest.now }
+    {
+        self.expect(Mark::True)?;
+        Ok(Ground::Bool(true))
+    }
+
+    /// `false`
+    fn falsity(&mut self) -> Result<Ground, Fault>
+        ensures reads { (side : Side) (free : ℕ) → Makes free (rule Tutorial (Prod.ground_false side)) (of_ground side) (view self.old.rest.now) result (view self.new.rest.now) }
+        ensures shorter { length self.new.rest.now ≤ length self.old.rest.now }
+    {
+        self.expect(Mark::False)?;
+        Ok(Ground::Bool(false))
+    }
+
+    /// An integer of at most 2^63 - 1.
+    fn positive(&mut self) -> Result<Ground, Fault>
+        ensures reads { (side : Side) (free : ℕ) → Makes free (rule Tutorial (Prod.ground_int side)) (of_ground side) (view self.old.rest.now) result (view self.new.rest.now) }
+        ensures shorter { length self.new.rest.now ≤ length self.old.rest.now }
+    {
+        let value = self.integer(GREATEST)?;
+        Ok(process_forms::positive(value))
+    }
+
+    /// A `-` and an integer of at most 2^63.
+    fn negative(&mut self) -> Result<Ground, Fault>
+        ensures reads { (side : Side) (free : ℕ) → Makes free (rule Tutorial (Prod.ground_minus side)) (of_ground side) (view self.old.rest.now) result (view self.new.rest.now) }
+        ensures shorter { length self.new.rest.now ≤ length self.old.rest.now }
+    {
+        self.expect(Mark::Minus)?;
+        let value = self.integer(GREATEST + 1)?;
+        Ok(process_forms::negative(value))
+    }
+
+    /// A string.
+    fn string_value(&mut self) -> Result<Ground, Fault>
+        ensures reads { (side : Side) (free : ℕ) → Makes free (rule Tutorial (Prod.ground_string side)) (of_ground side) (view self.old.rest.now) result (view self.new.rest.now) }
+        ensures shorter { length self.new.rest.now ≤ length self.old.rest.now }
+    {
+        let value = self.string()?;
+        Ok(Ground::Str(value))
+    }
+
+    /// A URI.
+    fn uri_value(&mut self) -> Result<Ground, Fault>
+        ensures reads { (side : Side) (free : ℕ) → Makes free (rule Tutorial (Prod.ground_uri side)) (of_ground side) (view self.old.rest.now) result (view self.new.rest.now) }
+        ensures shorter { length self.new.rest.now ≤ length self.old.rest.now }
+    {
+        let value = self.uri()?;
+        Ok(Ground::Uri(value))
+    }
+
+    /// Ground ::= "true" | "false" | Int | "-" Int | Str | Uri, where 2^63 stands only after "-"
+    pub fn ground(&mut self) -> Result<Ground, Fault>
+        ensures reads { (side : Side) (free : ℕ) → Gives free (Sort.Ground side) (of_ground side) (view self.old.rest.now) result (view self.new.rest.now) }
+        ensures shorter { length self.new.rest.now ≤ length self.old.rest.now }
+    {
+        if self.sees(Mark::True) {
+            self.truth()
+        } else if self.sees(Mark::False) {
+            self.falsity()
+        } else if self.sees(Mark::Minus) {
+            self.negative()
+        } else if self.sees_string() {
+            self.string_value()
+        } else if self.sees_uri() {
+            self.uri_value()
+        } else {
+            self.positive()
+        }
+    }
+
+    /// The URI that may follow a declared name.
+    fn declared_uri(&mut self) -> Result<Option<String>, Fault>
+        ensures reads { (free : ℕ) (ds : List (List ℕ × Option (List ℕ))) (w : List ℕ) → Turns free (rule Tutorial (choose (Sort.DeclUri ds w) (view self.old.rest.now))) (λ u. last (Sort.DeclTail (ds ++ ((w, option_map string_bytes u) ∷ [])))) (view self.old.rest.now) result (view self.new.rest.now) }
+        ensures shorter { length self.new.rest.now ≤ length self.old.rest.now }
+    {
+        if !self.sees(Mark::Open) {
+            return Ok(None);
+        }
+        self.expect(Mark::Open)?;
+        let uri = self.uri()?;
+        self.expect(Mark::Close)?;
+        Ok(Some(uri))
+    }
+
+    /// Decl ::= Word [ "(" Uri ")" ], after these names
+    fn declaration(&mut self, names: Vec<Decl>) -> Result<Vec<Decl>, Fault>
+        ensures reads { (free : ℕ) → Turns free (rule Tutorial (Prod.decl (map declared names.items))) (λ ds. last (Sort.DeclTail (map declared ds.items))) (view self.old.rest.now) result (view self.new.rest.now) }
+        ensures shorter { MatchResult result (λ _. length self.new.rest.now < length self.old.rest.now) (λ _. length self.new.rest.now ≤ length self.old.rest.now) }
+    {
+        let name = self.word()?;
+        let uri = self.declared_uri()?;
+        process_forms::declare(names, Decl { name, uri })
+    }
+
+    /// The names of a `new`.
+    pub fn declarations(&mut self) -> Result<Vec<Decl>, Fault>
+        ensures reads { (free : ℕ) → Turns free (last (Sort.Decl [])) (λ ds. rule Tutorial (Prod.decl_body (map declared ds.items))) (view self.old.rest.now) result (view self.new.rest.now) }
+        ensures shorter { length self.new.rest.now ≤ length self.old.rest.now }
+    {
+        let none = process_forms::no_names(self.alloc);
+        let mut names = self.declaration(none)?;
+        while self.sees(Mark::Comma) {
+            names = self.next_declaration(names)?;
+        }
+        Ok(names)
+    }
+
+    /// A comma and one more name.
+    fn next_declaration(&mut self, names: Vec<Decl>) -> Result<Vec<Decl>, Fault>
+        ensures reads { (free : ℕ) → Turns free (rule Tutorial (Prod.decl_more (map declared names.items))) (λ ds. last (Sort.DeclTail (map declared ds.items))) (view self.old.rest.now) result (view self.new.rest.now) }
+        ensures shorter { MatchResult result (λ _. length self.new.rest.now < length self.old.rest.now) (λ _. length self.new.rest.now ≤ length self.old.rest.now) }
+    {
+        self.expect(Mark::Comma)?;
+        self.declaration(names)
+    }
+}

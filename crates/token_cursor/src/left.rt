@@ -1,0 +1,51 @@
+//! The left side of a bind that has no patterns.
+ghost use Rattle.grammar.specs.Choice.{sees_name_pattern};
+ghost use Rattle.grammar.specs.Grammar.{rule};
+ghost use Rattle.grammar.specs.Productions.{Prod};
+ghost use Rattle.grammar.specs.Rules.{Sort};
+ghost use Rattle.grammar.specs.declared.dialect.Dialect.TheVariants.{Tutorial};
+ghost use Rattle.token_cursor.specs.Meaning.{view};
+ghost use Rattle.token_cursor.specs.Reading.{Gives, Makes, of_left};
+ghost use Rattle.std.specs.Prelude.{◌≡◌, ◌<◌, ◌≤◌, IfOk, ℕ, false, length};
+
+use crate::cursor::Cursor;
+use crate::part::{Left, Part};
+use crate::pattern_forms;
+use calculus::Rest;
+use grammar::{Fault, Mark};
+
+impl<'a> Cursor<'a> {
+    /// A remainder or nothing, where no pattern stands.
+    pub fn left_alone(&mut self) -> Result<Part<Left>, Fault>
+        requires { sees_name_pattern (view self.old.rest.now) ≡ false }
+        ensures reads { (free : ℕ) → Gives free Sort.Left of_left (view self.old.rest.now) result (view self.new.rest.now) }
+        ensures height { IfOk result (λ p. p.height ≡ 0) }
+        ensures shorter { length self.new.rest.now ≤ length self.old.rest.now }
+    {
+        if self.sees(Mark::Ellipsis) {
+            self.left_only_rest()
+        } else {
+            self.left_none()
+        }
+    }
+
+    /// No pattern and no remainder.
+    fn left_none(&mut self) -> Result<Part<Left>, Fault>
+        ensures reads { (free : ℕ) → Makes free (rule Tutorial Prod.left_none) of_left (view self.old.rest.now) result (view self.new.rest.now) }
+        ensures height { IfOk result (λ p. p.height ≡ 0) }
+        ensures shorter { length self.new.rest.now ≤ length self.old.rest.now }
+    {
+        let none = pattern_forms::no_name_pats(self.alloc);
+        Ok(pattern_forms::left(none, Rest::No))
+    }
+
+    /// A remainder without patterns.
+    fn left_only_rest(&mut self) -> Result<Part<Left>, Fault>
+        ensures reads { (free : ℕ) → Makes free (rule Tutorial Prod.left_rest) of_left (view self.old.rest.now) result (view self.new.rest.now) }
+        ensures height { IfOk result (λ p. p.height ≡ 0) }
+        ensures shorter { length self.new.rest.now ≤ length self.old.rest.now }
+    {
+        let none = pattern_forms::no_name_pats(self.alloc);
+        self.left_rest(none)
+    }
+}
