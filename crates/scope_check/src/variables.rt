@@ -5,6 +5,7 @@ ghost use Rattle.calculus.specs.Bare.{index};
 ghost use Rattle.scope.specs.Binding.{sense_of};
 ghost use Rattle.scope_check.specs.Senses.{sense};
 
+use bound_names::Names;
 use std::alloc::{AllocError, Global};
 use std::marker::Model;
 
@@ -13,13 +14,6 @@ use std::marker::Model;
 pub(crate) enum Role {
     Process,
     Name,
-}
-
-// A variable.
-#[derive(Drop)]
-struct Bound {
-    name: String,
-    role: Role,
 }
 
 /// What a name stands for: the number of variables that are bound after it, and its role.
@@ -32,11 +26,13 @@ pub(crate) struct Found {
 /// Variables in scope, seen as their names and senses, the last one bound first.
 #[derive(Drop)]
 pub(crate) struct Variables {
-    bound: Vec<Bound>,
+    names: Names,
+    // What each name stands for, the first one bound first.
+    roles: Vec<Role>,
 }
 
 impl Model for Variables {
-    ghost use Rattle.std.specs.Prelude.{◌<◌, ◌^◌, length};
+    ghost use Rattle.std.specs.Prelude.{◌≡◌, length};
     ghost use Rattle.scope.specs.Binding.{Scope};
     ghost use Rattle.scope_check.specs.Senses.{scope_code};
 
@@ -46,9 +42,9 @@ impl Model for Variables {
 
     ghost use Rattle.scope_check.specs.Bound.{scope_of};
 
-    ghost view = { λ v. scope_of v.bound.items };
+    ghost view = { λ v. scope_of v.names v.roles.items };
 
-    ghost invariant = { λ v. length v.bound.items < 2 ^ 32 };
+    ghost invariant = { λ v. length v.names ≡ length v.roles.items };
 }
 
 impl Variables {
@@ -56,15 +52,17 @@ impl Variables {
     pub fn new(alloc: Global) -> Variables
         ensures { result ≡ [] }
     {
-        let bound = Vec::new(alloc);
-        Variables { bound }
+        Variables {
+            names: Names::new(alloc),
+            roles: Vec::new(alloc),
+        }
     }
 
     /// How many there are.
     pub fn len(&self) -> usize
         ensures { result ≡ length self.now }
     {
-        self.bound.len()
+        self.roles.len()
     }
 
     /// The last variable of a name.
@@ -72,18 +70,14 @@ impl Variables {
         ensures sense { MatchOption result (sense_of name.now self.now ≡ None) (λ f. sense_of name.now self.now ≡ Some (sense f.role)) }
         ensures index { IfSome result (λ f. f.index ≡ index name.now (map (λ v. v.0) self.now)) }
     {
-        let count = self.bound.len();
-        let mut left = count;
-        while left > 0 {
-            left -= 1;
-            let bound = &self.bound[left];
-            if name == bound.name.as_str() {
-                let role = bound.role;
-                let index = (count - 1 - left) as u32;
-                return Some(Found { index, role });
-            }
+        let count = self.roles.len();
+        let index = self.names.index(name);
+        let after = index as usize;
+        if after >= count {
+            return None;
         }
-        None
+        let role = self.roles[count - 1 - after];
+        Some(Found { index, role })
     }
 
     /// One more variable. Want of memory is the one error; so is a number of variables that 32 bits
@@ -91,11 +85,9 @@ impl Variables {
     pub fn bind(&mut self, name: &String, role: Role) -> Result<(), AllocError>
         ensures { OnOk result (self.new ≡ (string_bytes name.now, sense role) ∷ self.old) }
     {
-        if self.bound.len() >= u32::MAX as usize {
-            return Err(AllocError);
-        }
-        let name = name.clone()?;
-        self.bound.push(Bound { name, role })?;
+        self.roles.reserve(1)?;
+        self.names.bind(name)?;
+        self.roles.push_reserved(role);
         Ok(())
     }
 
@@ -103,19 +95,22 @@ impl Variables {
     pub fn enter(&mut self, inner: Variables) -> Result<(), AllocError>
         ensures { OnOk result (self.new ≡ inner ++ self.old) }
     {
-        if inner.bound.len() > u32::MAX as usize - self.bound.len() {
+        let outside = self.roles.len();
+        let mut roles = inner.roles;
+        self.names.enter(inner.names)?;
+        if self.roles.append(&mut roles).is_err() {
+            self.names.leave(outside);
             return Err(AllocError);
         }
-        let mut bound = inner.bound;
-        self.bound.append(&mut bound)?;
         Ok(())
     }
 
-    /// Leaves the first `len` ones alone.
+    /// Drops all variables but the first `len` that were bound.
     pub fn leave(&mut self, len: usize)
         requires { len ≤ length self.old }
         ensures { self.new ≡ drop (length self.old - len) self.old }
     {
-        self.bound.truncate(len);
+        self.names.leave(len);
+        self.roles.truncate(len);
     }
 }

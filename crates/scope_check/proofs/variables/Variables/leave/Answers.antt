@@ -1,10 +1,19 @@
-use Rattle.std.proofs.Common.{ap, ◌∙◌, drop, length, ◌-◌, subst, sym, ◌≤◌}
+use Rattle.std.proofs.Common.{◌≡◌, ◌≤◌, ◌-◌, length, drop, ap, sym, ◌∙◌, arith}
 use Rattle.scope_check.specs.Bound.{scope_of}
-use Rattle.scope_check.proofs.Scopes.{scope-take}
+use Rattle.scope_check.proofs.Scopes.{scope-length, scope-leave}
 use Rattle.scope_check.proofs.variables.Variables.leave.Goals as goal
+
+pub leave-requires : goal.leave-requires
+leave-requires c = omega (arith, c.requires, c.self.invariant, scope-length c.self.inside.names c.self.inside.roles.items c.self.invariant, ap length c.self.view_is)
 
 pub returns : goal.returns
 returns c =
-    ap scope_of c.truncate.ensures.items
-    ∙ scope-take c.self.inside.bound.items c.args.len (subst (λ v. c.args.len ≤ length v) (sym c.self.view_is) c.requires)
-    ∙ ap (λ v. drop (length v - c.args.len) v) c.self.view_is
+    let ns = c.self.inside.names in
+    let rs = c.self.inside.roles.items in
+    let n : length rs ≡ length c.args.self.now = sym (scope-length ns rs c.self.invariant) ∙ ap length c.self.view_is in
+    let h : c.args.len ≤ length rs = omega (arith, c.requires, n) in
+    ap (λ z. scope_of z c.truncate.new.self.items) c.leave.ensures
+    ∙ ap (scope_of (drop (length ns - c.args.len) ns)) c.truncate.ensures.items
+    ∙ scope-leave ns rs c.args.len c.self.invariant h
+    ∙ ap (λ k. drop (k - c.args.len) (scope_of ns rs)) n
+    ∙ ap (drop (length c.args.self.now - c.args.len)) c.self.view_is
