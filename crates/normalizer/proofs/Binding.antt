@@ -16,8 +16,4 @@ within-two xs ys v = ap (λ z. within (xs ++ z) v) (append-nil ys) ∙ within-ap
 pub bound-two : {A E : Type 0} (r : Result A E) (n : List (List ℕ)) (xs ys v o : List (List ℕ)) → o ≡ within xs v → OnOk r (n ≡ within ys o) → OnOk r (n ≡ within (xs ++ (ys ++ [])) v)
 bound-two r n xs ys v o e h = subst (λ z. OnOk r (n ≡ z)) (ap (within ys) e ∙ sym (within-two xs ys v)) h
 
--- what is bound in a scope of its own
-pub within-nil : (xs v : List (List ℕ)) → within xs [] ++ v ≡ within xs v
-within-nil xs v = ap (λ r. r ++ v) (append-nil (reverse xs))
-
 pub ruleset binding = (within-append, within-two, pat-pairs)

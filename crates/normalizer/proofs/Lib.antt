@@ -1,4 +1,3 @@
-pub mod InScope
 pub mod BindsNone
 pub mod Binding
 pub mod Forms

@@ -8,7 +8,7 @@ ghost use Rattle.calculus.specs.Meaning.{pat_written, name_pat_written, bind_wri
 ghost use Rattle.scope_check.specs.Pairs.{pat_pair};
 ghost use Rattle.normalizer.specs.InScope.{within};
 
-use crate::names::Names;
+use bound_names::Names;
 use calculus::{Bind, Decl, NamePat, Pat, Rest};
 use std::alloc::AllocError;
 

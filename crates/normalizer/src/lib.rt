@@ -4,7 +4,6 @@
 mod bind;
 mod ground;
 mod make;
-mod names;
 pub mod normal;
 mod parts;
 

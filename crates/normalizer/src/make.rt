@@ -1,6 +1,6 @@
 // Terms of processes in a scope, from the inside out.
 
-ghost use Rattle.std.specs.Prelude.{◌≡◌, ◌++◌, map, IfOk};
+ghost use Rattle.std.specs.Prelude.{◌≡◌, ◌≤◌, ◌-◌, length, drop, map, IfOk, OnOk};
 ghost use Rattle.calculus.specs.Meaning.{proc_written, name_written, pat_written, name_pat_written, bind_written, case_written};
 ghost use Rattle.rho_term.specs.Parts.{part_tree, pat_part_tree, pair_tree, bind_tree, case_tree};
 ghost use Rattle.scope_check.specs.Pairs.{proc_pair, pat_pair};
@@ -8,8 +8,8 @@ ghost use Rattle.normalizer.specs.Made.{normal_in, all_in, parts_in, pattern_par
 
 use crate::bind::{bind_binds, bind_declared, bind_pattern};
 use crate::ground::{copy_ground, origins, rest_of};
-use crate::names::Names;
 use crate::parts::{closed_parts, one_part, one_pat_part};
+use bound_names::Names;
 use calculus::{Bind, Case, Name, NamePat, Pat, Proc};
 use rho_term::{Part, PatPart, Term, TermBind, TermCase, TermPat};
 use std::alloc::{AllocError, Global};
@@ -17,8 +17,9 @@ use term_sort::make_par;
 
 /// The term of a process.
 #[cycle(make)]
-pub(crate) fn make_term(alloc: Global, scope: &Names, p: &Proc) -> Result<Term, AllocError>
-    ensures { IfOk result (λ t. t ≡ normal_in (proc_written p.now) scope.now) }
+pub(crate) fn make_term(alloc: Global, scope: &mut Names, p: &Proc) -> Result<Term, AllocError>
+    ensures made { IfOk result (λ t. t ≡ normal_in (proc_written p.now) scope.old) }
+    ensures scope { OnOk result (scope.new ≡ scope.old) }
 {
     let parts = parts_of(alloc, scope, p)?;
     make_par(alloc, parts)
@@ -26,13 +27,14 @@ pub(crate) fn make_term(alloc: Global, scope: &Names, p: &Proc) -> Result<Term, 
 
 // The parts of a process, in written order.
 #[cycle(make)]
-fn parts_of(alloc: Global, scope: &Names, p: &Proc) -> Result<Vec<Part>, AllocError>
-    ensures { IfOk result (λ v. map part_tree v.items ≡ parts_in (proc_written p.now) scope.now) }
+fn parts_of(alloc: Global, scope: &mut Names, p: &Proc) -> Result<Vec<Part>, AllocError>
+    ensures made { IfOk result (λ v. map part_tree v.items ≡ parts_in (proc_written p.now) scope.old) }
+    ensures scope { OnOk result (scope.new ≡ scope.old) }
 {
     match p {
         Proc::Par(ps) => all_parts_of(alloc, scope, ps),
         Proc::Ground(value) => one_part(alloc, Part::Ground(copy_ground(value)?)),
-        Proc::Var(name) => one_part(alloc, Part::Var(scope.index(name.as_str())?)),
+        Proc::Var(name) => one_part(alloc, Part::Var(scope.index(name.as_str()))),
         Proc::Drop(n) => name_parts_of(alloc, scope, n),
         Proc::List(ps) => one_part(alloc, Part::List(make_terms(alloc, scope, ps)?)),
         Proc::Tuple(ps) => one_part(alloc, Part::Tuple(make_terms(alloc, scope, ps)?)),
@@ -56,18 +58,19 @@ fn parts_of(alloc: Global, scope: &Names, p: &Proc) -> Result<Vec<Part>, AllocEr
             )
         }
         Proc::Receive { kind, binds, body } => {
-            let mut bound = Names::new(alloc);
-            bind_binds(&mut bound, binds)?;
-            let binds = make_binds(alloc, scope, binds)?;
-            let body = make_within(alloc, scope, bound, body)?;
+            let outside = scope.len();
+            let made = make_binds(alloc, scope, binds)?;
+            bind_binds(scope, binds)?;
+            let body = make_within(alloc, scope, outside, body)?;
             let kind = *kind;
+            let binds = made;
             one_part(alloc, Part::Receive { kind, binds, body })
         }
         Proc::New { names, body } => {
-            let mut bound = Names::new(alloc);
-            bind_declared(&mut bound, names)?;
+            let outside = scope.len();
+            bind_declared(scope, names)?;
             let names = origins(alloc, names)?;
-            let body = make_within(alloc, scope, bound, body)?;
+            let body = make_within(alloc, scope, outside, body)?;
             one_part(alloc, Part::New { names, body })
         }
         Proc::Match { target, cases } => {
@@ -101,8 +104,9 @@ fn parts_of(alloc: Global, scope: &Names, p: &Proc) -> Result<Vec<Part>, AllocEr
 }
 
 #[cycle(make)]
-fn all_parts_of(alloc: Global, scope: &Names, ps: &Vec<Proc>) -> Result<Vec<Part>, AllocError>
-    ensures { IfOk result (λ v. map part_tree v.items ≡ all_parts (map proc_written ps.now.items) scope.now) }
+fn all_parts_of(alloc: Global, scope: &mut Names, ps: &Vec<Proc>) -> Result<Vec<Part>, AllocError>
+    ensures made { IfOk result (λ v. map part_tree v.items ≡ all_parts (map proc_written ps.now.items) scope.old) }
+    ensures scope { OnOk result (scope.new ≡ scope.old) }
 {
     let mut parts = Vec::new(alloc);
     for p in ps {
@@ -113,8 +117,9 @@ fn all_parts_of(alloc: Global, scope: &Names, ps: &Vec<Proc>) -> Result<Vec<Part
 }
 
 #[cycle(make)]
-fn make_terms(alloc: Global, scope: &Names, ps: &Vec<Proc>) -> Result<Vec<Term>, AllocError>
-    ensures { IfOk result (λ v. v.items ≡ all_in (map proc_written ps.now.items) scope.now) }
+fn make_terms(alloc: Global, scope: &mut Names, ps: &Vec<Proc>) -> Result<Vec<Term>, AllocError>
+    ensures made { IfOk result (λ v. v.items ≡ all_in (map proc_written ps.now.items) scope.old) }
+    ensures scope { OnOk result (scope.new ≡ scope.old) }
 {
     let mut terms = Vec::new(alloc);
     for p in ps {
@@ -126,10 +131,11 @@ fn make_terms(alloc: Global, scope: &Names, ps: &Vec<Proc>) -> Result<Vec<Term>,
 #[cycle(make)]
 fn make_pairs(
     alloc: Global,
-    scope: &Names,
+    scope: &mut Names,
     ps: &Vec<(Proc, Proc)>,
 ) -> Result<Vec<(Term, Term)>, AllocError>
-    ensures { IfOk result (λ v. map pair_tree v.items ≡ all_in (map proc_pair ps.now.items) scope.now) }
+    ensures made { IfOk result (λ v. map pair_tree v.items ≡ all_in (map proc_pair ps.now.items) scope.old) }
+    ensures scope { OnOk result (scope.new ≡ scope.old) }
 {
     let mut pairs = Vec::new(alloc);
     for p in ps {
@@ -142,8 +148,9 @@ fn make_pairs(
 
 // The term of the process that a name quotes.
 #[cycle(make)]
-fn make_name(alloc: Global, scope: &Names, n: &Name) -> Result<Term, AllocError>
-    ensures { IfOk result (λ t. t ≡ normal_in (name_written n.now) scope.now) }
+fn make_name(alloc: Global, scope: &mut Names, n: &Name) -> Result<Term, AllocError>
+    ensures made { IfOk result (λ t. t ≡ normal_in (name_written n.now) scope.old) }
+    ensures scope { OnOk result (scope.new ≡ scope.old) }
 {
     let parts = name_parts_of(alloc, scope, n)?;
     make_par(alloc, parts)
@@ -151,28 +158,42 @@ fn make_name(alloc: Global, scope: &Names, n: &Name) -> Result<Term, AllocError>
 
 // The parts of the process that a name quotes.
 #[cycle(make)]
-fn name_parts_of(alloc: Global, scope: &Names, n: &Name) -> Result<Vec<Part>, AllocError>
-    ensures { IfOk result (λ v. map part_tree v.items ≡ parts_in (name_written n.now) scope.now) }
+fn name_parts_of(alloc: Global, scope: &mut Names, n: &Name) -> Result<Vec<Part>, AllocError>
+    ensures made { IfOk result (λ v. map part_tree v.items ≡ parts_in (name_written n.now) scope.old) }
+    ensures scope { OnOk result (scope.new ≡ scope.old) }
 {
     match n {
-        Name::Var(name) => one_part(alloc, Part::NameVar(scope.index(name.as_str())?)),
+        Name::Var(name) => one_part(alloc, Part::NameVar(scope.index(name.as_str()))),
         Name::Fresh(name) => one_part(alloc, Part::Fresh(*name)),
         Name::Quote(p) => parts_of(alloc, scope, p),
     }
 }
 
-// The term of a process in the scope of these names too.
+// The term of a process in a scope, of which the first `outside` names stay.
 #[cycle(make)]
-fn make_within(alloc: Global, scope: &Names, bound: Names, p: &Proc) -> Result<Term, AllocError>
-    ensures { IfOk result (λ t. t ≡ normal_in (proc_written p.now) (bound ++ scope.now)) }
+fn make_within(
+    alloc: Global,
+    scope: &mut Names,
+    outside: usize,
+    p: &Proc,
+) -> Result<Term, AllocError>
+    requires { outside ≤ length scope.old }
+    ensures made { IfOk result (λ t. t ≡ normal_in (proc_written p.now) scope.old) }
+    ensures scope { OnOk result (scope.new ≡ drop (length scope.old - outside) scope.old) }
 {
-    let inner = scope.with(bound)?;
-    make_term(alloc, &inner, p)
+    let term = make_term(alloc, scope, p)?;
+    scope.leave(outside);
+    Ok(term)
 }
 
 #[cycle(make)]
-fn make_binds(alloc: Global, scope: &Names, binds: &Vec<Bind>) -> Result<Vec<TermBind>, AllocError>
-    ensures { IfOk result (λ v. map bind_tree v.items ≡ all_in (map bind_written binds.now.items) scope.now) }
+fn make_binds(
+    alloc: Global,
+    scope: &mut Names,
+    binds: &Vec<Bind>,
+) -> Result<Vec<TermBind>, AllocError>
+    ensures made { IfOk result (λ v. map bind_tree v.items ≡ all_in (map bind_written binds.now.items) scope.old) }
+    ensures scope { OnOk result (scope.new ≡ scope.old) }
 {
     let mut made = Vec::new(alloc);
     for b in binds {
@@ -182,8 +203,9 @@ fn make_binds(alloc: Global, scope: &Names, binds: &Vec<Bind>) -> Result<Vec<Ter
 }
 
 #[cycle(make)]
-fn make_bind(alloc: Global, scope: &Names, b: &Bind) -> Result<TermBind, AllocError>
-    ensures { IfOk result (λ t. bind_tree t ≡ normal_in (bind_written b.now) scope.now) }
+fn make_bind(alloc: Global, scope: &mut Names, b: &Bind) -> Result<TermBind, AllocError>
+    ensures made { IfOk result (λ t. bind_tree t ≡ normal_in (bind_written b.now) scope.old) }
+    ensures scope { OnOk result (scope.new ≡ scope.old) }
 {
     let channel = make_name(alloc, scope, &b.channel)?;
     let pats = make_name_pats(alloc, scope, &b.pats)?;
@@ -196,8 +218,13 @@ fn make_bind(alloc: Global, scope: &Names, b: &Bind) -> Result<TermBind, AllocEr
 }
 
 #[cycle(make)]
-fn make_cases(alloc: Global, scope: &Names, cases: &Vec<Case>) -> Result<Vec<TermCase>, AllocError>
-    ensures { IfOk result (λ v. map case_tree v.items ≡ all_in (map case_written cases.now.items) scope.now) }
+fn make_cases(
+    alloc: Global,
+    scope: &mut Names,
+    cases: &Vec<Case>,
+) -> Result<Vec<TermCase>, AllocError>
+    ensures made { IfOk result (λ v. map case_tree v.items ≡ all_in (map case_written cases.now.items) scope.old) }
+    ensures scope { OnOk result (scope.new ≡ scope.old) }
 {
     let mut made = Vec::new(alloc);
     for case in cases {
@@ -207,19 +234,21 @@ fn make_cases(alloc: Global, scope: &Names, cases: &Vec<Case>) -> Result<Vec<Ter
 }
 
 #[cycle(make)]
-fn make_case(alloc: Global, scope: &Names, case: &Case) -> Result<TermCase, AllocError>
-    ensures { IfOk result (λ t. case_tree t ≡ normal_in (case_written case.now) scope.now) }
+fn make_case(alloc: Global, scope: &mut Names, case: &Case) -> Result<TermCase, AllocError>
+    ensures made { IfOk result (λ t. case_tree t ≡ normal_in (case_written case.now) scope.old) }
+    ensures scope { OnOk result (scope.new ≡ scope.old) }
 {
-    let mut bound = Names::new(alloc);
-    bind_pattern(&mut bound, &case.pat)?;
+    let outside = scope.len();
     let pat = make_pat(alloc, scope, &case.pat)?;
-    let body = make_within(alloc, scope, bound, &case.body)?;
+    bind_pattern(scope, &case.pat)?;
+    let body = make_within(alloc, scope, outside, &case.body)?;
     Ok(TermCase { pat, body })
 }
 
 #[cycle(make)]
-fn make_pat(alloc: Global, scope: &Names, p: &Pat) -> Result<TermPat, AllocError>
-    ensures { IfOk result (λ t. t ≡ normal_in (pat_written p.now) scope.now) }
+fn make_pat(alloc: Global, scope: &mut Names, p: &Pat) -> Result<TermPat, AllocError>
+    ensures made { IfOk result (λ t. t ≡ normal_in (pat_written p.now) scope.old) }
+    ensures scope { OnOk result (scope.new ≡ scope.old) }
 {
     let parts = pat_parts_of(alloc, scope, p)?;
     Ok(TermPat::new(parts))
@@ -227,8 +256,9 @@ fn make_pat(alloc: Global, scope: &Names, p: &Pat) -> Result<TermPat, AllocError
 
 // The parts of a pattern, in written order.
 #[cycle(make)]
-fn pat_parts_of(alloc: Global, scope: &Names, p: &Pat) -> Result<Vec<PatPart>, AllocError>
-    ensures { IfOk result (λ v. map pat_part_tree v.items ≡ pattern_parts_in (pat_written p.now) scope.now) }
+fn pat_parts_of(alloc: Global, scope: &mut Names, p: &Pat) -> Result<Vec<PatPart>, AllocError>
+    ensures made { IfOk result (λ v. map pat_part_tree v.items ≡ pattern_parts_in (pat_written p.now) scope.old) }
+    ensures scope { OnOk result (scope.new ≡ scope.old) }
 {
     match p {
         Pat::Par(ps) => all_pat_parts_of(alloc, scope, ps),
@@ -291,8 +321,13 @@ fn pat_parts_of(alloc: Global, scope: &Names, p: &Pat) -> Result<Vec<PatPart>, A
 }
 
 #[cycle(make)]
-fn all_pat_parts_of(alloc: Global, scope: &Names, ps: &Vec<Pat>) -> Result<Vec<PatPart>, AllocError>
-    ensures { IfOk result (λ v. map pat_part_tree v.items ≡ all_pattern_parts (map pat_written ps.now.items) scope.now) }
+fn all_pat_parts_of(
+    alloc: Global,
+    scope: &mut Names,
+    ps: &Vec<Pat>,
+) -> Result<Vec<PatPart>, AllocError>
+    ensures made { IfOk result (λ v. map pat_part_tree v.items ≡ all_pattern_parts (map pat_written ps.now.items) scope.old) }
+    ensures scope { OnOk result (scope.new ≡ scope.old) }
 {
     let mut parts = Vec::new(alloc);
     for p in ps {
@@ -303,8 +338,9 @@ fn all_pat_parts_of(alloc: Global, scope: &Names, ps: &Vec<Pat>) -> Result<Vec<P
 }
 
 #[cycle(make)]
-fn make_pats(alloc: Global, scope: &Names, ps: &Vec<Pat>) -> Result<Vec<TermPat>, AllocError>
-    ensures { IfOk result (λ v. v.items ≡ all_in (map pat_written ps.now.items) scope.now) }
+fn make_pats(alloc: Global, scope: &mut Names, ps: &Vec<Pat>) -> Result<Vec<TermPat>, AllocError>
+    ensures made { IfOk result (λ v. v.items ≡ all_in (map pat_written ps.now.items) scope.old) }
+    ensures scope { OnOk result (scope.new ≡ scope.old) }
 {
     let mut pats = Vec::new(alloc);
     for p in ps {
@@ -316,10 +352,11 @@ fn make_pats(alloc: Global, scope: &Names, ps: &Vec<Pat>) -> Result<Vec<TermPat>
 #[cycle(make)]
 fn make_pat_pairs(
     alloc: Global,
-    scope: &Names,
+    scope: &mut Names,
     ps: &Vec<(Pat, Pat)>,
 ) -> Result<Vec<(TermPat, TermPat)>, AllocError>
-    ensures { IfOk result (λ v. map pair_tree v.items ≡ all_in (map pat_pair ps.now.items) scope.now) }
+    ensures made { IfOk result (λ v. map pair_tree v.items ≡ all_in (map pat_pair ps.now.items) scope.old) }
+    ensures scope { OnOk result (scope.new ≡ scope.old) }
 {
     let mut pairs = Vec::new(alloc);
     for p in ps {
@@ -333,10 +370,11 @@ fn make_pat_pairs(
 #[cycle(make)]
 fn make_name_pats(
     alloc: Global,
-    scope: &Names,
+    scope: &mut Names,
     ps: &Vec<NamePat>,
 ) -> Result<Vec<TermPat>, AllocError>
-    ensures { IfOk result (λ v. v.items ≡ all_in (map name_pat_written ps.now.items) scope.now) }
+    ensures made { IfOk result (λ v. v.items ≡ all_in (map name_pat_written ps.now.items) scope.old) }
+    ensures scope { OnOk result (scope.new ≡ scope.old) }
 {
     let mut pats = Vec::new(alloc);
     for p in ps {
@@ -346,16 +384,22 @@ fn make_name_pats(
 }
 
 #[cycle(make)]
-fn make_name_pat(alloc: Global, scope: &Names, p: &NamePat) -> Result<TermPat, AllocError>
-    ensures { IfOk result (λ t. t ≡ normal_in (name_pat_written p.now) scope.now) }
+fn make_name_pat(alloc: Global, scope: &mut Names, p: &NamePat) -> Result<TermPat, AllocError>
+    ensures made { IfOk result (λ t. t ≡ normal_in (name_pat_written p.now) scope.old) }
+    ensures scope { OnOk result (scope.new ≡ scope.old) }
 {
     let parts = name_pat_parts_of(alloc, scope, p)?;
     Ok(TermPat::new(parts))
 }
 
 #[cycle(make)]
-fn name_pat_parts_of(alloc: Global, scope: &Names, p: &NamePat) -> Result<Vec<PatPart>, AllocError>
-    ensures { IfOk result (λ v. map pat_part_tree v.items ≡ pattern_parts_in (name_pat_written p.now) scope.now) }
+fn name_pat_parts_of(
+    alloc: Global,
+    scope: &mut Names,
+    p: &NamePat,
+) -> Result<Vec<PatPart>, AllocError>
+    ensures made { IfOk result (λ v. map pat_part_tree v.items ≡ pattern_parts_in (name_pat_written p.now) scope.old) }
+    ensures scope { OnOk result (scope.new ≡ scope.old) }
 {
     match p {
         NamePat::Wild => one_pat_part(alloc, PatPart::Wild),

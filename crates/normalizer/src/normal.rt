@@ -7,7 +7,7 @@ ghost use Rattle.scope.specs.Rules.{broken_rules};
 ghost use Rattle.scope_check.specs.Walks.{Judges};
 
 use crate::make::make_term;
-use crate::names::Names;
+use bound_names::Names;
 use calculus::Proc;
 use rho_term::Term;
 use scope_check::{ScopeFault, check_scope};
@@ -23,7 +23,7 @@ pub fn normalize(alloc: Global, p: &Proc) -> Result<Term, ScopeFault>
     ensures congruent { IfOk result (λ t. IsTrue (congruent t (bare (proc_written p.now)))) }
 {
     check_scope(alloc, p)?;
-    let scope = Names::new(alloc);
-    let term = make_term(alloc, &scope, p)?;
+    let mut scope = Names::new(alloc);
+    let term = make_term(alloc, &mut scope, p)?;
     Ok(term)
 }

@@ -6,28 +6,55 @@ use Rattle.normalizer.specs.Made.{all_in, all_parts, all_pattern_parts}
 use Rattle.normalizer.proofs.make.+make.Given as goal
 
 abbrev pub invariant-all_parts_of-loop-p : goal.invariant-all_parts_of-loop-p
-invariant-all_parts_of-loop-p l = map part_tree l.parts.items ++ all_parts (map proc_written (drop l.p-index l.ps.items)) l.scope ≡ all_parts (map proc_written l.ps.items) l.scope
+invariant-all_parts_of-loop-p l = record {
+  scope : l.scope ≡ l.initial.scope;
+  made : map part_tree l.parts.items ++ all_parts (map proc_written (drop l.p-index l.ps.items)) l.initial.scope ≡ all_parts (map proc_written l.ps.items) l.initial.scope;
+}
 
 abbrev pub invariant-all_pat_parts_of-loop-p : goal.invariant-all_pat_parts_of-loop-p
-invariant-all_pat_parts_of-loop-p l = map pat_part_tree l.parts.items ++ all_pattern_parts (map pat_written (drop l.p-index l.ps.items)) l.scope ≡ all_pattern_parts (map pat_written l.ps.items) l.scope
+invariant-all_pat_parts_of-loop-p l = record {
+  scope : l.scope ≡ l.initial.scope;
+  made : map pat_part_tree l.parts.items ++ all_pattern_parts (map pat_written (drop l.p-index l.ps.items)) l.initial.scope ≡ all_pattern_parts (map pat_written l.ps.items) l.initial.scope;
+}
 
 abbrev pub invariant-make_terms-loop-p : goal.invariant-make_terms-loop-p
-invariant-make_terms-loop-p l = l.terms.items ++ all_in (map proc_written (drop l.p-index l.ps.items)) l.scope ≡ all_in (map proc_written l.ps.items) l.scope
+invariant-make_terms-loop-p l = record {
+  scope : l.scope ≡ l.initial.scope;
+  made : l.terms.items ++ all_in (map proc_written (drop l.p-index l.ps.items)) l.initial.scope ≡ all_in (map proc_written l.ps.items) l.initial.scope;
+}
 
 abbrev pub invariant-make_pairs-loop-p : goal.invariant-make_pairs-loop-p
-invariant-make_pairs-loop-p l = map pair_tree l.pairs.items ++ all_in (map proc_pair (drop l.p-index l.ps.items)) l.scope ≡ all_in (map proc_pair l.ps.items) l.scope
+invariant-make_pairs-loop-p l = record {
+  scope : l.scope ≡ l.initial.scope;
+  made : map pair_tree l.pairs.items ++ all_in (map proc_pair (drop l.p-index l.ps.items)) l.initial.scope ≡ all_in (map proc_pair l.ps.items) l.initial.scope;
+}
 
 abbrev pub invariant-make_binds-loop-b : goal.invariant-make_binds-loop-b
-invariant-make_binds-loop-b l = map bind_tree l.made.items ++ all_in (map bind_written (drop l.b-index l.binds.items)) l.scope ≡ all_in (map bind_written l.binds.items) l.scope
+invariant-make_binds-loop-b l = record {
+  scope : l.scope ≡ l.initial.scope;
+  made : map bind_tree l.made.items ++ all_in (map bind_written (drop l.b-index l.binds.items)) l.initial.scope ≡ all_in (map bind_written l.binds.items) l.initial.scope;
+}
 
 abbrev pub invariant-make_cases-loop-case : goal.invariant-make_cases-loop-case
-invariant-make_cases-loop-case l = map case_tree l.made.items ++ all_in (map case_written (drop l.case-index l.cases.items)) l.scope ≡ all_in (map case_written l.cases.items) l.scope
+invariant-make_cases-loop-case l = record {
+  scope : l.scope ≡ l.initial.scope;
+  made : map case_tree l.made.items ++ all_in (map case_written (drop l.case-index l.cases.items)) l.initial.scope ≡ all_in (map case_written l.cases.items) l.initial.scope;
+}
 
 abbrev pub invariant-make_pats-loop-p : goal.invariant-make_pats-loop-p
-invariant-make_pats-loop-p l = l.pats.items ++ all_in (map pat_written (drop l.p-index l.ps.items)) l.scope ≡ all_in (map pat_written l.ps.items) l.scope
+invariant-make_pats-loop-p l = record {
+  scope : l.scope ≡ l.initial.scope;
+  made : l.pats.items ++ all_in (map pat_written (drop l.p-index l.ps.items)) l.initial.scope ≡ all_in (map pat_written l.ps.items) l.initial.scope;
+}
 
 abbrev pub invariant-make_pat_pairs-loop-p : goal.invariant-make_pat_pairs-loop-p
-invariant-make_pat_pairs-loop-p l = map pair_tree l.pairs.items ++ all_in (map pat_pair (drop l.p-index l.ps.items)) l.scope ≡ all_in (map pat_pair l.ps.items) l.scope
+invariant-make_pat_pairs-loop-p l = record {
+  scope : l.scope ≡ l.initial.scope;
+  made : map pair_tree l.pairs.items ++ all_in (map pat_pair (drop l.p-index l.ps.items)) l.initial.scope ≡ all_in (map pat_pair l.ps.items) l.initial.scope;
+}
 
 abbrev pub invariant-make_name_pats-loop-p : goal.invariant-make_name_pats-loop-p
-invariant-make_name_pats-loop-p l = l.pats.items ++ all_in (map name_pat_written (drop l.p-index l.ps.items)) l.scope ≡ all_in (map name_pat_written l.ps.items) l.scope
+invariant-make_name_pats-loop-p l = record {
+  scope : l.scope ≡ l.initial.scope;
+  made : l.pats.items ++ all_in (map name_pat_written (drop l.p-index l.ps.items)) l.initial.scope ≡ all_in (map name_pat_written l.ps.items) l.initial.scope;
+}
