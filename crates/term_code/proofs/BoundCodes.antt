@@ -1,6 +1,6 @@
 -- Trees of one sort with one code bind the same variables.
 use Rattle.std.proofs.Common.{◌≡◌, ℕ, List, [], ◌∷◌, ◌++◌, refl, ap, sym, ◌∙◌, subst, inl, inr, ⊎_elim}
-use Rattle.std.specs.Prelude.{Bool, true, false, ◌⊎◌}
+use Rattle.std.specs.Prelude.{Bool, false, ◌⊎◌}
 use Rattle.calculus.specs.Tree.{Label, par, set, dict, rest, Tree, node, Trees, none, also}
 use Rattle.calculus.specs.Kinds.{rest_number, rest_of, rest_of-number}
 use Rattle.calculus.specs.declared.plain.TermRest.TheVariants as rests
@@ -9,7 +9,7 @@ use Rattle.calculus.specs.Shape.{count}
 use Rattle.calculus.specs.Congruence.{is_bag}
 use Rattle.calculus.specs.Code.{head, arranged, code, codes}
 use Rattle.calculus.specs.CodeLaws.{IsShort}
-use Rattle.calculus.specs.Form.{Sort, term, part, a_bind, a_case, a_rest, pat, name_pat, pat_part, name_part, row_of, pair_of, Kids, all, these, no_form, kids, Scope, Fits}
+use Rattle.calculus.specs.Form.{Sort, term, part, row_of, pair_of, Kids, all, these, no_form, kids, Scope, Fits}
 use Rattle.calculus.specs.Variables.{Sense, own, bound, bound_all}
 use Rattle.calculus.proofs.Prefixes.{cut, one-joined}
 use Rattle.calculus.proofs.Heads.{blank, tail}

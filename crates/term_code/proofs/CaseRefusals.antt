@@ -1,8 +1,8 @@
 -- Refused cases and binds, and the scopes of what they hold.
-use Rattle.std.proofs.Common.{◌≡◌, ℕ, ◌<◌, ◌≤◌, ◌+◌, ◌^◌, List, [], ◌∷◌, ◌++◌, map, length, refl, ap, sym, ◌∙◌, subst, arith, reverse, append-nil, length-append}
-use Rattle.std.specs.Prelude.{Bool, true, false}
+use Rattle.std.proofs.Common.{◌≡◌, ℕ, List, [], ◌∷◌, ◌++◌, length, ap, sym, ◌∙◌, subst, arith, reverse, append-nil, length-append}
+use Rattle.std.specs.Prelude.{Bool, true}
 use Rattle.std.proofs.lemmas.List.{length-reverse}
-use Rattle.calculus.specs.Tree.{Label, par, bind, case, rest, Tree, node, Trees, none, also}
+use Rattle.calculus.specs.Tree.{par, bind, case, rest, Tree, node, Trees, none, also}
 use Rattle.calculus.specs.Kinds.{rest_number}
 use Rattle.calculus.specs.declared.plain.TermRest.{TermRest}
 use Rattle.calculus.specs.Shape.{leaf}
@@ -11,7 +11,7 @@ use Rattle.calculus.specs.Form.{term, a_bind, a_case, a_rest, pat, name_pat, row
 use Rattle.calculus.specs.Variables.{Sense, bound, bound_all}
 use Rattle.calculus.proofs.Binding.{bound-le}
 use Rattle.calculus.proofs.Splitting.{kids-short}
-use Rattle.term_code.specs.declared.fault.CodeFault.{CodeFault}
+use Rattle.term_code.specs.declared.fault.ReadFault.{ReadFault}
 use Rattle.term_code.specs.Reading.{Reads}
 use Rattle.term_code.specs.Refusing.{Denies, IsRight, HasRoom, Refuses}
 use Rattle.term_code.proofs.Denying.{read-short}
@@ -20,7 +20,7 @@ use Rattle.term_code.proofs.PatRefusals.{rest-of}
 use Rattle.term_code.proofs.Forms.{no_variables}
 use Rattle.term_code.proofs.BoundCodes.{bound-code}
 
-module _ {v : Scope} {room : ℕ} {e : CodeFault} (bs : List ℕ) where
+module _ {v : Scope} {room : ℕ} {e : ReadFault} (bs : List ℕ) where
   pub case-refused : ((t body : Tree) → HasRoom v bs → IsRight true pat v room t → IsRight true term (reverse (bound t) ++ v) room body → Denies e bs (code t ++ (code body ++ []))) → Refuses true a_case v room e bs
   case-refused f = record { no = go }
     where

@@ -1,13 +1,12 @@
 -- Bytes that are cut, and bytes that fall below others.
 use Rattle.std.proofs.Common.{◌≡◌, ℕ, zero, suc, ◌<◌, ◌≤◌, ◌+◌, ◌*◌, ◌^◌, List, [], ◌∷◌, ◌++◌, take, get_or, length, refl, ap, sym, ◌∙◌, arith}
-use Rattle.std.specs.Prelude.{Bool, true, false, ◌==◌}
+use Rattle.std.specs.Prelude.{true, ◌==◌}
 use Rattle.std.specs.Ordering.{is_le, nat_cmp, ordering_then, ordering_index}
 use Rattle.std.specs.declared.cmp.Ordering.{Ordering}
 use Rattle.std.specs.declared.cmp.Ordering.TheVariants.{Less, Equal, Greater}
-use Rattle.std.proofs.lemmas.Cmp.{ranked}
 use Rattle.calculus.specs.Bytes.{be32}
 use Rattle.calculus.specs.Order.{byte_cmp, up_to}
-use Rattle.term_code.specs.declared.fault.CodeFault.{CodeFault}
+use Rattle.term_code.specs.declared.fault.ReadFault.{ReadFault}
 use Rattle.term_code.specs.Refusing.{Denies}
 
 -- the four bytes of a number
@@ -74,7 +73,7 @@ falls (suc k) (a ∷ last) (b ∷ bs) (d ∷ c) x y l m g u e =
     let q = equal_if (nat_cmp a d) (byte_cmp last c) (byte_cmp (take k last) (take k bs)) u w in
     falls k last bs c x y (omega arith) (omega arith) q.1 q.0 p.1
 
-pub fallen : {e : CodeFault} (k : ℕ) (last bs c : List ℕ) → k ≤ length last → k ≤ length bs → byte_cmp (take k last) (take k bs) ≡ Greater → up_to last c ≡ true → Denies e bs c
+pub fallen : {e : ReadFault} (k : ℕ) (last bs c : List ℕ) → k ≤ length last → k ≤ length bs → byte_cmp (take k last) (take k bs) ≡ Greater → up_to last c ≡ true → Denies e bs c
 fallen k last bs c l m g u = record { no = λ x y f q. falls k last bs c x y l m g u q }
 
 pub past-end : (xs : List ℕ) (i d : ℕ) → length xs ≤ i → get_or xs i d ≡ d

@@ -1,5 +1,5 @@
 -- What the whole decoder answers where bytes are a code.
-use Rattle.std.proofs.Common.{Err, ◌≡◌, ℕ, ◌<◌, ◌-◌, ◌^◌, List, [], ◌∷◌, ◌++◌, length, refl, ap, sym, ◌∙◌, subst, arith, append_assoc, append-nil, length-append, take, inl, inr, ⊎_elim}
+use Rattle.std.proofs.Common.{Err, ◌≡◌, ℕ, ◌<◌, ◌≤◌, ◌-◌, ◌^◌, List, [], ◌∷◌, ◌++◌, length, refl, ap, sym, ◌∙◌, subst, arith, append_assoc, append-nil, length-append, inl, inr}
 use Rattle.std.specs.Prelude.{Result, true, ◌⊎◌}
 use Rattle.calculus.specs.Tree.{Tree}
 use Rattle.calculus.specs.Code.{code}
@@ -7,11 +7,15 @@ use Rattle.calculus.specs.Form.{term}
 use Rattle.calculus.proofs.FromFits.{no_code_is_prefix}
 use Rattle.term_code.specs.declared.fault.CodeFault.{CodeFault}
 use Rattle.term_code.specs.declared.fault.CodeFault.TheVariants as fault
+use Rattle.term_code.specs.declared.fault.ReadFault.{ReadFault}
+use Rattle.term_code.specs.declared.fault.ReadFault.TheVariants as read
 use Rattle.term_code.specs.Reading.{Reads}
 use Rattle.term_code.specs.Readable.{IsReadable, IsCutCode, IsBegun, IsBegunTo, at_end}
-use Rattle.term_code.specs.Beginning.{HasPlace, IsAt, IsUnnamed, Goes, Begun}
+use Rattle.term_code.specs.Beginning.{HasPlace, Goes, Begun}
 use Rattle.term_code.specs.Refusing.{IsRight, HasRoom, Refuses, MayFollow}
+use Rattle.term_code.specs.Blaming.{Wrong, InTree, IsNamelessAt}
 use Rattle.term_code.proofs.Kids.{no_false}
+use Rattle.term_code.proofs.BlamedWhole.{nameless-parts}
 
 right : (t : Tree) → IsReadable t → IsRight true term [] 400 t
 right t h = record { fits = h.closed; low = h.low; short = h.short; free = λ q. absurd (no_false q) }
@@ -19,32 +23,31 @@ right t h = record { fits = h.closed; low = h.low; short = h.short; free = λ q.
 roomy : (t : Tree) (bs : List ℕ) → IsReadable t → code t ≡ bs → HasRoom [] bs
 roomy t bs h e = record { few = omega (arith, h.short, ap length e) }
 
-denied : (t : Tree) (bs : List ℕ) (e : CodeFault) → Refuses true term [] 400 e bs → IsReadable t → code t ≡ bs → MayFollow e [] → ⊥
+denied : (t : Tree) (bs : List ℕ) (e : ReadFault) → Refuses true term [] 400 e bs → IsReadable t → code t ≡ bs → MayFollow e [] → ⊥
 denied t bs e h r is m = (h.no (roomy t bs r is) t (right t r)).no [] [] m (append-nil bs ∙ sym is ∙ sym (append-nil (code t)))
 
 -- where bytes are a code, they are refused for want of memory alone
-pub only-memory : (t : Tree) (bs : List ℕ) (e : CodeFault) → Refuses true term [] 400 e bs → IsReadable t → code t ≡ bs → e ≡ fault.NoMemory
-only-memory t bs (fault.Short at) h r is = absurd (denied t bs (fault.Short at) h r is refl)
-only-memory t bs (fault.NotCanonical at) h r is = absurd (denied t bs (fault.NotCanonical at) h r is tt)
-only-memory t bs (fault.TooDeep at) h r is = absurd (denied t bs (fault.TooDeep at) h r is tt)
-only-memory t bs fault.NoMemory h r is = refl
+pub only-memory_at_end : (t : Tree) (bs : List ℕ) (len : ℕ) (e : ReadFault) → Refuses true term [] 400 e bs → IsReadable t → code t ≡ bs → at_end e len ≡ fault.NoMemory
+only-memory_at_end t bs len (read.Short at) h r is = absurd (denied t bs (read.Short at) h r is refl)
+only-memory_at_end t bs len (read.NotCanonical at) h r is = absurd (denied t bs (read.NotCanonical at) h r is tt)
+only-memory_at_end t bs len (read.TooDeep at) h r is = absurd (denied t bs (read.TooDeep at) h r is tt)
+only-memory_at_end t bs len (read.Unnamed at) h r is = absurd (denied t bs (read.Unnamed at) h r is tt)
+only-memory_at_end t bs len read.NoMemory h r is = refl
 
-pub only-memory_at_end : (t : Tree) (bs : List ℕ) (len : ℕ) (e : CodeFault) → Refuses true term [] 400 e bs → IsReadable t → code t ≡ bs → at_end e len ≡ fault.NoMemory
-only-memory_at_end t bs len e h r is = ap (λ (x : CodeFault). at_end x len) (only-memory t bs e h r is)
-
-not-cut : (bs : List ℕ) (e : CodeFault) → Refuses true term [] 400 e bs → (c : IsCutCode bs) → MayFollow e c.more → ⊥
+not-cut : (bs : List ℕ) (e : ReadFault) → Refuses true term [] 400 e bs → (c : IsCutCode bs) → MayFollow e c.more → ⊥
 not-cut bs e h c m =
     let few : length bs < 2 ^ 32 = omega (arith, c.readable.short, ap length c.is, length-append bs c.more) in
     (h.no (record { few = omega (arith, few) }) c.process (right c.process c.readable)).no c.more [] m (c.is ∙ sym (append-nil (code c.process)))
 
 -- a code that is cut is refused as such, or for want of memory
-pub cut-at_end : (bs : List ℕ) (e : CodeFault) → Refuses true term [] 400 e bs → IsCutCode bs → (at_end e (length bs) ≡ fault.Short (length bs)) ⊎ (at_end e (length bs) ≡ fault.NoMemory)
-cut-at_end bs (fault.Short at) h c = inl refl
-cut-at_end bs (fault.NotCanonical at) h c = absurd (not-cut bs (fault.NotCanonical at) h c tt)
-cut-at_end bs (fault.TooDeep at) h c = absurd (not-cut bs (fault.TooDeep at) h c tt)
-cut-at_end bs fault.NoMemory h c = inr refl
+pub cut-at_end : (bs : List ℕ) (e : ReadFault) → Refuses true term [] 400 e bs → IsCutCode bs → (at_end e (length bs) ≡ fault.Short (length bs)) ⊎ (at_end e (length bs) ≡ fault.NoMemory)
+cut-at_end bs (read.Short at) h c = inl refl
+cut-at_end bs (read.NotCanonical at) h c = absurd (not-cut bs (read.NotCanonical at) h c tt)
+cut-at_end bs (read.TooDeep at) h c = absurd (not-cut bs (read.TooDeep at) h c tt)
+cut-at_end bs (read.Unnamed at) h c = absurd (not-cut bs (read.Unnamed at) h c tt)
+cut-at_end bs read.NoMemory h c = inr refl
 
-pub cut-answer : (bs : List ℕ) (e r : CodeFault) (len : ℕ) → r ≡ at_end e len → Refuses true term [] 400 e bs → IsCutCode bs → len ≡ length bs → (r ≡ fault.Short (length bs)) ⊎ (r ≡ fault.NoMemory)
+pub cut-answer : (bs : List ℕ) (e : ReadFault) (r : CodeFault) (len : ℕ) → r ≡ at_end e len → Refuses true term [] 400 e bs → IsCutCode bs → len ≡ length bs → (r ≡ fault.Short (length bs)) ⊎ (r ≡ fault.NoMemory)
 cut-answer bs e r len p h c q =
     let k : r ≡ at_end e (length bs) = p ∙ ap (at_end e) q in
     subst (λ (x : CodeFault). (x ≡ fault.Short (length bs)) ⊎ (x ≡ fault.NoMemory)) (sym k) (cut-at_end bs e h c)
@@ -77,25 +80,22 @@ too-deep : {j k : ℕ} → fault.TooDeep j ≡ fault.TooDeep k → j ≡ k
 too-deep e = cc
 
 -- only bytes that begin a code are told to end early
-pub begun-only : (bs : List ℕ) (e : CodeFault) (len at : ℕ) → (HasPlace e → Goes e (Begun true term [] 400 bs)) → at_end e len ≡ fault.Short at → IsBegun bs
-begun-only bs (fault.Short k) len at f q = let g = f tt in on g.after g.begun g.place
-  where
-    on : (after : List ℕ) → Begun true term [] 400 bs after → IsAt (fault.Short k) after ⊎ IsUnnamed (fault.Short k) after → IsBegun bs
-    on after b (inl p) = record {
+pub begun-only : (bs : List ℕ) (e : ReadFault) (len at : ℕ) → (HasPlace e → Goes e (Begun true term [] 400 bs)) → at_end e len ≡ fault.Short at → IsBegun bs
+begun-only bs (read.Short k) len at f q =
+    let g = f tt in
+    let b = g.begun in
+    record {
       process = b.tree;
       closed = b.fits;
       low = b.low;
       more = b.cut.more;
-      is = ap (λ (z : List ℕ). z ++ b.cut.more) (sym b.cut.is ∙ ap (λ (z : List ℕ). b.cut.before ++ z) p ∙ append-nil b.cut.before) ∙ b.cut.goes;
+      is = ap (λ (z : List ℕ). z ++ b.cut.more) (sym b.cut.is ∙ ap (λ (z : List ℕ). b.cut.before ++ z) g.place ∙ append-nil b.cut.before) ∙ b.cut.goes;
       proper = b.cut.some;
     }
-    on after b (inr u) = absurd (apart u.place)
-      where
-        apart : {j i : ℕ} → fault.Short j ≡ fault.NotCanonical i → ⊥
-        apart e = cc
-begun-only bs (fault.NotCanonical k) len at f q = absurd (cc)
-begun-only bs (fault.TooDeep k) len at f q = absurd (cc)
-begun-only bs fault.NoMemory len at f q = absurd (cc)
+begun-only bs (read.NotCanonical k) len at f q = absurd (cc)
+begun-only bs (read.TooDeep k) len at f q = absurd (cc)
+begun-only bs (read.Unnamed k) len at f q = absurd (cc)
+begun-only bs read.NoMemory len at f q = absurd (cc)
 
 -- up to another place they begin one too
 begun-to : {bs after : List ℕ} (at : ℕ) → Begun true term [] 400 bs after → at ≡ length bs - length after → IsBegunTo bs at
@@ -111,8 +111,8 @@ begun-to {after = after} at b p = record {
   place = inl (omega (arith, p, ap length b.cut.is, length-append b.cut.before after));
 }
 
-unnamed-to : {bs after : List ℕ} (at : ℕ) (others : List ℕ) → Begun true term [] 400 bs after → after ≡ 0 ∷ 0 ∷ 0 ∷ 0 ∷ others → at ≡ length bs - length others → IsBegunTo bs at
-unnamed-to {after = after} at others b e p = record {
+nameless-to : {bs after : List ℕ} (at : ℕ) → Begun true term [] 400 bs after → 4 ≤ length after → at ≡ length bs - (length after - 4) → (at < 2 ^ 32 → IsNamelessAt at bs) → IsBegunTo bs at
+nameless-to {after = after} at b l p n = record {
   process = b.tree;
   closed = b.fits;
   low = b.low;
@@ -121,27 +121,24 @@ unnamed-to {after = after} at others b e p = record {
   goes = b.cut.goes;
   after = after;
   is = b.cut.is;
-  place = inr (omega (arith, p, ap length e, ap length b.cut.is, length-append b.cut.before after), ap (take 4) e);
+  place = inr (omega (arith, l, p, ap length b.cut.is, length-append b.cut.before after), n);
 }
 
-pub begun-until : (bs : List ℕ) (e : CodeFault) (len at : ℕ) → len ≡ length bs → (HasPlace e → Goes e (Begun true term [] 400 bs)) → (at_end e len ≡ fault.NotCanonical at) ⊎ (at_end e len ≡ fault.TooDeep at) → IsBegunTo bs at
-begun-until bs (fault.Short k) len at l f (inl q) = absurd (cc)
-begun-until bs (fault.Short k) len at l f (inr q) = absurd (cc)
-begun-until bs (fault.NotCanonical k) len at l f (inl q) = let g = f tt in ⊎_elim
-    (λ p. begun-to at g.begun (omega (arith, not-canonical q, p, l)))
-    (λ u. unnamed-to at u.others g.begun u.is (omega (arith, not-canonical q, not-canonical u.place, l)))
-    g.place
-begun-until bs (fault.NotCanonical k) len at l f (inr q) = absurd (cc)
-begun-until bs (fault.TooDeep k) len at l f (inl q) = absurd (cc)
-begun-until bs (fault.TooDeep k) len at l f (inr q) = let g = f tt in ⊎_elim
-    (λ p. begun-to at g.begun (omega (arith, too-deep q, p, l)))
-    (λ u. absurd (apart u.place))
-    g.place
-  where
-    apart : {j i : ℕ} → fault.TooDeep j ≡ fault.NotCanonical i → ⊥
-    apart e = cc
-begun-until bs fault.NoMemory len at l f (inl q) = absurd (cc)
-begun-until bs fault.NoMemory len at l f (inr q) = absurd (cc)
+pub begun-until : (bs : List ℕ) (e : ReadFault) (len at : ℕ) → len ≡ length bs → Wrong (InTree true term [] 400) e bs → (HasPlace e → Goes e (Begun true term [] 400 bs)) → (at_end e len ≡ fault.NotCanonical at) ⊎ (at_end e len ≡ fault.TooDeep at) → IsBegunTo bs at
+begun-until bs (read.Short k) len at l h f (inl q) = absurd (cc)
+begun-until bs (read.Short k) len at l h f (inr q) = absurd (cc)
+begun-until bs (read.NotCanonical k) len at l h f (inl q) = let g = f tt in begun-to at g.begun (omega (arith, not-canonical q, g.place, l))
+begun-until bs (read.NotCanonical k) len at l h f (inr q) = absurd (cc)
+begun-until bs (read.TooDeep k) len at l h f (inl q) = absurd (cc)
+begun-until bs (read.TooDeep k) len at l h f (inr q) = let g = f tt in begun-to at g.begun (omega (arith, too-deep q, g.place, l))
+begun-until bs (read.Unnamed k) len at l h f (inl q) =
+    let g = f tt in
+    let few : 4 ≤ length g.after = omega (arith, h.holds.0, g.place) in
+    let is : at ≡ length bs - (k - 4) = omega (arith, not-canonical q, l) in
+    nameless-to at g.begun few (omega (arith, is, g.place)) (λ n. nameless-parts bs k at h.holds.1 h.holds.0 is n)
+begun-until bs (read.Unnamed k) len at l h f (inr q) = absurd (cc)
+begun-until bs read.NoMemory len at l h f (inl q) = absurd (cc)
+begun-until bs read.NoMemory len at l h f (inr q) = absurd (cc)
 
 -- a further byte stands behind a whole code
 pub further : (u : Tree) (bs left : List ℕ) (k at : ℕ) → Reads term [] 400 u bs left → k ≡ length bs - length left → (fault.NotCanonical k ≡ fault.NotCanonical at) ⊎ (fault.NotCanonical k ≡ fault.TooDeep at) → IsBegunTo bs at

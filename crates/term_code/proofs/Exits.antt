@@ -2,7 +2,7 @@
 use Rattle.std.proofs.Common.{◌≡◌, ℕ, ◌<◌, ◌≤◌, ◌+◌, ◌^◌, List, [], ◌∷◌, ◌++◌, map, length, refl, ap, sym, ◌∙◌, subst, arith, reverse, length-append}
 use Rattle.std.specs.Prelude.{Bool, true, false}
 use Rattle.std.proofs.lemmas.List.{length-reverse}
-use Rattle.calculus.specs.Tree.{row, Tree, node, Trees}
+use Rattle.calculus.specs.Tree.{Tree}
 use Rattle.calculus.specs.Kinds.{kind_number, rights_number, unary_op_number, binary_op_number, origin_number}
 use Rattle.calculus.specs.declared.plain.Kind.{Kind}
 use Rattle.calculus.specs.declared.plain.Kind.TheVariants as kinds
@@ -14,24 +14,24 @@ use Rattle.calculus.specs.declared.plain.BinaryOp.{BinaryOp}
 use Rattle.calculus.specs.declared.plain.BinaryOp.TheVariants as binary_ops
 use Rattle.calculus.specs.declared.plain.Origin.{Origin}
 use Rattle.calculus.specs.Bytes.{be32}
-use Rattle.calculus.specs.Code.{byte_of, text, code}
+use Rattle.calculus.specs.Code.{byte_of, text}
 use Rattle.calculus.specs.CodeLaws.{Splits}
 use Rattle.calculus.specs.Form.{Sort, term, part, a_bind, a_case, row_of, Scope}
 use Rattle.calculus.specs.Variables.{Sense, a_name, bound}
 use Rattle.calculus.proofs.Prefixes.{Splits-append, Splits-length}
-use Rattle.calculus.proofs.Tails.{Splits-be32, Splits-text, one-be32, length-be32, length-text}
-use Rattle.term_code.specs.declared.fault.CodeFault.{CodeFault}
+use Rattle.calculus.proofs.Tails.{Splits-be32, one-be32, length-be32, length-text}
+use Rattle.term_code.specs.declared.fault.ReadFault.{ReadFault}
 use Rattle.term_code.specs.declared.text.TextKind.TheVariants as kind
 use Rattle.term_code.specs.Texts.{HasForm}
 use Rattle.term_code.specs.Reading.{Reads}
-use Rattle.term_code.specs.Refusing.{Denies, IsRight, HasRoom, Refuses, RefusesRow, RefusesByte, RefusesOrigins}
+use Rattle.term_code.specs.Refusing.{Denies, HasRoom, Refuses, RefusesRow, RefusesByte, RefusesOrigins}
 use Rattle.term_encoder.proofs.Codes.{length-map}
 use Rattle.term_code.proofs.Denying.{first-denied, next-denied, byte-next, read-next, refused, less-left, left-less}
 use Rattle.term_code.proofs.Kids.{row-refused, held-few}
 use Rattle.term_code.proofs.PartRefusals.{send-refused, receive-refused, new-refused, match-refused, bundle-refused, unary-refused, binary-refused, method-refused}
 use Rattle.term_code.proofs.CaseRefusals.{same-scope, bound-room}
 
-pub at-tag : {b : Bool} {s : Sort} {v : Scope} {room : ℕ} {e : CodeFault} {bs : List ℕ} (tag k : ℕ) → tag ≡ k → Refuses b s v room e (k ∷ bs) → Refuses b s v room e (tag ∷ bs)
+pub at-tag : {b : Bool} {s : Sort} {v : Scope} {room : ℕ} {e : ReadFault} {bs : List ℕ} (tag k : ℕ) → tag ≡ k → Refuses b s v room e (k ∷ bs) → Refuses b s v room e (tag ∷ bs)
 at-tag {b = b} {s = s} {v = v} {room = room} {e = e} {bs = bs} tag k p h = subst (λ (x : ℕ). Refuses b s v room e (x ∷ bs)) (sym p) h
 
 pub byte-le : (x : Bool) → byte_of x ≤ 1
@@ -93,7 +93,7 @@ spelled-length : (os : List Origin) → length (spelled os) ≡ 4 + length os
 unfolding spelled
 spelled-length os = omega (arith, length-append (be32 (length os)) (map origin_number os), length-be32 (length os), length-map origin_number os)
 
-pub new-body : {v w : Scope} {room : ℕ} {e : CodeFault} {bs next : List ℕ} (ps : List Origin) → bs ≡ (be32 (length ps) ++ map origin_number ps) ++ next
+pub new-body : {v w : Scope} {room : ℕ} {e : ReadFault} {bs next : List ℕ} (ps : List Origin) → bs ≡ (be32 (length ps) ++ map origin_number ps) ++ next
     → w ≡ reverse (map (λ (o : Origin). a_name) ps) ++ v → Refuses true term w room e next → Refuses true part v (room + 1) e (0x32 ∷ bs)
 unfolding spelled
 new-body {v = v} {w = w} {room = room} {e = e} {bs = bs} {next = next} ps is p h = new-refused bs (λ os body l some few g.
@@ -106,7 +106,7 @@ new-body {v = v} {w = w} {room = room} {e = e} {bs = bs} {next = next} ps is p h
     let room_left : HasRoom w next = record { few = omega (arith, l.few, small, c) } in
     refused body [] (subst (λ (x : Scope). Refuses true term x room e next) o h) (subst (λ (x : Scope). HasRoom x next) o room_left) g))
 
-module _ {v : Scope} {room : ℕ} {e : CodeFault} {bs : List ℕ} where
+module _ {v : Scope} {room : ℕ} {e : ReadFault} {bs : List ℕ} where
   pub send-channel : {n : ℕ} {next : List ℕ} → bs ≡ n ∷ next → Refuses true term v room e next → Refuses true part v (room + 1) e (0x30 ∷ bs)
   send-channel is h = send-refused bs (λ q a r l g k. byte-next _ _ is (λ z. refused a _ h (after-byte is l) g))
 
@@ -154,7 +154,7 @@ module _ {v : Scope} {room : ℕ} {e : CodeFault} {bs : List ℕ} where
       let m = less-left (text s) is l in
       next-denied _ is (texts-split s n next is l few) (λ z. read-next a _ c m g (λ y. row-refused r [] h (left-less c m) k (omega arith) (held-few r k))))
 
-module _ {v : Scope} (room : ℕ) {e : CodeFault} {bs : List ℕ} where
+module _ {v : Scope} (room : ℕ) {e : ReadFault} {bs : List ℕ} where
   pub send-flag : RefusesByte 1 e bs → Refuses true part v (room + 1) e (0x30 ∷ bs)
   send-flag h = send-refused bs (λ q a r l g k. first-denied _ (h (byte_of q) (byte-le q)))
 

@@ -1,24 +1,21 @@
 -- Constituents that were read one after another, and the next one refused.
-use Rattle.std.proofs.Common.{◌≡◌, ℕ, ◌<◌, ◌≤◌, ◌+◌, ◌^◌, List, [], ◌∷◌, ◌++◌, map, length, refl, ap, sym, ◌∙◌, subst, arith, append_assoc, append-nil, length-append, cond}
-use Rattle.std.specs.Prelude.{Bool, true, false, ⊤}
+use Rattle.std.proofs.Common.{◌≡◌, ℕ, ◌<◌, ◌≤◌, ◌^◌, List, [], ◌∷◌, ◌++◌, map, length, refl, ap, sym, ◌∙◌, subst, arith, append_assoc, append-nil, cond}
+use Rattle.std.specs.Prelude.{Bool, true, false}
 use Rattle.calculus.specs.Tree.{Tree, Trees, none, also, trees}
 use Rattle.calculus.specs.Bytes.{be32, joined}
 use Rattle.calculus.specs.Shape.{count}
 use Rattle.calculus.specs.Order.{up_to, placed, sorted, IsAscending, IsBelowFirst}
 use Rattle.calculus.specs.Code.{code, codes}
-use Rattle.calculus.specs.CodeLaws.{Splits}
 use Rattle.calculus.specs.Form.{Sort, Scope}
 use Rattle.calculus.proofs.Sorting.{by_place, Each, Each-arranged, length-arranged}
 use Rattle.calculus.proofs.Splitting.{length-codes}
 use Rattle.calculus.proofs.Ordered.{up_to_total}
-use Rattle.calculus.proofs.FromFits.{codes_split}
-use Rattle.term_code.specs.declared.fault.CodeFault.{CodeFault}
+use Rattle.term_code.specs.declared.fault.ReadFault.{ReadFault}
 use Rattle.term_code.specs.Reading.{Reads}
 use Rattle.term_code.specs.Refusing.{Denies, IsRight, AreRight, HasRoom, Refuses, RefusesRow, RefusesBag, RefusesNumber}
-use Rattle.term_encoder.proofs.Codes.{codes-trees}
 use Rattle.term_code.proofs.Rows.{Row, last_of}
 use Rattle.term_code.proofs.Bags.{Bag}
-use Rattle.term_code.proofs.Denying.{first-denied, next-denied, number-next, read-next, refused, left-less, less-left, read-short}
+use Rattle.term_code.proofs.Denying.{first-denied, number-next, read-next, refused, left-less, less-left}
 use Rattle.term_code.proofs.Kids.{first-right, rest-right, count-right}
 
 -- the code of a right tree
@@ -38,11 +35,11 @@ row-one {f = f} x xs {c = c} h = record { is = h.is ∙ append_assoc (code (f x)
 row-others : {A : Type 0} {f : A → Tree} {s : Sort} {v : Scope} {room : ℕ} (x : A) (xs : List A) {a c : List ℕ} → Row f s v room (x ∷ xs) a c → Row f s v room xs (joined (map (λ y. code (f y)) xs) ++ c) c
 row-others x xs h = record { is = refl; fits = h.fits.1; low = omega (arith, h.low) }
 
-deny-at : {e : CodeFault} {a b : List ℕ} (c : List ℕ) → a ≡ b → Denies e b c → Denies e a c
+deny-at : {e : ReadFault} {a b : List ℕ} (c : List ℕ) → a ≡ b → Denies e b c → Denies e a c
 deny-at {e = e} c p h = subst (λ (z : List ℕ). Denies e z c) (sym p) h
 
 -- as many codes of right trees, and more: those that were read are the first of them
-pub go : {A : Type 0} {f : A → Tree} {b : Bool} {s : Sort} {v : Scope} {room : ℕ} {e : CodeFault} (xs : List A) {start now : List ℕ}
+pub go : {A : Type 0} {f : A → Tree} {b : Bool} {s : Sort} {v : Scope} {room : ℕ} {e : ReadFault} (xs : List A) {start now : List ℕ}
     → Row f s v room xs start now → HasRoom v start → (cs : List (List ℕ)) → Each (CodeOf b s v room) cs → length xs < length cs
     → ((t : Tree) (ds : List (List ℕ)) → cs ≡ map (λ y. code (f y)) xs ++ code t ∷ ds → IsRight b s v room t → HasRoom v now → Denies e now (code t ++ joined ds))
     → Denies e start (joined cs)
@@ -59,7 +56,7 @@ go {f = f} {s = s} {v = v} {e = e} (x ∷ xs) {start = start} h l (c ∷ cs) g n
     (λ t ds w. k t ds (let u : code (f x) ≡ c = q ∙ g.0.is in cc))))
 
 -- a number, some constituents, and then one is refused
-pub row-going : {A : Type 0} {f : A → Tree} {b : Bool} {s : Sort} {v : Scope} {room : ℕ} {e : CodeFault} {xs : List A} {start now : List ℕ} (least most n : ℕ) (bs : List ℕ)
+pub row-going : {A : Type 0} {f : A → Tree} {b : Bool} {s : Sort} {v : Scope} {room : ℕ} {e : ReadFault} {xs : List A} {start now : List ℕ} (least most n : ℕ) (bs : List ℕ)
     → Row f s v room xs start now → bs ≡ be32 n ++ start → n < 2 ^ 32 → length xs < n → Refuses b s v room e now → RefusesRow b s v room least most e bs
 row-going {b = b} {s = s} {v = v} {room = room} {e = e} {xs = xs} least most n bs h is m i r = record { no = there }
   where
@@ -67,10 +64,10 @@ row-going {b = b} {s = s} {v = v} {room = room} {e = e} {xs = xs} least most n b
     there l ts g p q = number-next (count ts) (joined (codes ts)) is m (count-right ts g)
         (λ w. go xs h (less-left (be32 n) is l) (codes ts) (each-code ts g) (omega (arith, length-codes ts, w)) (λ t ds u k j. refused t (joined ds) r j k))
 
-pub number-row : {b : Bool} {s : Sort} {v : Scope} {room : ℕ} {e : CodeFault} {bs : List ℕ} {least most : ℕ} → RefusesNumber least most e bs → RefusesRow b s v room least most e bs
+pub number-row : {b : Bool} {s : Sort} {v : Scope} {room : ℕ} {e : ReadFault} {bs : List ℕ} {least most : ℕ} → RefusesNumber least most e bs → RefusesRow b s v room least most e bs
 number-row h = record { no = λ l ts g p q. first-denied (joined (codes ts)) (h.no (count ts) p q (count-right ts g)) }
 
-pub number-bag : {s : Sort} {v : Scope} {room : ℕ} {e : CodeFault} {bs : List ℕ} → RefusesNumber 0 0xFFFFFFFF e bs → RefusesBag s v room e bs
+pub number-bag : {s : Sort} {v : Scope} {room : ℕ} {e : ReadFault} {bs : List ℕ} → RefusesNumber 0 0xFFFFFFFF e bs → RefusesBag s v room e bs
 number-bag h = record { no = λ l ts g. first-denied (joined (sorted (codes ts))) (h.no (count ts) (omega arith) (omega (arith, count-right ts g)) (count-right ts g)) }
 
 below-placed : (y x : List ℕ) (ys : List (List ℕ)) → up_to y x ≡ true → IsBelowFirst y ys → IsBelowFirst y (placed x ys)
@@ -103,7 +100,7 @@ map-codes f [] = refl
 map-codes f (x ∷ xs) = ap (λ (cs : List (List ℕ)). code (f x) ∷ cs) (map-codes f xs)
 
 -- a number, some constituents that ascend, and then one is refused, or falls below the one before it
-pub bag-going : {A : Type 0} {f : A → Tree} {s : Sort} {v : Scope} {room : ℕ} {e : CodeFault} {xs : List A} {start now last : List ℕ} (n : ℕ) (bs : List ℕ)
+pub bag-going : {A : Type 0} {f : A → Tree} {s : Sort} {v : Scope} {room : ℕ} {e : ReadFault} {xs : List A} {start now last : List ℕ} (n : ℕ) (bs : List ℕ)
     → Bag f s v room xs start now last → bs ≡ be32 n ++ start → n < 2 ^ 32 → length xs < n
     → ((t : Tree) → IsRight true s v room t → HasRoom v now → up_to last (code t) ≡ true → Denies e now (code t)) → RefusesBag s v room e bs
 bag-going {f = f} {s = s} {v = v} {room = room} {e = e} {xs = xs} {last = last} n bs h is m i r = record { no = there }
@@ -120,17 +117,17 @@ bag-going {f = f} {s = s} {v = v} {room = room} {e = e} {xs = xs} {last = last} 
         (λ t ds u k j. first-denied (joined ds) (r t k j (up-from ts t ds u))))
 
 -- a constituent is refused
-pub bag-refused : {A : Type 0} {f : A → Tree} {s : Sort} {v : Scope} {room : ℕ} {e : CodeFault} {xs : List A} {start now last : List ℕ} (n : ℕ) (bs : List ℕ)
+pub bag-refused : {A : Type 0} {f : A → Tree} {s : Sort} {v : Scope} {room : ℕ} {e : ReadFault} {xs : List A} {start now last : List ℕ} (n : ℕ) (bs : List ℕ)
     → Bag f s v room xs start now last → bs ≡ be32 n ++ start → n < 2 ^ 32 → length xs < n → Refuses true s v room e now → RefusesBag s v room e bs
 bag-refused n bs h is m i r = bag-going n bs h is m i (λ t g l u. r.no l t g)
 
 -- bytes fall below the code before them
-pub bag-low : {A : Type 0} {f : A → Tree} {s : Sort} {v : Scope} {room : ℕ} {e : CodeFault} {xs : List A} {start now last : List ℕ} (n : ℕ) (bs : List ℕ)
+pub bag-low : {A : Type 0} {f : A → Tree} {s : Sort} {v : Scope} {room : ℕ} {e : ReadFault} {xs : List A} {start now last : List ℕ} (n : ℕ) (bs : List ℕ)
     → Bag f s v room xs start now last → bs ≡ be32 n ++ start → n < 2 ^ 32 → length xs < n → ((c : List ℕ) → up_to last c ≡ true → Denies e now c) → RefusesBag s v room e bs
 bag-low n bs h is m i r = bag-going n bs h is m i (λ t g l u. r (code t) u)
 
 -- a code falls below the one before it
-pub bag-lower : {A : Type 0} {f : A → Tree} {s : Sort} {v : Scope} {room : ℕ} {e : CodeFault} {xs : List A} {start now last next : List ℕ} {t : Tree} (n : ℕ) (bs : List ℕ)
+pub bag-lower : {A : Type 0} {f : A → Tree} {s : Sort} {v : Scope} {room : ℕ} {e : ReadFault} {xs : List A} {start now last next : List ℕ} {t : Tree} (n : ℕ) (bs : List ℕ)
     → Bag f s v room xs start now last → bs ≡ be32 n ++ start → n < 2 ^ 32 → length xs < n
     → Reads s v room t now next → ((d : List ℕ) → now ≡ d ++ next → up_to last d ≡ true → ⊥) → RefusesBag s v room e bs
 bag-lower {e = e} {now = now} {last = last} {t = t} n bs h is m i g r =

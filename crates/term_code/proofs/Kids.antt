@@ -1,19 +1,18 @@
 -- Constituents of right trees are right.
-use Rattle.std.proofs.Common.{◌≡◌, ℕ, ◌<◌, ◌≤◌, ◌+◌, ◌^◌, List, [], ◌∷◌, ◌++◌, length, refl, ap, sym, ◌∙◌, subst, arith}
+use Rattle.std.proofs.Common.{◌≡◌, ℕ, ◌<◌, ◌≤◌, ◌^◌, List, [], ◌∷◌, ◌++◌, length, refl, sym, subst, arith}
 use Rattle.std.specs.Prelude.{Bool, true, false}
-use Rattle.calculus.specs.Tree.{Label, row, pair, Tree, node, Trees, none, also}
-use Rattle.calculus.specs.Size.{height, heights}
-use Rattle.calculus.specs.Bytes.{be32, joined}
+use Rattle.calculus.specs.Tree.{row, pair, Tree, node, Trees, none, also}
+use Rattle.calculus.specs.Size.{heights}
 use Rattle.calculus.specs.Shape.{count, listed, held}
-use Rattle.calculus.specs.Code.{code, codes}
-use Rattle.calculus.specs.Form.{Sort, a_rest, row_of, pair_of, Scope, Fits, Hold, all, these}
+use Rattle.calculus.specs.Code.{code}
+use Rattle.calculus.specs.Form.{Sort, row_of, pair_of, Scope, Hold, all, these}
 use Rattle.calculus.specs.Variables.{Sense, bound, bound_all}
 use Rattle.calculus.proofs.Splitting.{AreShort, first-short, rest-short, kids-short}
 use Rattle.calculus.proofs.Formed.{count-le}
 use Rattle.calculus.proofs.FromFits.{formed, fine}
 use Rattle.calculus.proofs.Tails.{IsFine}
-use Rattle.term_code.specs.declared.fault.CodeFault.{CodeFault}
-use Rattle.term_code.specs.Refusing.{Denies, IsRight, AreRight, HasRoom, Refuses, RefusesRow, RefusesNumber}
+use Rattle.term_code.specs.declared.fault.ReadFault.{ReadFault}
+use Rattle.term_code.specs.Refusing.{Denies, IsRight, AreRight, HasRoom, Refuses, RefusesRow}
 use Rattle.term_code.specs.Reading.{Reads}
 use Rattle.term_code.proofs.Denying.{first-denied, read-next, refused, left-less}
 
@@ -98,7 +97,7 @@ count-listed (also t ts) = omega (arith, count-listed ts)
 pub row-are : {b : Bool} {s : Sort} {v : Scope} {room : ℕ} (ts : Trees) → IsRight b (row_of s) v room (node row ts) → AreRight b s v room ts
 row-are ts h = record { fits = h.fits.1; low = omega (arith, h.low); short = kids-short row ts h.short; free = h.free }
 
-pub row-refused : {e : CodeFault} {b : Bool} {s : Sort} {v : Scope} {room least most : ℕ} {bs : List ℕ} (r : Tree) (d : List ℕ)
+pub row-refused : {e : ReadFault} {b : Bool} {s : Sort} {v : Scope} {room least most : ℕ} {bs : List ℕ} (r : Tree) (d : List ℕ)
     → RefusesRow b s v room least most e bs → HasRoom v bs → IsRight b (row_of s) v room r → least ≤ length (held r) → length (held r) ≤ most → Denies e bs (code r ++ d)
 row-refused (node row ts) d h l g p q = first-denied d (h.no l ts (row-are ts g) (omega (arith, count-listed ts)) (omega (arith, count-listed ts)))
 row-refused (node _ ts) d h l g p q = absurd g.fits.1
@@ -107,7 +106,7 @@ pub held-few : {b : Bool} {s : Sort} {v : Scope} {room : ℕ} (r : Tree) → IsR
 held-few (node row ts) g = omega (arith, count-listed ts, count-right ts (row-are ts g))
 held-few (node _ ts) g = absurd g.fits.1
 
-pub pair-first : {e : CodeFault} {b : Bool} {s : Sort} {v : Scope} {room : ℕ} {bs : List ℕ} → Refuses b s v room e bs → Refuses b (pair_of s) v room e bs
+pub pair-first : {e : ReadFault} {b : Bool} {s : Sort} {v : Scope} {room : ℕ} {bs : List ℕ} → Refuses b s v room e bs → Refuses b (pair_of s) v room e bs
 pair-first {e = e} {b = b} {s = s} {v = v} {room = room} {bs = bs} h = record { no = go }
   where
     go : HasRoom v bs → (t : Tree) → IsRight b (pair_of s) v room t → Denies e bs (code t)
@@ -116,7 +115,7 @@ pair-first {e = e} {b = b} {s = s} {v = v} {room = room} {bs = bs} h = record { 
         subst (λ (us : Trees). Denies e bs (code (node pair us))) (sym k.is) (refused k.first (code k.second ++ []) h l k.one)
     go l (node _ ts) g = absurd g.fits.1
 
-pub pair-second : {e : CodeFault} {b : Bool} {s : Sort} {v : Scope} {room : ℕ} {u : Tree} {bs next : List ℕ} → Reads s v room u bs next → Refuses b s v room e next → Refuses b (pair_of s) v room e bs
+pub pair-second : {e : ReadFault} {b : Bool} {s : Sort} {v : Scope} {room : ℕ} {u : Tree} {bs next : List ℕ} → Reads s v room u bs next → Refuses b s v room e next → Refuses b (pair_of s) v room e bs
 pair-second {e = e} {b = b} {s = s} {v = v} {room = room} {bs = bs} r h = record { no = go }
   where
     go : HasRoom v bs → (t : Tree) → IsRight b (pair_of s) v room t → Denies e bs (code t)

@@ -1,37 +1,33 @@
 -- Refused leaves, and parts that are refused by their tags alone.
-use Rattle.std.proofs.Common.{◌≡◌, ℕ, zero, suc, ◌<◌, ◌≤◌, ◌+◌, ◌^◌, List, [], ◌∷◌, ◌++◌, map, length, refl, ap, sym, ◌∙◌, subst, arith, length-append, append-nil}
-use Rattle.std.specs.Prelude.{Bool, true, false, nat_abs, ◌+ℤ◌, pos}
-use Rattle.calculus.specs.Tree.{Label, par, bool, int, str, uri, bytes, fresh, var, name_var, list, tuple, set, dict, send, receive, new, match, bundle, unary, binary, method, Tree, node, Trees, none, also}
-use Rattle.calculus.specs.Kinds.{origin_number, simple_number}
-use Rattle.calculus.specs.declared.plain.Origin.{Origin}
-use Rattle.calculus.specs.declared.plain.Simple.{Simple}
+use Rattle.std.proofs.Common.{◌≡◌, ℕ, ◌<◌, ◌≤◌, ◌+◌, ◌^◌, List, [], ◌∷◌, ◌++◌, length, refl, ap, sym, subst, arith, length-append, append-nil}
+use Rattle.std.specs.Prelude.{true, false, nat_abs, ◌+ℤ◌, pos}
+use Rattle.calculus.specs.Tree.{Label, bool, int, str, uri, bytes, fresh, var, name_var, list, tuple, set, dict, send, receive, new, match, bundle, unary, binary, method, Tree, node, none, also}
 use Rattle.calculus.specs.Bytes.{be32, be64}
-use Rattle.calculus.specs.Size.{height}
-use Rattle.calculus.specs.Shape.{count, leaf}
-use Rattle.calculus.specs.Code.{byte_of, text, code}
+use Rattle.calculus.specs.Shape.{leaf}
+use Rattle.calculus.specs.Code.{text, code}
 use Rattle.calculus.specs.CodeLaws.{IsShort}
 use Rattle.calculus.specs.Variables.{a_process, a_name}
-use Rattle.calculus.specs.Form.{part, pat_part, Scope, Fits, HasVariable, IsPlain, IsDigest}
-use Rattle.calculus.proofs.Formed.{length-code}
+use Rattle.calculus.specs.Form.{part, Scope, HasVariable, IsPlain}
 use Rattle.calculus.proofs.Tails.{length-text, length-be32}
 use Rattle.calculus.proofs.Ranges.{in_scope}
-use Rattle.term_code.specs.declared.fault.CodeFault.{CodeFault}
-use Rattle.term_code.specs.declared.fault.CodeFault.TheVariants.{Short}
+use Rattle.term_code.specs.declared.fault.ReadFault.{ReadFault}
+use Rattle.term_code.specs.declared.fault.ReadFault.TheVariants.{Short}
 use Rattle.term_code.specs.declared.text.TextKind.TheVariants as kind
 use Rattle.term_code.specs.Texts.{HasForm}
-use Rattle.term_code.specs.Refusing.{is_form_tag, is_pat_form_tag, IsGround, Denies, IsRight, HasRoom, Refuses, RefusesByte, RefusesGround, RefusesNumber}
+use Rattle.term_code.specs.Refusing.{IsGround, Denies, Refuses, RefusesByte, RefusesGround, RefusesNumber}
+use Rattle.term_code.specs.Tags.{is_form_tag}
 use Rattle.term_code.proofs.Denying.{first-denied, byte-denied, number-next, tag-next}
 use Rattle.term_code.proofs.Kids.{no_false}
-use Rattle.term_code.proofs.Tags.{tag_of, by-tag, Of, after-tag}
+use Rattle.term_code.proofs.Tags.{by-tag, Of}
 
 -- bytes that are too few
 pub short-denied : (at : ℕ) (bs c : List ℕ) → length bs < length c → Denies (Short at) bs c
 short-denied at bs c h = record { no = λ x y m q. omega (arith, ap length q, ap length m, length-append bs x, length-append c y) }
 
-another : {e : CodeFault} {bs : List ℕ} (n m : ℕ) (d : List ℕ) → (n ≡ m → ⊥) → Denies e (n ∷ bs) (m ∷ d)
+another : {e : ReadFault} {bs : List ℕ} (n m : ℕ) (d : List ℕ) → (n ≡ m → ⊥) → Denies e (n ∷ bs) (m ∷ d)
 another n m d h = byte-denied m d refl h
 
-pub ground-bool : {e : CodeFault} {bs : List ℕ} → RefusesByte 1 e bs → RefusesGround e (0x10 ∷ bs)
+pub ground-bool : {e : ReadFault} {bs : List ℕ} → RefusesByte 1 e bs → RefusesGround e (0x10 ∷ bs)
 ground-bool {e = e} {bs = bs} h = record { no = go }
   where
     go : (l : Label) → IsGround l → IsPlain part [] l none → IsShort (leaf l) → Denies e (0x10 ∷ bs) (code (leaf l))
@@ -43,7 +39,7 @@ ground-bool {e = e} {bs = bs} h = record { no = go }
     go (bytes x) g p a = another _ _ _ (λ q. omega arith)
     go _ g p a = absurd g
 
-pub ground-int : {e : CodeFault} {bs : List ℕ} → ((n : ℕ) → Denies e bs (be64 n)) → RefusesGround e (0x11 ∷ bs)
+pub ground-int : {e : ReadFault} {bs : List ℕ} → ((n : ℕ) → Denies e bs (be64 n)) → RefusesGround e (0x11 ∷ bs)
 ground-int {e = e} {bs = bs} h = record { no = go }
   where
     go : (l : Label) → IsGround l → IsPlain part [] l none → IsShort (leaf l) → Denies e (0x11 ∷ bs) (code (leaf l))
@@ -57,7 +53,7 @@ ground-int {e = e} {bs = bs} h = record { no = go }
 few-bytes : (l : Label) (s : List ℕ) → length (code (leaf l)) ≡ 1 + length (text s) → IsShort (leaf l) → length s < 2 ^ 32
 few-bytes l s e a = omega (arith, a, e, length-text s)
 
-pub ground-str : {e : CodeFault} {bs : List ℕ} → ((s : List ℕ) → HasForm kind.Str s → length s < 2 ^ 32 → Denies e bs (text s)) → RefusesGround e (0x12 ∷ bs)
+pub ground-str : {e : ReadFault} {bs : List ℕ} → ((s : List ℕ) → HasForm kind.Str s → length s < 2 ^ 32 → Denies e bs (text s)) → RefusesGround e (0x12 ∷ bs)
 ground-str {e = e} {bs = bs} h = record { no = go }
   where
     go : (l : Label) → IsGround l → IsPlain part [] l none → IsShort (leaf l) → Denies e (0x12 ∷ bs) (code (leaf l))
@@ -68,7 +64,7 @@ ground-str {e = e} {bs = bs} h = record { no = go }
     go (bytes x) g p a = another _ _ _ (λ q. omega arith)
     go _ g p a = absurd g
 
-pub ground-uri : {e : CodeFault} {bs : List ℕ} → ((s : List ℕ) → HasForm kind.Uri s → length s < 2 ^ 32 → Denies e bs (text s)) → RefusesGround e (0x13 ∷ bs)
+pub ground-uri : {e : ReadFault} {bs : List ℕ} → ((s : List ℕ) → HasForm kind.Uri s → length s < 2 ^ 32 → Denies e bs (text s)) → RefusesGround e (0x13 ∷ bs)
 ground-uri {e = e} {bs = bs} h = record { no = go }
   where
     go : (l : Label) → IsGround l → IsPlain part [] l none → IsShort (leaf l) → Denies e (0x13 ∷ bs) (code (leaf l))
@@ -79,7 +75,7 @@ ground-uri {e = e} {bs = bs} h = record { no = go }
     go (bytes x) g p a = another _ _ _ (λ q. omega arith)
     go _ g p a = absurd g
 
-pub ground-bytes : {e : CodeFault} {bs : List ℕ} → ((s : List ℕ) → length s < 2 ^ 32 → Denies e bs (text s)) → RefusesGround e (0x14 ∷ bs)
+pub ground-bytes : {e : ReadFault} {bs : List ℕ} → ((s : List ℕ) → length s < 2 ^ 32 → Denies e bs (text s)) → RefusesGround e (0x14 ∷ bs)
 ground-bytes {e = e} {bs = bs} h = record { no = go }
   where
     go : (l : Label) → IsGround l → IsPlain part [] l none → IsShort (leaf l) → Denies e (0x14 ∷ bs) (code (leaf l))
@@ -90,7 +86,7 @@ ground-bytes {e = e} {bs = bs} h = record { no = go }
     go (uri x) g p a = another _ _ _ (λ q. omega arith)
     go _ g p a = absurd g
 
-pub ground-none : {e : CodeFault} {bs : List ℕ} (k : ℕ) → (k ≡ 0x10 → ⊥) → (k ≡ 0x11 → ⊥) → (k ≡ 0x12 → ⊥) → (k ≡ 0x13 → ⊥) → (k ≡ 0x14 → ⊥) → RefusesGround e (k ∷ bs)
+pub ground-none : {e : ReadFault} {bs : List ℕ} (k : ℕ) → (k ≡ 0x10 → ⊥) → (k ≡ 0x11 → ⊥) → (k ≡ 0x12 → ⊥) → (k ≡ 0x13 → ⊥) → (k ≡ 0x14 → ⊥) → RefusesGround e (k ∷ bs)
 ground-none {e = e} {bs = bs} k q r s t u = record { no = go }
   where
     go : (l : Label) → IsGround l → IsPlain part [] l none → IsShort (leaf l) → Denies e (k ∷ bs) (code (leaf l))
@@ -102,7 +98,7 @@ ground-none {e = e} {bs = bs} k q r s t u = record { no = go }
     go _ g p a = absurd g
 
 -- a leaf of a process: it has no constituents
-module _ {v : Scope} {room : ℕ} {e : CodeFault} (bs : List ℕ) where
+module _ {v : Scope} {room : ℕ} {e : ReadFault} (bs : List ℕ) where
   pub fresh-refused : ((x : List ℕ) → length x ≡ 32 → Denies e bs x) → Refuses true part v room e (0x15 ∷ bs)
   fresh-refused f = by-tag 0x15 bs refl (λ l t. go t l)
     where
@@ -186,11 +182,11 @@ module _ {v : Scope} {room : ℕ} {e : CodeFault} (bs : List ℕ) where
       go (node _ ts) l g w = absurd g.fits.1
 
 -- another number stands there
-pub number-others : {e : CodeFault} {bs : List ℕ} {least most : ℕ} (n : ℕ) (next : List ℕ) → bs ≡ be32 n ++ next → n < 2 ^ 32 → ((m : ℕ) → least ≤ m → m ≤ most → n ≡ m → ⊥) → RefusesNumber least most e bs
+pub number-others : {e : ReadFault} {bs : List ℕ} {least most : ℕ} (n : ℕ) (next : List ℕ) → bs ≡ be32 n ++ next → n < 2 ^ 32 → ((m : ℕ) → least ≤ m → m ≤ most → n ≡ m → ⊥) → RefusesNumber least most e bs
 number-others {e = e} {bs = bs} n next is h k = record { no = λ m p q r. subst (λ (z : List ℕ). Denies e bs z) (append-nil (be32 m)) (number-next m [] is h r (λ w. absurd (k m p q w))) }
 
 pub number-short : {least most : ℕ} (at : ℕ) (bs : List ℕ) → length bs < 4 → RefusesNumber least most (Short at) bs
 number-short at bs h = record { no = λ m p q r. short-denied at bs (be32 m) (omega (arith, length-be32 m)) }
 
-pub ground-at : {e : CodeFault} {bs : List ℕ} {tag k : ℕ} → tag ≡ k → RefusesGround e (k ∷ bs) → RefusesGround e (tag ∷ bs)
+pub ground-at : {e : ReadFault} {bs : List ℕ} {tag k : ℕ} → tag ≡ k → RefusesGround e (k ∷ bs) → RefusesGround e (tag ∷ bs)
 ground-at {e = e} {bs = bs} p h = subst (λ (x : ℕ). RefusesGround e (x ∷ bs)) (sym p) h

@@ -21,6 +21,7 @@ pub mod BlamedNames
 pub mod BlamedWhole
 pub mod Reaching
 pub mod Refuting
+pub mod Heights
 pub mod ExamplesPlaces
 pub mod Denying
 pub mod Exit

@@ -2,7 +2,7 @@
 use Rattle.std.proofs.Common.{ℕ, List}
 use Rattle.std.specs.Prelude.{Bool}
 use Rattle.calculus.specs.Form.{Sort, Scope}
-use Rattle.term_code.specs.declared.fault.CodeFault.TheVariants as fault
+use Rattle.term_code.specs.declared.fault.ReadFault.TheVariants as fault
 use Rattle.term_code.specs.Refusing.{Denies, Refuses, RefusesRow, RefusesBag}
 
 memory-denies : {bs c : List ℕ} → Denies fault.NoMemory bs c

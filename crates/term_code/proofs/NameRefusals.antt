@@ -2,40 +2,40 @@
 use Rattle.std.proofs.Common.{◌≡◌, ℕ, ◌<◌, ◌≤◌, ◌+◌, ◌^◌, cond, List, [], ◌∷◌, ◌++◌, map, length, refl, ap, sym, ◌∙◌, subst, arith, append-nil}
 use Rattle.std.specs.Prelude.{Bool, true, false, leb}
 use Rattle.std.proofs.lemmas.Bool.{leb-true}
-use Rattle.calculus.specs.Tree.{Label, par, row, pattern, some_process, some_name, receive, new, match, Tree, node, Trees, none, also}
+use Rattle.calculus.specs.Tree.{par, row, pattern, some_process, some_name, receive, new, match, Tree, node, Trees, none, also}
 use Rattle.calculus.specs.Bytes.{be32}
 use Rattle.calculus.specs.Shape.{leaf, count}
 use Rattle.calculus.specs.Code.{code}
-use Rattle.calculus.specs.Form.{Sort, term, part, pat, name_pat, pat_part, name_part, Scope, Fits, Hold, Kids, all, wides}
-use Rattle.calculus.specs.Variables.{Sense, bound}
+use Rattle.calculus.specs.Form.{Sort, term, part, pat, name_pat, pat_part, name_part, Scope, Fits, Hold, all, wides}
+use Rattle.calculus.specs.Variables.{Sense}
 use Rattle.calculus.proofs.Tails.{IsFine}
 use Rattle.calculus.proofs.Splitting.{kids-short}
 use Rattle.calculus.proofs.Formed.{some-code}
 use Rattle.calculus.proofs.FromFits.{formed, fine}
-use Rattle.term_code.specs.declared.fault.CodeFault.{CodeFault}
-use Rattle.term_code.specs.declared.fault.CodeFault.TheVariants as fault
+use Rattle.term_code.specs.declared.fault.ReadFault.{ReadFault}
+use Rattle.term_code.specs.declared.fault.ReadFault.TheVariants as fault
 use Rattle.term_code.specs.Wide.{is_wide_tag}
 use Rattle.term_code.specs.Refusing.{MayFollow, Denies, IsRight, HasRoom, Refuses, RefusesBag}
 use Rattle.term_code.proofs.Rows.{Row}
 use Rattle.term_code.proofs.Denying.{byte-denied}
 use Rattle.term_code.proofs.Kids.{no_false}
 use Rattle.term_code.proofs.Tags.{first}
-use Rattle.term_code.proofs.TextRefusals.{More, more}
+use Rattle.term_code.proofs.TextRefusals.{more}
 use Rattle.term_code.proofs.PatGoing.{wide_code, pat-going}
 
-pub refuses-at : {b : Bool} {s : Sort} {v : Scope} {room : ℕ} {e : CodeFault} {bs cs : List ℕ} → bs ≡ cs → Refuses b s v room e cs → Refuses b s v room e bs
+pub refuses-at : {b : Bool} {s : Sort} {v : Scope} {room : ℕ} {e : ReadFault} {bs cs : List ℕ} → bs ≡ cs → Refuses b s v room e cs → Refuses b s v room e bs
 refuses-at {b = b} {s = s} {v = v} {room = room} {e = e} p h = subst (λ (x : List ℕ). Refuses b s v room e x) (sym p) h
 
 -- no byte is left
-pub none-left : {b : Bool} {s : Sort} {v : Scope} {room : ℕ} {e : CodeFault} {bs : List ℕ} → ((c : List ℕ) → 0 < length c → Denies e bs c) → Refuses b s v room e bs
+pub none-left : {b : Bool} {s : Sort} {v : Scope} {room : ℕ} {e : ReadFault} {bs : List ℕ} → ((c : List ℕ) → 0 < length c → Denies e bs c) → Refuses b s v room e bs
 none-left {s = s} {v = v} h = record { no = λ l t g. h (code t) (some-code IsFine s t (formed IsFine fine s v t g.fits)) }
 
-other-first : {e : CodeFault} {now next : List ℕ} {tag : ℕ} (c : List ℕ) → now ≡ tag ∷ next → 0 < length c → (tag ≡ first c → ⊥) → Denies e now c
+other-first : {e : ReadFault} {now next : List ℕ} {tag : ℕ} (c : List ℕ) → now ≡ tag ∷ next → 0 < length c → (tag ≡ first c → ⊥) → Denies e now c
 other-first [] is l h = absurd (omega arith)
 other-first (k ∷ d) is l h = byte-denied k d is h
 
 -- too many parts are wide, or too many are not
-pub wide-refused : {A : Type 0} {f : A → Tree} {b : Bool} {v : Scope} {room : ℕ} {e : CodeFault} {xs : List A} {start now next : List ℕ} {tag : ℕ} (bs : List ℕ) (n : ℕ)
+pub wide-refused : {A : Type 0} {f : A → Tree} {b : Bool} {v : Scope} {room : ℕ} {e : ReadFault} {xs : List A} {start now next : List ℕ} {tag : ℕ} (bs : List ℕ) (n : ℕ)
     → Row f pat_part v room xs start now → bs ≡ be32 n ++ start → n < 2 ^ 32 → length xs < n → now ≡ tag ∷ next
     → (wides (map f xs) + cond (is_wide_tag tag) 1 0 ≤ 1 → length xs + 1 ≤ 8 + (wides (map f xs) + cond (is_wide_tag tag) 1 0) → ⊥) → Refuses b pat v room e bs
 wide-refused {f = f} {v = v} {xs = xs} bs n h is m i at k = pat-going bs n h is m i
@@ -111,7 +111,7 @@ module _ {v : Scope} {bs : List ℕ} (l : HasRoom v bs) (n : (y : List ℕ) → 
   unfolding name_bytes
   too-few x y q k = let m = more name_bytes bs y x (omega arith) (sym q) in n m.more m.is
 
-  name-denied : {room : ℕ} (e : CodeFault) → Refuses true pat v room e bs → (x y : List ℕ) → MayFollow e x → bs ++ x ≡ name_bytes ++ y → ⊥
+  name-denied : {room : ℕ} (e : ReadFault) → Refuses true pat v room e bs → (x y : List ℕ) → MayFollow e x → bs ++ x ≡ name_bytes ++ y → ⊥
   name-denied {room = room} (fault.Short at) h x y m q = n y (sym (append-nil bs) ∙ ap (λ (z : List ℕ). bs ++ z) (sym m) ∙ q)
   name-denied {room = room} (fault.NotCanonical at) h x y m q =
       let c = changed bs x y q (too-few x y q) in
@@ -119,14 +119,17 @@ module _ {v : Scope} {bs : List ℕ} (l : HasRoom v bs) (n : (y : List ℕ) → 
   name-denied {room = room} (fault.TooDeep at) h x y m q =
       let c = changed bs x y q (too-few x y q) in
       (h.no l (node pattern (also (leaf some_process) none)) (process_right v room)).no c.more [] tt (c.is ∙ sym process_code ∙ sym (append-nil (code (node pattern (also (leaf some_process) none)))))
+  name-denied {room = room} (fault.Unnamed at) h x y m q =
+      let c = changed bs x y q (too-few x y q) in
+      (h.no l (node pattern (also (leaf some_process) none)) (process_right v room)).no c.more [] tt (c.is ∙ sym process_code ∙ sym (append-nil (code (node pattern (also (leaf some_process) none)))))
   name-denied {room = room} fault.NoMemory h x y m q = m
 
-alone-denied : {v : Scope} {room : ℕ} {e : CodeFault} {bs : List ℕ} (b : Bool) → HasRoom v bs → Refuses b pat v room e bs → (b ≡ true → (y : List ℕ) → bs ≡ name_bytes ++ y → ⊥)
+alone-denied : {v : Scope} {room : ℕ} {e : ReadFault} {bs : List ℕ} (b : Bool) → HasRoom v bs → Refuses b pat v room e bs → (b ≡ true → (y : List ℕ) → bs ≡ name_bytes ++ y → ⊥)
     → IsRight b name_pat v room (node pattern (also (leaf some_name) none)) → Denies e bs (code (node pattern (also (leaf some_name) none)))
 alone-denied {e = e} true l h n g = record { no = λ x y m q. name-denied l (n refl) e h x y m (q ∙ ap (λ (z : List ℕ). z ++ y) name_code) }
 alone-denied false l h n g = absurd (cc (g.free refl))
 
-pub name-refused : {b : Bool} {v : Scope} {room : ℕ} {e : CodeFault} {bs : List ℕ} → Refuses b pat v room e bs → (b ≡ true → (y : List ℕ) → bs ≡ 0 ∷ 0 ∷ 0 ∷ 1 ∷ 0x51 ∷ y → ⊥) → Refuses b name_pat v room e bs
+pub name-refused : {b : Bool} {v : Scope} {room : ℕ} {e : ReadFault} {bs : List ℕ} → Refuses b pat v room e bs → (b ≡ true → (y : List ℕ) → bs ≡ 0 ∷ 0 ∷ 0 ∷ 1 ∷ 0x51 ∷ y → ⊥) → Refuses b name_pat v room e bs
 unfolding name_bytes
 name-refused {b = b} {v = v} {room = room} {e = e} {bs = bs} h n = record { no = no }
   where
@@ -142,7 +145,7 @@ name-refused {b = b} {v = v} {room = room} {e = e} {bs = bs} h n = record { no =
     no l (node par ts) g = absurd g.fits.1
     no l (node _ ts) g = absurd g.fits.1
 
-pub term-refused : {v : Scope} {room : ℕ} {e : CodeFault} {bs : List ℕ} → RefusesBag part v room e bs → Refuses true term v room e bs
+pub term-refused : {v : Scope} {room : ℕ} {e : ReadFault} {bs : List ℕ} → RefusesBag part v room e bs → Refuses true term v room e bs
 term-refused {v = v} {room = room} {e = e} {bs = bs} h = record { no = no }
   where
     no : HasRoom v bs → (t : Tree) → IsRight true term v room t → Denies e bs (code t)
@@ -150,5 +153,5 @@ term-refused {v = v} {room = room} {e = e} {bs = bs} h = record { no = no }
     no l (node row ts) g = absurd g.fits.1
     no l (node _ ts) g = absurd g.fits.1
 
-pub at-room : {b : Bool} {s : Sort} {v : Scope} {e : CodeFault} {bs : List ℕ} (m n : ℕ) → m ≡ n → Refuses b s v m e bs → Refuses b s v n e bs
+pub at-room : {b : Bool} {s : Sort} {v : Scope} {e : ReadFault} {bs : List ℕ} (m n : ℕ) → m ≡ n → Refuses b s v m e bs → Refuses b s v n e bs
 at-room {b = b} {s = s} {v = v} {e = e} {bs = bs} m n p h = subst (λ (k : ℕ). Refuses b s v k e bs) p h

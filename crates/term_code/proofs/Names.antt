@@ -1,5 +1,5 @@
 -- Patterns of names, and wide parts of patterns by their tags.
-use Rattle.std.proofs.Common.{◌≡◌, ℕ, ◌-◌, ◌≤◌, Bool, true, false, cond, List, [], ◌∷◌, take, drop, get_or, length, refl, ap, sym, ◌∙◌, arith}
+use Rattle.std.proofs.Common.{◌≡◌, ℕ, Bool, true, false, cond, List, [], ◌∷◌, refl, ap, sym, ◌∙◌, arith}
 use Rattle.calculus.specs.Bytes.{be32}
 use Rattle.calculus.specs.Tree.{bool, int, str, uri, bytes, tuple, send, receive, new, match, bundle, pattern, any, some_process, some_name, simple, same, both, either, not_this, list_pattern, set_pattern, map_pattern, Tree, node, Trees, none, also}
 use Rattle.calculus.specs.Shape.{leaf, many, label_of}

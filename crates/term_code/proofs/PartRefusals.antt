@@ -1,7 +1,7 @@
 -- Refused parts of processes, form by form: what the bytes after the tag have to be denied.
 use Rattle.std.proofs.Common.{◌≡◌, ℕ, ◌<◌, ◌≤◌, ◌+◌, ◌^◌, List, [], ◌∷◌, ◌++◌, map, length, refl, ap, sym, ◌∙◌, subst, arith, reverse, append-nil, length-append}
-use Rattle.std.specs.Prelude.{Bool, true, false}
-use Rattle.calculus.specs.Tree.{Label, list, tuple, set, dict, send, receive, new, match, bundle, unary, binary, method, list_pattern, set_pattern, map_pattern, Tree, node, Trees, none, also}
+use Rattle.std.specs.Prelude.{Bool, true}
+use Rattle.calculus.specs.Tree.{list, tuple, set, dict, send, receive, new, match, bundle, unary, binary, method, list_pattern, set_pattern, map_pattern, Tree, node, Trees}
 use Rattle.calculus.specs.Kinds.{kind_number, rights_number, unary_op_number, binary_op_number, origin_number}
 use Rattle.calculus.specs.declared.plain.Kind.{Kind}
 use Rattle.calculus.specs.declared.plain.Rights.{Rights}
@@ -9,7 +9,7 @@ use Rattle.calculus.specs.declared.plain.UnaryOp.{UnaryOp}
 use Rattle.calculus.specs.declared.plain.BinaryOp.{BinaryOp}
 use Rattle.calculus.specs.declared.plain.Origin.{Origin}
 use Rattle.calculus.specs.Bytes.{be32}
-use Rattle.calculus.specs.Shape.{count, listed, at, held}
+use Rattle.calculus.specs.Shape.{listed, at, held}
 use Rattle.calculus.specs.Code.{byte_of, text, code}
 use Rattle.calculus.specs.Form.{term, part, a_bind, a_case, row_of, pair_of, Scope}
 use Rattle.calculus.specs.Variables.{Sense, a_name, bound, bound_all}
@@ -18,15 +18,15 @@ use Rattle.calculus.proofs.Formed.{length-code}
 use Rattle.calculus.proofs.Tails.{length-text}
 use Rattle.term_code.specs.declared.text.TextKind.TheVariants as kind
 use Rattle.term_code.specs.Texts.{HasForm}
-use Rattle.term_code.specs.declared.fault.CodeFault.{CodeFault}
+use Rattle.term_code.specs.declared.fault.ReadFault.{ReadFault}
 use Rattle.term_code.specs.Refusing.{Denies, IsRight, AreRight, HasRoom, Refuses, RefusesRow, RefusesBag}
-use Rattle.term_code.proofs.Denying.{first-denied, tag-next}
-use Rattle.term_code.proofs.Kids.{no_false, one, two, count-right, count-listed}
+use Rattle.term_code.proofs.Denying.{tag-next}
+use Rattle.term_code.proofs.Kids.{no_false, one, two, count-right}
 use Rattle.term_encoder.proofs.Codes.{length-map}
 use Rattle.term_code.proofs.Forms.{no_variables}
-use Rattle.term_code.proofs.Tags.{tag_of, by-tag, Of, after-tag}
+use Rattle.term_code.proofs.Tags.{by-tag, Of, after-tag}
 
-module _ {v : Scope} {room : ℕ} {e : CodeFault} (bs : List ℕ) where
+module _ {v : Scope} {room : ℕ} {e : ReadFault} (bs : List ℕ) where
   pub list-refused : RefusesRow true term v room 0 0xFFFFFFFF e bs → Refuses true part v (room + 1) e (0x20 ∷ bs)
   list-refused h = by-tag 0x20 bs refl (λ l t. go t l)
     where

@@ -1,22 +1,22 @@
 -- Where a form of a pattern, a case or a bind is refused: at each of its fields.
-use Rattle.std.proofs.Common.{◌≡◌, ℕ, ◌<◌, ◌≤◌, ◌+◌, ◌^◌, List, [], ◌∷◌, ◌++◌, length, refl, ap, sym, ◌∙◌, subst, arith, reverse, append-nil}
+use Rattle.std.proofs.Common.{◌≡◌, ℕ, ◌≤◌, ◌+◌, List, [], ◌∷◌, ◌++◌, refl, sym, ◌∙◌, subst, arith, reverse, append-nil}
 use Rattle.std.specs.Prelude.{Bool, true, false}
-use Rattle.calculus.specs.Tree.{Label, bool, int, str, uri, bytes, simple, some_process, any, receive, new, match, tuple, send, bundle, same, both, either, not_this, list_pattern, set_pattern, map_pattern, pattern, some_name, Tree, node, Trees, none, also}
-use Rattle.calculus.specs.Kinds.{rights_number, rest_number, simple_number}
+use Rattle.calculus.specs.Tree.{bool, int, str, uri, bytes, simple, some_process, any, receive, new, match, tuple, send, bundle, same, both, either, not_this, list_pattern, set_pattern, map_pattern, Tree, node, none, also}
+use Rattle.calculus.specs.Kinds.{rights_number, simple_number}
 use Rattle.calculus.specs.declared.plain.Simple.{Simple}
 use Rattle.calculus.specs.declared.plain.Simple.TheVariants as simples
-use Rattle.calculus.specs.Shape.{leaf, held}
 use Rattle.calculus.specs.Code.{byte_of, code}
-use Rattle.calculus.specs.Form.{Sort, term, part, a_bind, a_case, pat, name_pat, pat_part, row_of, pair_of, Scope, Fits}
-use Rattle.calculus.specs.Variables.{Sense, bound}
-use Rattle.term_code.specs.declared.fault.CodeFault.{CodeFault}
+use Rattle.calculus.specs.Form.{term, part, a_bind, a_case, pat, name_pat, pat_part, row_of, pair_of, Scope, Fits}
+use Rattle.calculus.specs.Variables.{bound}
+use Rattle.term_code.specs.declared.fault.ReadFault.{ReadFault}
 use Rattle.term_code.specs.Reading.{Reads}
-use Rattle.term_code.specs.Refusing.{is_pat_form_tag, Denies, IsRight, HasRoom, Refuses, RefusesRow, RefusesByte, RefusesRest, RefusesGround}
+use Rattle.term_code.specs.Refusing.{Denies, IsRight, HasRoom, Refuses, RefusesRow, RefusesByte, RefusesRest, RefusesGround}
+use Rattle.term_code.specs.Tags.{is_pat_form_tag}
 use Rattle.term_code.proofs.Denying.{first-denied, byte-next, read-next, refused, left-less, tag-next, read-short}
 use Rattle.term_code.proofs.Kids.{no_false, row-refused, held-few}
-use Rattle.term_code.proofs.Tags.{tag_of, by-tag, Of, after-tag}
+use Rattle.term_code.proofs.Tags.{by-tag, Of}
 use Rattle.term_code.proofs.Exits.{byte-le, rights-le, after-byte}
-use Rattle.term_code.proofs.PatRefusals.{list_pattern-refused, tuple_pattern-refused, set_pattern-refused, map_pattern-refused, send_pattern-refused, bundle_pattern-refused, same-refused, both-refused, either-refused, not_this-refused}
+use Rattle.term_code.proofs.PatRefusals.{list_pattern-refused, set_pattern-refused, map_pattern-refused, send_pattern-refused, bundle_pattern-refused, same-refused, both-refused, either-refused, not_this-refused}
 use Rattle.term_code.proofs.CaseRefusals.{case-refused, bind-refused, same-scope, bound-room}
 use Rattle.term_code.proofs.BoundCodes.{bound-code}
 
@@ -27,7 +27,7 @@ simple-le simples.Str = omega arith
 simple-le simples.Uri = omega arith
 simple-le simples.Bytes = omega arith
 
-module _ {b : Bool} {v : Scope} {room : ℕ} {e : CodeFault} {bs : List ℕ} where
+module _ {b : Bool} {v : Scope} {room : ℕ} {e : ReadFault} {bs : List ℕ} where
   pub list-members : RefusesRow b pat v room 0 0xFFFFFFFF e bs → Refuses b pat_part v (room + 1) e (0x20 ∷ bs)
   list-members h = list_pattern-refused bs (λ r q l g f. row-refused r _ h l g (omega arith) (held-few r g))
 
@@ -75,7 +75,7 @@ module _ {b : Bool} {v : Scope} {room : ℕ} {e : CodeFault} {bs : List ℕ} whe
   pub not-body : Refuses false pat v room e bs → Refuses b pat_part v (room + 1) e (0x56 ∷ bs)
   not-body h = not_this-refused bs (λ a l g. refused a [] h l g)
 
-module _ {b : Bool} {v : Scope} (room : ℕ) {e : CodeFault} {bs : List ℕ} where
+module _ {b : Bool} {v : Scope} (room : ℕ) {e : ReadFault} {bs : List ℕ} where
   pub pat_send-flag : RefusesByte 1 e bs → Refuses b pat_part v (room + 1) e (0x30 ∷ bs)
   pat_send-flag h = send_pattern-refused bs (λ q a r l g k. first-denied _ (h (byte_of q) (byte-le q)))
 
@@ -86,7 +86,7 @@ closed : {b : Bool} {v : Scope} {room : ℕ} {t : Tree} → IsRight b pat_part v
 closed g f = record { fits = f; low = g.low; short = g.short; free = λ q. absurd (no_false q) }
 
 -- parts of any height
-module _ {b : Bool} {v : Scope} {room : ℕ} {e : CodeFault} (bs : List ℕ) where
+module _ {b : Bool} {v : Scope} {room : ℕ} {e : ReadFault} (bs : List ℕ) where
   -- a variable where none may be bound
   pub variable-refused : b ≡ false → Refuses b pat_part v room e (0x50 ∷ bs)
   variable-refused f = by-tag 0x50 bs refl (λ l t. go t l)
@@ -173,7 +173,7 @@ module _ {b : Bool} {v : Scope} {room : ℕ} {e : CodeFault} (bs : List ℕ) whe
       go (node match ts) l g w = absurd (omega (arith, g.low, r))
       go (node _ ts) l g w = absurd g.fits.1
 
-module _ {v : Scope} {room : ℕ} {e : CodeFault} {bs : List ℕ} where
+module _ {v : Scope} {room : ℕ} {e : ReadFault} {bs : List ℕ} where
   pub case-pattern : Refuses true pat v room e bs → Refuses true a_case v room e bs
   case-pattern h = case-refused bs (λ t body l g k. refused t _ h l g)
 

@@ -1,21 +1,21 @@
 -- Parts of a pattern that were read one after another, and the next one refused.
-use Rattle.std.proofs.Common.{◌≡◌, ℕ, ◌<◌, ◌≤◌, ◌+◌, ◌^◌, cond, List, [], ◌∷◌, ◌++◌, map, length, refl, ap, sym, ◌∙◌, subst, arith, append_assoc, append-nil, length-append}
+use Rattle.std.proofs.Common.{◌≡◌, ℕ, ◌<◌, ◌≤◌, ◌+◌, ◌^◌, cond, List, [], ◌∷◌, ◌++◌, map, length, refl, ap, sym, ◌∙◌, arith, length-append}
 use Rattle.std.specs.Prelude.{Bool, true, false}
 use Rattle.std.proofs.lemmas.List.Sums.{sum_by-cons}
-use Rattle.calculus.specs.Tree.{Label, par, pattern, bool, int, str, uri, bytes, any, some_process, simple, same, both, either, not_this, list_pattern, tuple, set_pattern, map_pattern, send, bundle, receive, new, match, Tree, node, Trees, none, also, trees}
+use Rattle.calculus.specs.Tree.{par, pattern, bool, int, str, uri, bytes, any, some_process, simple, same, both, either, not_this, list_pattern, tuple, set_pattern, map_pattern, send, bundle, receive, new, match, Tree, node, Trees, none, also, trees}
 use Rattle.calculus.specs.Bytes.{be32, joined}
 use Rattle.calculus.specs.Shape.{count, listed, label_of}
 use Rattle.calculus.specs.Code.{code, codes}
-use Rattle.calculus.specs.Form.{pat, pat_part, Scope, Fits, Hold, all, wides, IsNarrow}
-use Rattle.calculus.specs.Variables.{Sense, is_wide}
+use Rattle.calculus.specs.Form.{pat, pat_part, Scope, Fits, Hold, all, wides}
+use Rattle.calculus.specs.Variables.{is_wide}
 use Rattle.calculus.proofs.Splitting.{kids-short, length-codes}
-use Rattle.term_code.specs.declared.fault.CodeFault.{CodeFault}
+use Rattle.term_code.specs.declared.fault.ReadFault.{ReadFault}
 use Rattle.term_code.specs.Wide.{is_wide_tag}
 use Rattle.term_code.specs.Refusing.{Denies, IsRight, AreRight, HasRoom, Refuses, RefusesNumber}
 use Rattle.term_encoder.proofs.Codes.{length-map}
 use Rattle.term_code.proofs.Forms.{listed-trees}
 use Rattle.term_code.proofs.Rows.{Row}
-use Rattle.term_code.proofs.Denying.{first-denied, number-next, less-left, byte-next}
+use Rattle.term_code.proofs.Denying.{first-denied, number-next, less-left}
 use Rattle.term_code.proofs.Kids.{count-right, count-listed}
 use Rattle.term_code.proofs.Going.{go, each-code, map-codes}
 use Rattle.term_code.proofs.Tags.{first}
@@ -76,7 +76,7 @@ narrow-are ts g = record { fits = g.fits.1; low = omega (arith, g.low); short = 
 pub wides-read : {A : Type 0} {f : A → Tree} {v : Scope} {room : ℕ} {xs : List A} {start now : List ℕ} → Row f pat_part v room xs start now → wides (map f xs) ≡ wide_codes (map (λ y. code (f y)) xs)
 wides-read {f = f} {v = v} {xs = xs} h = ap wides (sym (listed-trees (map f xs))) ∙ wides-codes v (trees (map f xs)) h.fits ∙ ap wide_codes (map-codes f xs)
 
-module _ {b : Bool} {v : Scope} {room : ℕ} {e : CodeFault} (bs : List ℕ) where
+module _ {b : Bool} {v : Scope} {room : ℕ} {e : ReadFault} (bs : List ℕ) where
   pub pat-number : RefusesNumber 0 9 e bs → Refuses b pat v room e bs
   pat-number h = record { no = no }
     where

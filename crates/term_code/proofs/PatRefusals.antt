@@ -1,22 +1,21 @@
 -- Refused parts of patterns, form by form: what the bytes after the tag have to be denied.
-use Rattle.std.proofs.Common.{◌≡◌, ℕ, ◌<◌, ◌≤◌, ◌+◌, ◌^◌, List, [], ◌∷◌, ◌++◌, map, length, refl, ap, sym, ◌∙◌, subst, arith}
+use Rattle.std.proofs.Common.{◌≡◌, ℕ, ◌≤◌, ◌+◌, List, [], ◌∷◌, ◌++◌, length, refl, ap, sym, ◌∙◌, subst, arith}
 use Rattle.std.specs.Prelude.{Bool, true, false}
-use Rattle.calculus.specs.Tree.{Label, list, set, dict, tuple, send, receive, new, match, bundle, rest, same, both, either, not_this, list_pattern, set_pattern, map_pattern, simple, some_process, Tree, node, Trees, none, also}
-use Rattle.calculus.specs.Kinds.{rights_number, rest_number, simple_number}
+use Rattle.calculus.specs.Tree.{list, set, dict, tuple, send, bundle, rest, same, both, either, not_this, list_pattern, set_pattern, map_pattern, Tree, node, Trees, none, also}
+use Rattle.calculus.specs.Kinds.{rights_number, rest_number}
 use Rattle.calculus.specs.declared.plain.Rights.{Rights}
-use Rattle.calculus.specs.declared.plain.Simple.{Simple}
 use Rattle.calculus.specs.declared.plain.TermRest.{TermRest}
 use Rattle.calculus.specs.declared.plain.TermRest.TheVariants as rests
-use Rattle.calculus.specs.Shape.{count, listed, at, held, leaf}
+use Rattle.calculus.specs.Shape.{listed, at, held, leaf}
 use Rattle.calculus.specs.Code.{byte_of, code}
-use Rattle.calculus.specs.Form.{term, part, pat, name_pat, pat_part, a_rest, row_of, pair_of, Scope}
-use Rattle.calculus.specs.Variables.{bound, bound_all}
+use Rattle.calculus.specs.Form.{term, pat, name_pat, pat_part, a_rest, row_of, pair_of, Scope}
+use Rattle.calculus.specs.Variables.{bound}
 use Rattle.calculus.proofs.Splitting.{kids-short}
-use Rattle.term_code.specs.declared.fault.CodeFault.{CodeFault}
+use Rattle.term_code.specs.declared.fault.ReadFault.{ReadFault}
 use Rattle.term_code.specs.Refusing.{Denies, IsRight, AreRight, HasRoom, Refuses, RefusesRow}
 use Rattle.term_code.proofs.Denying.{tag-next}
 use Rattle.term_code.proofs.Kids.{no_false, one, two, count-right}
-use Rattle.term_code.proofs.Tags.{tag_of, by-tag, Of, after-tag}
+use Rattle.term_code.proofs.Tags.{by-tag, Of, after-tag}
 
 -- a remainder
 pub record Rest (b : Bool) (x : Tree) : Type 0 where
@@ -34,7 +33,7 @@ rest-of (node (rest q) none) g = record { kind = q; is = refl; free = λ p f. no
 rest-of (node (rest q) (also t ts)) g = absurd g.fits.1
 rest-of (node _ ts) g = absurd g.fits.1
 
-module _ {b : Bool} {v : Scope} {room : ℕ} {e : CodeFault} (bs : List ℕ) where
+module _ {b : Bool} {v : Scope} {room : ℕ} {e : ReadFault} (bs : List ℕ) where
   pub list_pattern-refused : ((r : Tree) (q : TermRest) → HasRoom v bs → IsRight b (row_of pat) v room r → (b ≡ false → q ≡ rests.Var → ⊥) → Denies e bs (code r ++ (rest_number q ∷ []))) → Refuses b pat_part v (room + 1) e (0x20 ∷ bs)
   list_pattern-refused f = by-tag 0x20 bs refl (λ l t. go t l)
     where

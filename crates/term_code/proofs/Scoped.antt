@@ -1,18 +1,18 @@
 -- Scopes with no variables, and those in which some were found.
-use Rattle.std.proofs.Common.{◌≡◌, ℕ, List, [], ◌++◌, length, refl, ap, sym, ◌∙◌, subst}
-use Rattle.std.specs.Prelude.{Bool, true, false, ◌==◌}
+use Rattle.std.proofs.Common.{◌≡◌, ℕ, List, [], ◌++◌, length, ap, sym, ◌∙◌, subst}
+use Rattle.std.specs.Prelude.{Bool, false, ◌==◌}
 use Rattle.calculus.specs.Form.{Sort}
 use Rattle.calculus.specs.Tree.{Tree}
 use Rattle.calculus.specs.Variables.{Sense}
 use Rattle.term_encoder.proofs.Codes.{length-map}
 use Rattle.term_code.specs.declared.reader.Sense.{Sense as Read}
-use Rattle.term_code.specs.declared.fault.CodeFault.{CodeFault}
+use Rattle.term_code.specs.declared.fault.ReadFault.{ReadFault}
 use Rattle.term_code.specs.Scopes.{sense_of, senses_of, scope_of}
 use Rattle.term_code.specs.Reading.{Reads}
 use Rattle.term_code.specs.Refusing.{Refuses}
 use Rattle.term_code.proofs.Kids.{no_false}
 
-pub refuses-unscoped : {b : Bool} {s : Sort} {room : ℕ} {e : CodeFault} {bs : List ℕ} {xs : List Read} → xs ≡ [] → Refuses b s (scope_of xs) room e bs → Refuses b s [] room e bs
+pub refuses-unscoped : {b : Bool} {s : Sort} {room : ℕ} {e : ReadFault} {bs : List ℕ} {xs : List Read} → xs ≡ [] → Refuses b s (scope_of xs) room e bs → Refuses b s [] room e bs
 refuses-unscoped {b = b} {s = s} {room = room} {e = e} {bs = bs} p h = subst (λ (ys : List Read). Refuses b s (scope_of ys) room e bs) p h
 
 pub reads-unscoped : {s : Sort} {room : ℕ} {t : Tree} {bs next : List ℕ} {xs : List Read} → xs ≡ [] → Reads s (scope_of xs) room t bs next → Reads s [] room t bs next

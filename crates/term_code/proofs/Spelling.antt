@@ -9,7 +9,7 @@ use Rattle.calculus.specs.Shape.{count}
 use Rattle.calculus.specs.Order.{up_to, placed, sorted}
 use Rattle.calculus.specs.Congruence.{is_bag}
 use Rattle.calculus.specs.Code.{text, head, arranged, code, codes}
-use Rattle.term_code.specs.Places.{text_fields, fields, Item, field, spelling, put, by_code, standing, constituents, items}
+use Rattle.term_code.specs.Places.{text_fields, fields, Slot, slot_of, Item, field, own_items, spelling, put, by_code, standing, constituents, items}
 
 single-bytes : (os : List Origin) → joined (map (λ (o : Origin). origin_number o ∷ []) os) ≡ map origin_number os
 single-bytes [] = refl
@@ -44,9 +44,9 @@ spelled-fields : (fs : List (List ℕ)) (is : List Item) → spelling (map field
 spelled-fields [] is = refl
 spelled-fields (f ∷ fs) is = ap (λ (z : List ℕ). f ++ z) (spelled-fields fs is) ∙ sym (append_assoc f (joined fs) (spelling is))
 
-spelled-constituents : (b : Bool) (least : List ℕ) (us : List Tree) → spelling (constituents b least us) ≡ joined (map code us)
-spelled-constituents b least [] = refl
-spelled-constituents b least (u ∷ us) = ap (λ (z : List ℕ). code u ++ z) (spelled-constituents b (cond b (code u) []) us)
+spelled-constituents : (slot : Slot) (b : Bool) (least : List ℕ) (us : List Tree) → spelling (constituents slot b least us) ≡ joined (map code us)
+spelled-constituents slot b least [] = refl
+spelled-constituents slot b least (u ∷ us) = ap (λ (z : List ℕ). code u ++ z) (spelled-constituents slot b (cond b (code u) []) us)
 
 put-one : (t u : Tree) (us vs : List Tree) (cs : List (List ℕ)) (b : Bool) → map code vs ≡ cs → map code (cond b (t ∷ u ∷ us) (u ∷ vs)) ≡ cond b (code t ∷ code u ∷ map code us) (code u ∷ cs)
 put-one t u us vs cs true p = refl
@@ -65,11 +65,12 @@ standing-codes true (also t ts) = put-placed t (by_code ts) ∙ ap (λ (cs : Lis
 standing-codes false none = refl
 standing-codes false (also t ts) = ap (λ (cs : List (List ℕ)). code t ∷ cs) (standing-codes false ts)
 
-pub spelling-row : (b : Bool) (n : ℕ) (ts : Trees) → spelling (field (be32 n) ∷ constituents b [] (standing b ts)) ≡ be32 n ++ joined (arranged b (codes ts))
-spelling-row b n ts = ap (λ (z : List ℕ). be32 n ++ z) (spelled-constituents b [] (standing b ts) ∙ ap joined (standing-codes b ts))
+spelled-own : (l : Label) (n : ℕ) (is : List Item) → spelling (own_items l n ++ is) ≡ head l n ++ spelling is
+spelled-own (method x) n is = after-tag 0x42 (sym (append_assoc (be32 (length x)) x (spelling is)))
+spelled-own l n is = spelled-fields (fields l n) is ∙ ap (λ (z : List ℕ). z ++ spelling is) (fields-head l n)
 
 pub spelling-items : (t : Tree) → spelling (items t) ≡ code t
 spelling-items (node l ts) =
-    let cs = constituents (is_bag l) [] (standing (is_bag l) ts) in
-    spelled-fields (fields l (count ts)) cs ∙ ap (λ (z : List ℕ). z ++ spelling cs) (fields-head l (count ts))
-    ∙ ap (λ (z : List ℕ). head l (count ts) ++ z) (spelled-constituents (is_bag l) [] (standing (is_bag l) ts) ∙ ap joined (standing-codes (is_bag l) ts))
+    let cs = constituents (slot_of l) (is_bag l) [] (standing (is_bag l) ts) in
+    spelled-own l (count ts) cs
+    ∙ ap (λ (z : List ℕ). head l (count ts) ++ z) (spelled-constituents (slot_of l) (is_bag l) [] (standing (is_bag l) ts) ∙ ap joined (standing-codes (is_bag l) ts))

@@ -1,8 +1,8 @@
 -- Which form a refused part can have, by its tag.
-use Rattle.std.proofs.Common.{◌≡◌, ℕ, ◌≤◌, ◌+◌, List, [], ◌∷◌, ◌++◌, length, refl, ap, sym, ◌∙◌, arith, ◌<◌, inl, inr, ⊎_elim}
+use Rattle.std.proofs.Common.{◌≡◌, ℕ, ◌≤◌, List, [], ◌∷◌, ◌++◌, length, refl, ap, ◌∙◌, arith, ◌<◌, inl, inr, ⊎_elim}
 use Rattle.std.specs.Prelude.{Bool, true, false, ◌&&◌, ◌||◌, leb, ◌⊎◌}
 use Rattle.std.proofs.lemmas.Bool.{and_parts, leb-true}
-use Rattle.calculus.specs.Tree.{Label, Tree, node, Trees}
+use Rattle.calculus.specs.Tree.{Tree, node}
 use Rattle.calculus.specs.Bytes.{joined}
 use Rattle.calculus.specs.Shape.{count}
 use Rattle.calculus.specs.Congruence.{is_bag}
@@ -13,8 +13,9 @@ use Rattle.calculus.proofs.Known.{own_bytes, known}
 use Rattle.calculus.proofs.Tails.{IsFine}
 use Rattle.calculus.proofs.Formed.{is_form}
 use Rattle.calculus.proofs.FromFits.{formed, fine}
-use Rattle.term_code.specs.declared.fault.CodeFault.{CodeFault}
-use Rattle.term_code.specs.Refusing.{is_form_tag, is_pat_form_tag, Denies, IsRight, HasRoom, Refuses}
+use Rattle.term_code.specs.declared.fault.ReadFault.{ReadFault}
+use Rattle.term_code.specs.Refusing.{Denies, IsRight, HasRoom, Refuses}
+use Rattle.term_code.specs.Tags.{is_form_tag, is_pat_form_tag}
 
 -- the first byte
 abbrev pub first : List ℕ → ℕ
@@ -42,12 +43,12 @@ tag-same s v (node l ts) k xs y o h q =
     (q ∙ ap (λ (z : List ℕ). (z ++ j) ++ y) (head-parts l (count ts)) ∙ ap (λ (z : List ℕ). ((z ++ tail l (count ts)) ++ j) ++ y) a)
 
 -- only forms of this tag matter
-pub by-tag : {b : Bool} {s : Sort} {v : Scope} {room : ℕ} {e : CodeFault} (k : ℕ) (bs : List ℕ) → own_bytes s ≡ 1
+pub by-tag : {b : Bool} {s : Sort} {v : Scope} {room : ℕ} {e : ReadFault} (k : ℕ) (bs : List ℕ) → own_bytes s ≡ 1
     → (HasRoom v (k ∷ bs) → (t : Tree) → IsRight b s v room t → tag_of t ≡ k → Denies e (k ∷ bs) (code t)) → Refuses b s v room e (k ∷ bs)
 by-tag {s = s} {v = v} k bs o f = record { no = λ l t g. record { no = λ x y m q. (f l t g (tag-same s v t k (bs ++ x) y o g.fits q)).no x y m q } }
 
 -- a tree of this tag is denied
-abbrev pub Of : Bool → Sort → Scope → ℕ → CodeFault → List ℕ → ℕ → Tree → Type 0
+abbrev pub Of : Bool → Sort → Scope → ℕ → ReadFault → List ℕ → ℕ → Tree → Type 0
 Of b s v room e bs k t = HasRoom v (k ∷ bs) → IsRight b s v room t → tag_of t ≡ k → Denies e (k ∷ bs) (code t)
 
 pub after-tag : {v : Scope} {bs : List ℕ} (k : ℕ) → HasRoom v (k ∷ bs) → HasRoom v bs

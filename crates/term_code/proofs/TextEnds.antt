@@ -1,6 +1,6 @@
 -- Texts that are cut, and bytes that end them.
-use Rattle.std.proofs.Common.{◌≡◌, ℕ, zero, suc, ◌+◌, ◌-◌, ◌<◌, ◌≤◌, Bool, true, false, List, [], ◌∷◌, ◌++◌, take, drop, length, get_or, IsUtf8, refl, sym, ap, subst, ◌∙◌, arith, append_assoc, append-nil, length-append, length-drop, take-append-drop, lt-ltb, le-leb, ltb-true, take_all}
-use Rattle.std.specs.Prelude.{Contains, replicate, not, ◌&&◌, ◌||◌, eqb, leb, nat_lt, IsTrue, Option, None, Some, is_some}
+use Rattle.std.proofs.Common.{◌≡◌, ℕ, zero, suc, ◌-◌, ◌<◌, ◌≤◌, Bool, true, false, List, [], ◌∷◌, ◌++◌, take, drop, length, get_or, IsUtf8, refl, sym, ap, subst, ◌∙◌, arith, append_assoc, length-append, length-drop, take-append-drop, lt-ltb, le-leb, ltb-true, take_all}
+use Rattle.std.specs.Prelude.{Contains, replicate, not, ◌&&◌, ◌||◌, eqb, leb, nat_lt, Option, None, Some, is_some}
 use Rattle.std.specs.List.{list_all}
 use Rattle.std.specs.Str.{IsValidUpTo}
 use Rattle.std.specs.Str.Lossy.{utf8_error_len}
@@ -8,7 +8,7 @@ use Rattle.std.proofs.lemmas.Bool.{and_parts, and_from, leb-true}
 use Rattle.std.proofs.lemmas.Str.{IsUtf8-nil, IsUtf8-append, IsUtf8-encode, encode_ascii}
 use Rattle.calculus.specs.Form.{is_letter, goes_on_word, all_go_on, is_word, keys}
 use Rattle.term_code.specs.declared.text.TextKind.TheVariants as kind
-use Rattle.term_code.specs.Texts.{HasForm, BeginsText, IsClear, EndsClear, character_len, begins_word}
+use Rattle.term_code.specs.Texts.{BeginsText, IsClear, EndsClear, character_len, begins_word}
 use Rattle.term_code.proofs.Utf8.{Ends, completed, cut-begins, begins-facts}
 
 -- so many letters

@@ -1,8 +1,8 @@
 -- Refused texts, origins and indices.
-use Rattle.std.proofs.Common.{◌≡◌, ℕ, zero, suc, ◌<◌, ◌≤◌, ◌+◌, ◌-◌, ◌^◌, List, [], ◌∷◌, ◌++◌, map, get_or, length, refl, ap, sym, ◌∙◌, subst, arith, append_assoc, append-nil, length-append}
-use Rattle.std.specs.Prelude.{Bool, true, false, not, ◌&&◌, ◌||◌, leb, eqb, IsTrue, IsUtf8, Contains, reverse}
+use Rattle.std.proofs.Common.{◌≡◌, ℕ, zero, suc, ◌<◌, ◌≤◌, ◌^◌, List, [], ◌∷◌, ◌++◌, map, get_or, length, refl, ap, sym, ◌∙◌, subst, arith, append-nil}
+use Rattle.std.specs.Prelude.{Bool, true, false, not, ◌&&◌, ◌||◌, leb, eqb, IsUtf8}
 use Rattle.std.specs.List.{list_any, list_all}
-use Rattle.std.specs.Str.{bytes_eq, IsAscii}
+use Rattle.std.specs.Str.{bytes_eq}
 use Rattle.std.proofs.lemmas.Bool.{and_parts, and_from}
 use Rattle.std.proofs.lemmas.Bool.Decides.{nat_tests}
 use Rattle.std.proofs.lemmas.Str.{IsUtf8-from_ascii}
@@ -16,7 +16,7 @@ use Rattle.calculus.specs.Code.{text}
 use Rattle.calculus.specs.Variables.{Sense}
 use Rattle.calculus.specs.Form.{Scope, HasVariable, is_letter, goes_on_word, is_word, all_go_on, keys}
 use Rattle.calculus.proofs.Prefixes.{Splits-length}
-use Rattle.term_code.specs.declared.fault.CodeFault.{CodeFault}
+use Rattle.term_code.specs.declared.fault.ReadFault.{ReadFault}
 use Rattle.term_code.specs.declared.text.TextKind.{TextKind}
 use Rattle.term_code.specs.declared.text.TextKind.TheVariants as kind
 use Rattle.term_code.specs.declared.reader.Sense.{Sense as Read}
@@ -27,11 +27,11 @@ use Rattle.term_code.specs.Refusing.{Denies, RefusesByte, RefusesOrigins}
 use Rattle.term_code.proofs.Denying.{first-denied, next-denied, byte-next, number-next}
 
 -- a length, and then another text
-pub text-refused : {e : CodeFault} {bs : List ℕ} (n : ℕ) (next x : List ℕ) → bs ≡ be32 n ++ next → n < 2 ^ 32 → length x < 2 ^ 32 → (length x ≡ n → Denies e next x) → Denies e bs (text x)
+pub text-refused : {e : ReadFault} {bs : List ℕ} (n : ℕ) (next x : List ℕ) → bs ≡ be32 n ++ next → n < 2 ^ 32 → length x < 2 ^ 32 → (length x ≡ n → Denies e next x) → Denies e bs (text x)
 text-refused n next x is h k f = number-next (length x) x is h k (λ w. f (sym w))
 
 -- as many bytes, which are others
-pub others-denied : {e : CodeFault} {bs : List ℕ} (taken x next : List ℕ) → bs ≡ taken ++ next → length taken ≡ length x → (taken ≡ x → ⊥) → Denies e bs x
+pub others-denied : {e : ReadFault} {bs : List ℕ} (taken x next : List ℕ) → bs ≡ taken ++ next → length taken ≡ length x → (taken ≡ x → ⊥) → Denies e bs x
 others-denied {e = e} {bs = bs} taken x next is l k = subst (λ (z : List ℕ). Denies e bs z) (append-nil x) (next-denied [] is (Splits-length taken x l) (λ w. absurd (k w)))
 
 cons-same : (a b : ℕ) (xs ys : List ℕ) → a ∷ xs ≡ b ∷ ys → (a ≡ b) × (xs ≡ ys)
@@ -51,7 +51,7 @@ more (b ∷ bs) (c ∷ x) a z l e =
     record { more = m.more; is = ap (λ (k : ℕ). k ∷ x) (sym p.0) ∙ ap (λ (k : List ℕ). b ∷ k) m.is }
 
 -- a front that no more bytes make a text
-pub not-begun : {e : CodeFault} {k : TextKind} (next x : List ℕ) (len : ℕ) → length next < len → length x ≡ len → HasForm k x → (BeginsText k next len → ⊥) → Denies e next x
+pub not-begun : {e : ReadFault} {k : TextKind} (next x : List ℕ) (len : ℕ) → length next < len → length x ≡ len → HasForm k x → (BeginsText k next len → ⊥) → Denies e next x
 not-begun {k = k} next x len l w f n = record {
   no = λ a z m q.
       let r = more next x a z (omega (arith, l, w)) q in
@@ -133,13 +133,13 @@ origin-le origins.Plain = omega arith
 origin-le origins.Stdout = omega arith
 origin-le origins.StdoutAck = omega arith
 
-origins-go : {e : CodeFault} (ps os : List Origin) (start now : List ℕ) → start ≡ map origin_number ps ++ now → RefusesByte 2 e now → length ps < length os → Denies e start (map origin_number os)
+origins-go : {e : ReadFault} (ps os : List Origin) (start now : List ℕ) → start ≡ map origin_number ps ++ now → RefusesByte 2 e now → length ps < length os → Denies e start (map origin_number os)
 origins-go [] [] start now is h l = absurd (omega arith)
 origins-go {e = e} [] (o ∷ os) start now is h l = subst (λ (z : List ℕ). Denies e z (map origin_number (o ∷ os))) (sym is) (first-denied (map origin_number os) (h (origin_number o) (origin-le o)))
 origins-go (p ∷ ps) [] start now is h l = absurd (omega arith)
 origins-go (p ∷ ps) (o ∷ os) start now is h l = byte-next (origin_number o) (map origin_number os) is (λ w. origins-go ps os (map origin_number ps ++ now) now refl h (omega arith))
 
-pub origins-refused : {e : CodeFault} {bs : List ℕ} (n : ℕ) (ps : List Origin) (start now : List ℕ) → bs ≡ be32 n ++ start → n < 2 ^ 32 → start ≡ map origin_number ps ++ now → RefusesByte 2 e now → length ps < n → RefusesOrigins e bs
+pub origins-refused : {e : ReadFault} {bs : List ℕ} (n : ℕ) (ps : List Origin) (start now : List ℕ) → bs ≡ be32 n ++ start → n < 2 ^ 32 → start ≡ map origin_number ps ++ now → RefusesByte 2 e now → length ps < n → RefusesOrigins e bs
 origins-refused n ps start now is f p h l = record { no = λ os some few. number-next (length os) (map origin_number os) is f few (λ w. origins-go ps os start now p h (omega arith)) }
 
 -- variables
@@ -155,5 +155,5 @@ sense-same read.Process read.Name e = absurd (cc)
 sense-same read.Name read.Process e = absurd (cc)
 sense-same read.Name read.Name e = refl
 
-pub index-refused : {e : CodeFault} {bs : List ℕ} (n i : ℕ) (next : List ℕ) → bs ≡ be32 n ++ next → n < 2 ^ 32 → i < 2 ^ 32 → (n ≡ i → ⊥) → Denies e bs (be32 i)
+pub index-refused : {e : ReadFault} {bs : List ℕ} (n i : ℕ) (next : List ℕ) → bs ≡ be32 n ++ next → n < 2 ^ 32 → i < 2 ^ 32 → (n ≡ i → ⊥) → Denies e bs (be32 i)
 index-refused {e = e} {bs = bs} n i next is h k f = subst (λ (z : List ℕ). Denies e bs z) (append-nil (be32 i)) (number-next i [] is h k (λ w. absurd (f w)))

@@ -1,5 +1,5 @@
 -- How far bytes are a proper prefix of a code.
-use Rattle.std.specs.Prelude.{◌≡◌, ℕ, ◌<◌, ◌≤◌, Bool, false, List, [], ◌∷◌, ◌++◌, ◌-◌, ⊤, length, map as each, true, ◌⊎◌}
+use Rattle.std.specs.Prelude.{◌≡◌, ℕ, ◌<◌, ◌≤◌, Bool, false, List, [], ◌∷◌, ◌++◌, ⊤, length, map as each, true, ◌⊎◌}
 use Rattle.calculus.specs.Tree.{Label, Tree, Trees, none}
 use Rattle.calculus.specs.Kinds.{origin_number}
 use Rattle.calculus.specs.declared.plain.Origin.{Origin}
@@ -10,36 +10,32 @@ use Rattle.calculus.specs.Order.{up_to, IsAscending}
 use Rattle.calculus.specs.Code.{code, codes, text}
 use Rattle.calculus.specs.Variables.{Sense, bound, bound_all}
 use Rattle.calculus.specs.Form.{Sort, Scope, Fits, Hold, all, IsPlain, IsBytes, IsDigest, HasVariable}
-use Rattle.term_code.specs.declared.fault.CodeFault.{CodeFault}
-use Rattle.term_code.specs.declared.fault.CodeFault.TheVariants as fault
+use Rattle.term_code.specs.declared.fault.ReadFault.{ReadFault}
+use Rattle.term_code.specs.declared.fault.ReadFault.TheVariants as fault
 use Rattle.term_code.specs.declared.text.TextKind.{TextKind}
 use Rattle.term_code.specs.Texts.{HasForm}
 use Rattle.term_code.specs.Refusing.{IsGround}
 
 -- a fault that tells of a place
-abbrev pub HasPlace : CodeFault → Type 0
+abbrev pub HasPlace : ReadFault → Type 0
 HasPlace (fault.Short at) = ⊤
 HasPlace (fault.NotCanonical at) = ⊤
 HasPlace (fault.TooDeep at) = ⊤
+HasPlace (fault.Unnamed at) = ⊤
 HasPlace fault.NoMemory = ⊥
 
 -- the place of a fault in so many bytes is where these are left
-abbrev pub IsAt : CodeFault → List ℕ → Type 0
+abbrev pub IsAt : ReadFault → List ℕ → Type 0
 IsAt (fault.Short at) after = after ≡ []
 IsAt (fault.NotCanonical at) after = at ≡ length after
 IsAt (fault.TooDeep at) after = at ≡ length after
+IsAt (fault.Unnamed at) after = at ≡ length after
 IsAt fault.NoMemory after = ⊤
 
--- it is behind four zeros, the length of a method's name of no bytes
-pub record IsUnnamed (e : CodeFault) (after : List ℕ) : Type 0 where
-  pub others : List ℕ
-  pub is : after ≡ 0 ∷ 0 ∷ 0 ∷ 0 ∷ others
-  pub place : e ≡ fault.NotCanonical (length others)
-
 -- up to the place of a fault bytes are as said; what is left from there on is said of them
-pub record Goes (e : CodeFault) (IsBegun : List ℕ → Type 0) : Type 0 where
+pub record Goes (e : ReadFault) (IsBegun : List ℕ → Type 0) : Type 0 where
   pub after : List ℕ
-  pub place : IsAt e after ⊎ IsUnnamed e after
+  pub place : IsAt e after
   pub begun : IsBegun after
 
 -- up to these that are left, bytes are a proper prefix of a list

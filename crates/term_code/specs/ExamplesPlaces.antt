@@ -3,7 +3,7 @@ use Rattle.std.specs.Prelude.{ℕ, true, List, [], ◌∷◌, codes}
 use Rattle.calculus.specs.Tree.{bool, set, Tree}
 use Rattle.calculus.specs.Shape.{leaf, many, process}
 use Rattle.calculus.specs.Examples.{hex, word, yes}
-use Rattle.term_code.specs.Places.{items, Breaks}
+use Rattle.term_code.specs.Places.{items, these, Breaks}
 
 -- the process `true | true`
 abbrev pub two_parts : Tree
@@ -19,7 +19,7 @@ two_sets = process (twins ∷ twins ∷ [])
 
 -- in the code of a process other bytes stand after these, which are written in hexadecimal digits
 abbrev pub OthersStand : Tree → List ℕ → List ℕ → Type 0
-OthersStand t before after = Breaks (hex after) (items t) (hex before)
+OthersStand t before after = Breaks (these (hex after)) 400 (items t) (hex before)
 
 -- places that are wrong, and some that are not
 pub record PlaceExamples : Type 0 where

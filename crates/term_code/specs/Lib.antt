@@ -1,4 +1,5 @@
 pub mod Scopes
+pub mod Tags
 pub mod Places
 pub mod Blaming
 pub mod Texts

@@ -1,5 +1,5 @@
 -- What a decoder has to read.
-use Rattle.std.specs.Prelude.{◌≡◌, ◌≤◌, ◌<◌, ◌-◌, ℕ, List, ◌++◌, length, ◌+◌, ◌⊎◌, [], ◌∷◌, take}
+use Rattle.std.specs.Prelude.{◌≡◌, ◌≤◌, ◌<◌, ◌-◌, ℕ, List, ◌++◌, length, ◌+◌, ◌^◌, ◌⊎◌}
 use Rattle.calculus.specs.Tree.{Tree}
 use Rattle.calculus.specs.Size.{height}
 use Rattle.calculus.specs.Code.{code}
@@ -7,6 +7,9 @@ use Rattle.calculus.specs.CodeLaws.{IsShort}
 use Rattle.calculus.specs.Form.{IsClosed}
 use Rattle.term_code.specs.declared.fault.CodeFault.{CodeFault}
 use Rattle.term_code.specs.declared.fault.CodeFault.TheVariants as fault
+use Rattle.term_code.specs.declared.fault.ReadFault.{ReadFault}
+use Rattle.term_code.specs.declared.fault.ReadFault.TheVariants as read
+use Rattle.term_code.specs.Blaming.{IsNamelessAt}
 
 -- a closed process of height at most 400, whose code is shorter than 2^32 bytes
 pub record IsReadable (t : Tree) : Type 0 where
@@ -31,8 +34,7 @@ pub record IsBegun (bs : List ℕ) : Type 0 where
   pub is : bs ++ more ≡ code process
   pub proper : 0 < length more
 
--- up to this place bytes are a prefix of the code of a closed process of height at most 400; or they are but for the last
--- four, zeros, as the length of a method's name of no bytes, which is blamed behind it
+-- up to this place bytes are a prefix of the code of a closed process of height at most 400; or they are so but for the last four, the length of a method's name of no bytes, which is blamed behind it
 pub record IsBegunTo (bs : List ℕ) (at : ℕ) : Type 0 where
   pub process : Tree
   pub closed : IsClosed process
@@ -42,11 +44,12 @@ pub record IsBegunTo (bs : List ℕ) (at : ℕ) : Type 0 where
   pub goes : before ++ more ≡ code process
   pub after : List ℕ
   pub is : before ++ after ≡ bs
-  pub place : (at ≡ length before) ⊎ ((at ≡ length before + 4) × (take 4 after ≡ 0 ∷ 0 ∷ 0 ∷ 0 ∷ []))
+  pub place : (at ≡ length before) ⊎ ((at ≡ length before + 4) × (at < 2 ^ 32 → IsNamelessAt at bs))
 
--- the fault of so many bytes: where they end early, it tells of their length, and a place is told from their beginning
-abbrev pub at_end : CodeFault → ℕ → CodeFault
-at_end (fault.Short at) len = fault.Short len
-at_end (fault.NotCanonical at) len = fault.NotCanonical (len - at)
-at_end (fault.TooDeep at) len = fault.TooDeep (len - at)
-at_end fault.NoMemory len = fault.NoMemory
+-- the fault of so many bytes: where they end early, it tells of their length, and a place is told from their beginning. A name of no bytes is blamed behind the four bytes of its length.
+abbrev pub at_end : ReadFault → ℕ → CodeFault
+at_end (read.Short at) len = fault.Short len
+at_end (read.NotCanonical at) len = fault.NotCanonical (len - at)
+at_end (read.TooDeep at) len = fault.TooDeep (len - at)
+at_end (read.Unnamed at) len = fault.NotCanonical (len - (at - 4))
+at_end read.NoMemory len = fault.NoMemory

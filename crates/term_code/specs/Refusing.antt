@@ -1,5 +1,5 @@
 -- What bytes are not, where a reader refuses them.
-use Rattle.std.specs.Prelude.{◌≡◌, ℕ, ◌<◌, ◌≤◌, ◌+◌, ◌^◌, Bool, true, false, List, [], ◌∷◌, ◌++◌, ⊤, length, ◌&&◌, ◌||◌, leb, map as each}
+use Rattle.std.specs.Prelude.{◌≡◌, ℕ, ◌<◌, ◌≤◌, ◌+◌, ◌^◌, Bool, true, false, List, [], ◌∷◌, ◌++◌, ⊤, length, map as each}
 use Rattle.calculus.specs.Tree.{Label, bool, int, str, uri, bytes, Tree, Trees, none}
 use Rattle.calculus.specs.Kinds.{origin_number, rest_number}
 use Rattle.calculus.specs.declared.plain.TermRest.{TermRest}
@@ -13,16 +13,8 @@ use Rattle.calculus.specs.Code.{code, codes}
 use Rattle.calculus.specs.CodeLaws.{IsShort}
 use Rattle.calculus.specs.Variables.{bound, bound_all}
 use Rattle.calculus.specs.Form.{Sort, part, Scope, Fits, IsPlain, Hold, all}
-use Rattle.term_code.specs.declared.fault.CodeFault.{CodeFault}
-use Rattle.term_code.specs.declared.fault.CodeFault.TheVariants as fault
-
--- whether a byte is the tag of a part of a process that is no leaf
-abbrev pub is_form_tag : ℕ → Bool
-is_form_tag tag = (leb 0x20 tag && leb tag 0x23) || ((leb 0x30 tag && leb tag 0x34) || (leb 0x40 tag && leb tag 0x42))
-
--- whether a byte is the tag of a part of a pattern that is no leaf
-abbrev pub is_pat_form_tag : ℕ → Bool
-is_pat_form_tag tag = (leb 0x20 tag && leb tag 0x23) || ((leb 0x30 tag && leb tag 0x34) || (leb 0x53 tag && leb tag 0x56))
+use Rattle.term_code.specs.declared.fault.ReadFault.{ReadFault}
+use Rattle.term_code.specs.declared.fault.ReadFault.TheVariants as fault
 
 -- a plain value
 abbrev pub IsGround : Label → Type 0
@@ -34,14 +26,15 @@ IsGround (bytes x) = ⊤
 IsGround _ = ⊥
 
 -- what may stand after bytes that are refused so
-abbrev pub MayFollow : CodeFault → List ℕ → Type 0
+abbrev pub MayFollow : ReadFault → List ℕ → Type 0
 MayFollow (fault.Short at) x = x ≡ []
 MayFollow (fault.NotCanonical at) x = ⊤
 MayFollow (fault.TooDeep at) x = ⊤
+MayFollow (fault.Unnamed at) x = ⊤
 MayFollow fault.NoMemory x = ⊥
 
 -- refused bytes, with what may follow them, do not begin with this code
-pub record Denies (e : CodeFault) (bs c : List ℕ) : Type 0 where
+pub record Denies (e : ReadFault) (bs c : List ℕ) : Type 0 where
   pub no : (x y : List ℕ) → MayFollow e x → bs ++ x ≡ c ++ y → ⊥
 
 -- a tree of this sort in this scope, of at most this height, with a short code, which binds no variable where it may not
@@ -63,33 +56,33 @@ pub record HasRoom (v : Scope) (bs : List ℕ) : Type 0 where
   pub few : length v + length bs < 2 ^ 32
 
 -- refused bytes do not begin with the code of such a tree
-pub record Refuses (binds : Bool) (s : Sort) (v : Scope) (room : ℕ) (e : CodeFault) (bs : List ℕ) : Type 0 where
+pub record Refuses (binds : Bool) (s : Sort) (v : Scope) (room : ℕ) (e : ReadFault) (bs : List ℕ) : Type 0 where
   pub no : HasRoom v bs → (t : Tree) → IsRight binds s v room t → Denies e bs (code t)
 
 -- nor with the number, from `least` to `most`, and the codes of such trees
-pub record RefusesRow (binds : Bool) (s : Sort) (v : Scope) (room least most : ℕ) (e : CodeFault) (bs : List ℕ) : Type 0 where
+pub record RefusesRow (binds : Bool) (s : Sort) (v : Scope) (room least most : ℕ) (e : ReadFault) (bs : List ℕ) : Type 0 where
   pub no : HasRoom v bs → (ts : Trees) → AreRight binds s v room ts → least ≤ count ts → count ts ≤ most → Denies e bs (be32 (count ts) ++ joined (codes ts))
 
 -- nor with the number and the ascending codes of such trees
-pub record RefusesBag (s : Sort) (v : Scope) (room : ℕ) (e : CodeFault) (bs : List ℕ) : Type 0 where
+pub record RefusesBag (s : Sort) (v : Scope) (room : ℕ) (e : ReadFault) (bs : List ℕ) : Type 0 where
   pub no : HasRoom v bs → (ts : Trees) → AreRight true s v room ts → Denies e bs (be32 (count ts) ++ joined (sorted (codes ts)))
 
 -- nor with a byte of at most this number
-abbrev pub RefusesByte : ℕ → CodeFault → List ℕ → Type 0
+abbrev pub RefusesByte : ℕ → ReadFault → List ℕ → Type 0
 RefusesByte most e bs = (b : ℕ) → b ≤ most → Denies e bs (b ∷ [])
 
 -- nor with the four bytes of a number from `least` to `most`
-pub record RefusesNumber (least most : ℕ) (e : CodeFault) (bs : List ℕ) : Type 0 where
+pub record RefusesNumber (least most : ℕ) (e : ReadFault) (bs : List ℕ) : Type 0 where
   pub no : (n : ℕ) → least ≤ n → n ≤ most → n < 2 ^ 32 → Denies e bs (be32 n)
 
 -- nor with the code of a leaf that is a plain value
-pub record RefusesGround (e : CodeFault) (bs : List ℕ) : Type 0 where
+pub record RefusesGround (e : ReadFault) (bs : List ℕ) : Type 0 where
   pub no : (l : Label) → IsGround l → IsPlain part [] l none → IsShort (leaf l) → Denies e bs (code (leaf l))
 
 -- nor with a number from 1 on and as many bytes of origins
-pub record RefusesOrigins (e : CodeFault) (bs : List ℕ) : Type 0 where
+pub record RefusesOrigins (e : ReadFault) (bs : List ℕ) : Type 0 where
   pub no : (os : List Origin) → 1 ≤ length os → length os < 2 ^ 32 → Denies e bs (be32 (length os) ++ each origin_number os)
 
 -- nor with a remainder, which is a variable only where one may be bound
-pub record RefusesRest (binds : Bool) (e : CodeFault) (bs : List ℕ) : Type 0 where
+pub record RefusesRest (binds : Bool) (e : ReadFault) (bs : List ℕ) : Type 0 where
   pub no : (q : TermRest) → (binds ≡ false → q ≡ rests.Var → ⊥) → Denies e bs (rest_number q ∷ [])

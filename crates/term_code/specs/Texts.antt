@@ -1,5 +1,5 @@
 -- What texts in codes have to be.
-use Rattle.std.specs.Prelude.{◌≡◌, ℕ, ◌<◌, Bool, true, ◌&&◌, ◌||◌, eqb, List, [], ◌∷◌, ◌++◌, length, Contains, IsUtf8, IsTrue, ⊤, nat_lt, cond}
+use Rattle.std.specs.Prelude.{◌≡◌, ℕ, Bool, true, ◌&&◌, ◌||◌, eqb, List, [], ◌∷◌, ◌++◌, length, Contains, IsUtf8, IsTrue, ⊤, nat_lt, cond}
 use Rattle.std.specs.List.{list_all}
 use Rattle.calculus.specs.Form.{is_letter, goes_on_word, is_word, keys}
 use Rattle.term_code.specs.declared.text.TextKind.{TextKind}

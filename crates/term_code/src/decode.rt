@@ -1,5 +1,5 @@
 // Reading of codes: one method for each sort of constituent.
-ghost use Rattle.std.specs.Prelude.{◌≡◌, ◌∷◌, ◌++◌, ◌≤◌, ◌<◌, ◌+◌, ◌^◌, ◌⊎◌, length, map, IfOk, IfErr, replicate, true, ℕ, ◌-◌, drop};
+ghost use Rattle.std.specs.Prelude.{◌≡◌, ◌∷◌, ◌++◌, ◌≤◌, ◌<◌, ◌+◌, ◌^◌, ◌⊎◌, length, map, IfOk, IfErr, replicate, true, false, ℕ};
 ghost use Rattle.std.specs.Result.{IsErrAnd};
 ghost use Rattle.calculus.specs.Code.{code};
 ghost use Rattle.calculus.specs.Form.{IsClosed, term, part, a_bind, a_case, pat, row_of, pair_of};
@@ -12,14 +12,15 @@ ghost use Rattle.rho_term.specs.Parts.{part_tree, pair_tree, bind_tree, case_tre
 ghost use Rattle.term_code.specs.Scopes.{scope_of, senses_of};
 ghost use Rattle.term_code.specs.Reading.{Reads, ReadsBag};
 ghost use Rattle.term_code.specs.Beginning.{HasPlace, Goes, Begun, BegunRow, BegunBag};
-ghost use Rattle.term_code.specs.Refusing.{Refuses, RefusesRow, RefusesBag, is_form_tag};
+ghost use Rattle.term_code.specs.Refusing.{Refuses, RefusesRow, RefusesBag};
+ghost use Rattle.term_code.specs.Tags.{is_form_tag};
 ghost use Rattle.term_code.specs.declared.reader.Sense.TheVariants.{Name};
 ghost use Rattle.term_code.specs.declared.fault.CodeFault.TheVariants.{Short, NotCanonical, TooDeep, NoMemory};
 ghost use Rattle.term_code.specs.Readable.{IsReadable, IsCutCode, at_end, IsBegun, IsBegunTo};
-ghost use Rattle.term_code.specs.Blaming.{Wrong, InTree, InRow, InBag, over, IsWrongAt, BeginsForm};
+ghost use Rattle.term_code.specs.Blaming.{Wrong, InTree, InRow, InBag, IsWrongAt, IsDeepAt, IsNamelessAt};
 
-use crate::fault::CodeFault;
-use crate::reader::{Reader, Sense, check_order, is_form};
+use crate::fault::{CodeFault, ReadFault};
+use crate::reader::{Reader, Sense, check_order, is_form, lacks_room};
 use crate::text::TextKind;
 use rho_term::{Part, Term, TermBind, TermCase};
 use std::alloc::{AllocError, Global};
@@ -28,22 +29,23 @@ use std::alloc::{AllocError, Global};
 ///
 /// Each code of fewer than 2^32 bytes is read, and each proper prefix of one is `Short`, with its length.
 /// `Short` tells of nothing else than proper prefixes of codes of such processes, of any length.
-/// `NotCanonical` and `TooDeep` tell of other bytes, with the place of what is wrong. Up to that place the
-/// bytes are a prefix of the code of such a process; but a method's name of no bytes is blamed behind its
-/// length, four zeros, as other names are, though no code has that length. Below 2^32 it is wrong there:
-/// where the code of such a process, at `NotCanonical` of one of any height, agrees with the bytes before
-/// the place, a tag, a flag, a number or a text begins there that the bytes are not, however they go on, or
-/// a part, a set's member or a map's pair, and the bytes fall below the one before it, or that code ends
-/// there. Of what falls below, the outermost is blamed. At the place of `TooDeep` stands the tag of a part
-/// that is no leaf. Want of memory alone is free.
+///
+/// `NotCanonical` and `TooDeep` tell of other bytes, with a place. Up to it the bytes are a prefix of the code
+/// of such a process; but a method's name of no bytes is blamed behind its length, four zeros, as other names
+/// are, though no code has that length. Below 2^32 the place is exact: it is told of the codes of all closed
+/// processes, of any height, that agree with the bytes before it. At `NotCanonical` a tag, a flag, a number
+/// or a text begins there that the bytes are not, however they go on, or a part, a set's member or a map's
+/// pair, and the bytes fall below the one before it, or that code ends there; of what falls below, the
+/// outermost is blamed. At `TooDeep` a part begins there, under 400 forms, and the bytes go on with the tag
+/// of one that is no leaf; that goes before other causes at one place. Want of memory alone is free.
 pub fn decode_term(alloc: Global, bytes: &[u8]) -> Result<Term, CodeFault>
     ensures code { IfOk result (λ t. code t ≡ bytes.now) }
     ensures closed { IfOk result (λ t. IsClosed t) }
     ensures height { IfOk result (λ t. height t ≤ 400) }
     ensures short { (at : ℕ) → result ≡ Err (Short at) → at ≡ length bytes.now }
     ensures all { (t : Tree) → IsReadable t → code t ≡ bytes.now → IfErr result (λ e. e ≡ NoMemory) }
-    ensures wrong { (at high : ℕ) → at < 2 ^ 32 → result ≡ Err (NotCanonical at) → IsWrongAt high at bytes.now }
-    ensures deep { (at : ℕ) → at < 2 ^ 32 → result ≡ Err (TooDeep at) → IsWrongAt 400 at bytes.now × BeginsForm (drop at bytes.now) }
+    ensures wrong { (at : ℕ) → at < 2 ^ 32 → result ≡ Err (NotCanonical at) → IsWrongAt at bytes.now ⊎ IsNamelessAt at bytes.now }
+    ensures deep { (at : ℕ) → at < 2 ^ 32 → result ≡ Err (TooDeep at) → IsDeepAt at bytes.now }
     ensures begun { (at : ℕ) → result ≡ Err (Short at) → IsBegun bytes.now }
     ensures goes { (at : ℕ) → (result ≡ Err (NotCanonical at)) ⊎ (result ≡ Err (TooDeep at)) → IsBegunTo bytes.now at }
     ensures cut { IsCutCode bytes.now → IsErrAnd result (λ e. (e ≡ Short (length bytes.now)) ⊎ (e ≡ NoMemory)) }
@@ -66,27 +68,30 @@ pub fn decode_term(alloc: Global, bytes: &[u8]) -> Result<Term, CodeFault>
 }
 
 // A fault in so many bytes: where they end early, that is told of their length, and a place is told from
-// their beginning.
-fn at_end(fault: CodeFault, len: usize) -> CodeFault
+// their beginning. A method's name of no bytes is blamed behind its length.
+fn at_end(fault: ReadFault, len: usize) -> CodeFault
     ensures { result ≡ at_end fault len }
 {
     match fault {
-        CodeFault::Short { .. } => CodeFault::Short { at: len },
-        CodeFault::NotCanonical { at } => CodeFault::NotCanonical {
+        ReadFault::Short { .. } => CodeFault::Short { at: len },
+        ReadFault::NotCanonical { at } => CodeFault::NotCanonical {
             at: len.saturating_sub(at),
         },
-        CodeFault::TooDeep { at } => CodeFault::TooDeep {
+        ReadFault::TooDeep { at } => CodeFault::TooDeep {
             at: len.saturating_sub(at),
         },
-        CodeFault::NoMemory => CodeFault::NoMemory,
+        ReadFault::Unnamed { at } => CodeFault::NotCanonical {
+            at: len.saturating_sub(at.saturating_sub(4)),
+        },
+        ReadFault::NoMemory => CodeFault::NoMemory,
     }
 }
 
 impl<'a> Reader<'a> {
     #[cycle(read)]
-    pub(crate) fn term(&mut self, scope: &Vec<Sense>, room: u32) -> Result<Term, CodeFault>
+    pub(crate) fn term(&mut self, scope: &Vec<Sense>, room: u32) -> Result<Term, ReadFault>
         ensures reads { IfOk result (λ t. Reads term (scope_of scope.now.items) room t self.old.input.now self.new.input.now) }
-        ensures wrong { (more : ℕ) → IfErr result (λ e. Wrong (InTree true term (scope_of scope.now.items) (room + over e more)) e self.old.input.now) }
+        ensures wrong { IfErr result (λ e. Wrong (InTree true term (scope_of scope.now.items) room) e self.old.input.now) }
         ensures refuses { IfErr result (λ e. Refuses true term (scope_of scope.now.items) room e self.old.input.now) }
         ensures begun { IfErr result (λ e. HasPlace e → Goes e (Begun true term (scope_of scope.now.items) room self.old.input.now)) }
     {
@@ -96,8 +101,8 @@ impl<'a> Reader<'a> {
         for _i in 0..count {
             let start = self.input;
             let tag = self.byte()?;
-            if room == 0 && is_form(tag) {
-                return Err(CodeFault::TooDeep { at: start.len() });
+            if lacks_room(room, is_form(tag)) {
+                return Err(ReadFault::TooDeep { at: start.len() });
             }
             check_order(last, start)?;
             let part = self.part(tag, scope, room)?;
@@ -107,12 +112,13 @@ impl<'a> Reader<'a> {
         Ok(Term::from_sorted(parts))
     }
 
-    // The part that goes on so after its tag.
+    // The part that goes on so after its tag, which is that of no form where none has room.
     #[cycle(read)]
-    pub(crate) fn part(&mut self, tag: u8, scope: &Vec<Sense>, room: u32) -> Result<Part, CodeFault>
+    pub(crate) fn part(&mut self, tag: u8, scope: &Vec<Sense>, room: u32) -> Result<Part, ReadFault>
+        requires { room ≡ 0 → is_form_tag tag ≡ false }
         ensures reads { IfOk result (λ p. Reads part (scope_of scope.now.items) room (part_tree p) (tag ∷ self.old.input.now) self.new.input.now) }
         ensures ordered { IfOk result (λ p. IsOrdered (part_tree p)) }
-        ensures wrong { (more : ℕ) → IfErr result (λ e. Wrong (InTree true part (scope_of scope.now.items) (room + over e more)) e (tag ∷ self.old.input.now)) }
+        ensures wrong { IfErr result (λ e. Wrong (InTree true part (scope_of scope.now.items) room) e (tag ∷ self.old.input.now)) }
         ensures refuses { IfErr result (λ e. Refuses true part (scope_of scope.now.items) room e (tag ∷ self.old.input.now)) }
         ensures begun { IfErr result (λ e. HasPlace e → Goes e (Begun true part (scope_of scope.now.items) room (tag ∷ self.old.input.now))) }
     {
@@ -122,11 +128,6 @@ impl<'a> Reader<'a> {
             0x17 => Ok(Part::NameVar(self.variable(scope, Sense::Name)?)),
             _ => {
                 if is_form(tag) {
-                    if room == 0 {
-                        return Err(CodeFault::TooDeep {
-                            at: self.last_place(),
-                        });
-                    }
                     self.form(tag, scope, room - 1)
                 } else {
                     Ok(Part::Ground(self.ground(tag)?))
@@ -136,11 +137,11 @@ impl<'a> Reader<'a> {
     }
 
     #[cycle(read)]
-    fn form(&mut self, tag: u8, scope: &Vec<Sense>, room: u32) -> Result<Part, CodeFault>
+    fn form(&mut self, tag: u8, scope: &Vec<Sense>, room: u32) -> Result<Part, ReadFault>
         requires { is_form_tag tag ≡ true }
         ensures reads { IfOk result (λ p. Reads part (scope_of scope.now.items) (room + 1) (part_tree p) (tag ∷ self.old.input.now) self.new.input.now) }
         ensures ordered { IfOk result (λ p. IsOrdered (part_tree p)) }
-        ensures wrong { (more : ℕ) → IfErr result (λ e. Wrong (InTree true part (scope_of scope.now.items) ((room + 1) + over e more)) e (tag ∷ self.old.input.now)) }
+        ensures wrong { IfErr result (λ e. Wrong (InTree true part (scope_of scope.now.items) (room + 1)) e (tag ∷ self.old.input.now)) }
         ensures refuses { IfErr result (λ e. Refuses true part (scope_of scope.now.items) (room + 1) e (tag ∷ self.old.input.now)) }
         ensures begun { IfErr result (λ e. HasPlace e → Goes e (Begun true part (scope_of scope.now.items) (room + 1) (tag ∷ self.old.input.now))) }
     {
@@ -199,7 +200,7 @@ impl<'a> Reader<'a> {
                 let args = self.terms(0, scope, room)?;
                 Ok(Part::Method { name, target, args })
             }
-            _ => Err(CodeFault::NotCanonical {
+            _ => Err(ReadFault::NotCanonical {
                 at: self.last_place(),
             }),
         }
@@ -209,10 +210,10 @@ impl<'a> Reader<'a> {
 impl<'a> Reader<'a> {
     // At least so many processes.
     #[cycle(read)]
-    fn terms(&mut self, least: u32, scope: &Vec<Sense>, room: u32) -> Result<Vec<Term>, CodeFault>
+    fn terms(&mut self, least: u32, scope: &Vec<Sense>, room: u32) -> Result<Vec<Term>, ReadFault>
         ensures reads { IfOk result (λ ts. Reads (row_of term) (scope_of scope.now.items) room (many row ts.items) self.old.input.now self.new.input.now) }
         ensures least { IfOk result (λ ts. least ≤ length ts.items) }
-        ensures wrong { (more : ℕ) → IfErr result (λ e. Wrong (InRow true term (scope_of scope.now.items) (room + over e more) least 0xFFFFFFFF) e self.old.input.now) }
+        ensures wrong { IfErr result (λ e. Wrong (InRow true term (scope_of scope.now.items) room least 0xFFFFFFFF) e self.old.input.now) }
         ensures refuses { IfErr result (λ e. RefusesRow true term (scope_of scope.now.items) room least 0xFFFFFFFF e self.old.input.now) }
         ensures begun { IfErr result (λ e. HasPlace e → Goes e (BegunRow true term (scope_of scope.now.items) room least 0xFFFFFFFF self.old.input.now)) }
     {
@@ -227,9 +228,9 @@ impl<'a> Reader<'a> {
 
     // Processes whose codes ascend.
     #[cycle(read)]
-    fn members(&mut self, scope: &Vec<Sense>, room: u32) -> Result<Vec<Term>, CodeFault>
+    fn members(&mut self, scope: &Vec<Sense>, room: u32) -> Result<Vec<Term>, ReadFault>
         ensures reads { IfOk result (λ ts. ReadsBag term (scope_of scope.now.items) room ts.items self.old.input.now self.new.input.now) }
-        ensures wrong { (more : ℕ) → IfErr result (λ e. Wrong (InBag term (scope_of scope.now.items) (room + over e more)) e self.old.input.now) }
+        ensures wrong { IfErr result (λ e. Wrong (InBag term (scope_of scope.now.items) room) e self.old.input.now) }
         ensures refuses { IfErr result (λ e. RefusesBag term (scope_of scope.now.items) room e self.old.input.now) }
         ensures begun { IfErr result (λ e. HasPlace e → Goes e (BegunBag term (scope_of scope.now.items) room self.old.input.now)) }
     {
@@ -248,9 +249,9 @@ impl<'a> Reader<'a> {
 
     // Pairs whose codes ascend.
     #[cycle(read)]
-    fn pairs(&mut self, scope: &Vec<Sense>, room: u32) -> Result<Vec<(Term, Term)>, CodeFault>
+    fn pairs(&mut self, scope: &Vec<Sense>, room: u32) -> Result<Vec<(Term, Term)>, ReadFault>
         ensures reads { IfOk result (λ ps. ReadsBag (pair_of term) (scope_of scope.now.items) room (map pair_tree ps.items) self.old.input.now self.new.input.now) }
-        ensures wrong { (more : ℕ) → IfErr result (λ e. Wrong (InBag (pair_of term) (scope_of scope.now.items) (room + over e more)) e self.old.input.now) }
+        ensures wrong { IfErr result (λ e. Wrong (InBag (pair_of term) (scope_of scope.now.items) room) e self.old.input.now) }
         ensures refuses { IfErr result (λ e. RefusesBag (pair_of term) (scope_of scope.now.items) room e self.old.input.now) }
         ensures begun { IfErr result (λ e. HasPlace e → Goes e (BegunBag (pair_of term) (scope_of scope.now.items) room self.old.input.now)) }
     {
@@ -275,12 +276,12 @@ impl<'a> Reader<'a> {
         scope: &Vec<Sense>,
         found: &mut Vec<Sense>,
         room: u32,
-    ) -> Result<Vec<TermBind>, CodeFault>
+    ) -> Result<Vec<TermBind>, ReadFault>
         ensures reads { IfOk result (λ bs. Reads (row_of a_bind) (scope_of scope.now.items) room (many row (map bind_tree bs.items)) self.old.input.now self.new.input.now) }
         ensures bound { IfOk result (λ bs. senses_of found.new.items ≡ senses_of found.old.items ++ bound (many row (map bind_tree bs.items))) }
         ensures some { IfOk result (λ bs. 1 ≤ length bs.items) }
         ensures few { IfOk result (λ bs. length bs.items ≤ 16) }
-        ensures wrong { (more : ℕ) → IfErr result (λ e. Wrong (InRow true a_bind (scope_of scope.now.items) (room + over e more) 1 16) e self.old.input.now) }
+        ensures wrong { IfErr result (λ e. Wrong (InRow true a_bind (scope_of scope.now.items) room 1 16) e self.old.input.now) }
         ensures refuses { IfErr result (λ e. RefusesRow true a_bind (scope_of scope.now.items) room 1 16 e self.old.input.now) }
         ensures begun { IfErr result (λ e. HasPlace e → Goes e (BegunRow true a_bind (scope_of scope.now.items) room 1 16 self.old.input.now)) }
     {
@@ -301,10 +302,10 @@ impl<'a> Reader<'a> {
 
     // At least one case.
     #[cycle(read)]
-    fn cases(&mut self, scope: &Vec<Sense>, room: u32) -> Result<Vec<TermCase>, CodeFault>
+    fn cases(&mut self, scope: &Vec<Sense>, room: u32) -> Result<Vec<TermCase>, ReadFault>
         ensures reads { IfOk result (λ cs. Reads (row_of a_case) (scope_of scope.now.items) room (many row (map case_tree cs.items)) self.old.input.now self.new.input.now) }
         ensures some { IfOk result (λ cs. 1 ≤ length cs.items) }
-        ensures wrong { (more : ℕ) → IfErr result (λ e. Wrong (InRow true a_case (scope_of scope.now.items) (room + over e more) 1 0xFFFFFFFF) e self.old.input.now) }
+        ensures wrong { IfErr result (λ e. Wrong (InRow true a_case (scope_of scope.now.items) room 1 0xFFFFFFFF) e self.old.input.now) }
         ensures refuses { IfErr result (λ e. RefusesRow true a_case (scope_of scope.now.items) room 1 0xFFFFFFFF e self.old.input.now) }
         ensures begun { IfErr result (λ e. HasPlace e → Goes e (BegunRow true a_case (scope_of scope.now.items) room 1 0xFFFFFFFF self.old.input.now)) }
     {

@@ -1,5 +1,5 @@
 ghost use Rattle.std.specs.Prelude.{◌≡◌};
-ghost use Rattle.term_code.specs.declared.fault.CodeFault.TheVariants.{NoMemory};
+ghost use Rattle.term_code.specs.declared.fault.ReadFault.TheVariants.{NoMemory};
 
 use std::alloc::{AllocError, AllocFailed};
 use thiserror::Error;
@@ -21,18 +21,29 @@ pub enum CodeFault {
     NoMemory,
 }
 
-impl From<AllocError> for CodeFault {
+/// Why a reader of codes stops, with a place that is told by how many bytes stand from there on.
+#[derive(Clone, Copy, Debug, PartialEq, Eq, Drop)]
+pub enum ReadFault {
+    Short { at: usize },
+    NotCanonical { at: usize },
+    TooDeep { at: usize },
+    /// The length of a method's name stands here, and it is 0.
+    Unnamed { at: usize },
+    NoMemory,
+}
+
+impl From<AllocError> for ReadFault {
     ghost from_gives = { λ _ e. e ≡ NoMemory };
 
     fn from(_error: AllocError) -> Self {
-        CodeFault::NoMemory
+        ReadFault::NoMemory
     }
 }
 
-impl<T: Drop> From<AllocFailed<T>> for CodeFault {
+impl<T: Drop> From<AllocFailed<T>> for ReadFault {
     ghost from_gives = { λ _ e. e ≡ NoMemory };
 
     fn from(_error: AllocFailed<T>) -> Self {
-        CodeFault::NoMemory
+        ReadFault::NoMemory
     }
 }

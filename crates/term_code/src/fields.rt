@@ -12,18 +12,18 @@ ghost use Rattle.calculus.specs.Form.{HasVariable, IsDigest, IsBytes, IsPlain, S
 ghost use Rattle.term_code.specs.Scopes.{scope_of, sense_of, senses_of};
 ghost use Rattle.term_code.specs.Texts.{HasForm, BeginsText};
 ghost use Rattle.term_code.specs.Beginning.{HasPlace, IsAt, Goes, BegunDigest, BegunOrigins, BegunGround, BegunBytes, BegunText, BegunIndex, BegunVariable, IsInScope};
-ghost use Rattle.term_code.specs.declared.fault.CodeFault.TheVariants.{Short, NotCanonical};
+ghost use Rattle.term_code.specs.declared.fault.ReadFault.TheVariants.{Short, NotCanonical, Unnamed};
 ghost use Rattle.term_code.specs.Refusing.{Denies, RefusesByte, RefusesGround, RefusesOrigins, RefusesRest};
 ghost use Rattle.term_code.specs.Blaming.{TellsNone, Wrong, WrongVariable, InByte, InGround, InBytes, InText, InOrigins, InRest};
 
-use crate::fault::CodeFault;
+use crate::fault::ReadFault;
 use crate::reader::{Reader, Sense, number_bounds};
 use crate::text::{TextKind, begins_text, is_text};
 use calculus::{BinaryOp, Digest, Ground, Kind, Origin, Rights, Simple, TermRest, UnaryOp};
 use std::str;
 
 impl<'a> Reader<'a> {
-    pub(crate) fn boolean(&mut self) -> Result<bool, CodeFault>
+    pub(crate) fn boolean(&mut self) -> Result<bool, ReadFault>
         ensures is { IfOk result (λ x. self.old.input.now ≡ byte_of x ∷ self.new.input.now) }
         ensures wrong { IfErr result (λ e. Wrong (InByte 1) e self.old.input.now) }
         ensures refuses { IfErr result (λ e. RefusesByte 1 e self.old.input.now) }
@@ -33,7 +33,7 @@ impl<'a> Reader<'a> {
         Ok(byte == 1)
     }
 
-    pub(crate) fn kind(&mut self) -> Result<Kind, CodeFault>
+    pub(crate) fn kind(&mut self) -> Result<Kind, ReadFault>
         ensures is { IfOk result (λ x. self.old.input.now ≡ kind_number x ∷ self.new.input.now) }
         ensures wrong { IfErr result (λ e. Wrong (InByte 2) e self.old.input.now) }
         ensures refuses { IfErr result (λ e. RefusesByte 2 e self.old.input.now) }
@@ -46,7 +46,7 @@ impl<'a> Reader<'a> {
         }
     }
 
-    pub(crate) fn rights(&mut self) -> Result<Rights, CodeFault>
+    pub(crate) fn rights(&mut self) -> Result<Rights, ReadFault>
         ensures is { IfOk result (λ x. self.old.input.now ≡ rights_number x ∷ self.new.input.now) }
         ensures wrong { IfErr result (λ e. Wrong (InByte 3) e self.old.input.now) }
         ensures refuses { IfErr result (λ e. RefusesByte 3 e self.old.input.now) }
@@ -60,7 +60,7 @@ impl<'a> Reader<'a> {
         }
     }
 
-    pub(crate) fn unary_op(&mut self) -> Result<UnaryOp, CodeFault>
+    pub(crate) fn unary_op(&mut self) -> Result<UnaryOp, ReadFault>
         ensures is { IfOk result (λ x. self.old.input.now ≡ unary_op_number x ∷ self.new.input.now) }
         ensures wrong { IfErr result (λ e. Wrong (InByte 1) e self.old.input.now) }
         ensures refuses { IfErr result (λ e. RefusesByte 1 e self.old.input.now) }
@@ -72,7 +72,7 @@ impl<'a> Reader<'a> {
         }
     }
 
-    pub(crate) fn binary_op(&mut self) -> Result<BinaryOp, CodeFault>
+    pub(crate) fn binary_op(&mut self) -> Result<BinaryOp, ReadFault>
         ensures is { IfOk result (λ x. self.old.input.now ≡ binary_op_number x ∷ self.new.input.now) }
         ensures wrong { IfErr result (λ e. Wrong (InByte 14) e self.old.input.now) }
         ensures refuses { IfErr result (λ e. RefusesByte 14 e self.old.input.now) }
@@ -97,7 +97,7 @@ impl<'a> Reader<'a> {
         }
     }
 
-    pub(crate) fn simple(&mut self) -> Result<Simple, CodeFault>
+    pub(crate) fn simple(&mut self) -> Result<Simple, ReadFault>
         ensures is { IfOk result (λ x. self.old.input.now ≡ simple_number x ∷ self.new.input.now) }
         ensures wrong { IfErr result (λ e. Wrong (InByte 4) e self.old.input.now) }
         ensures refuses { IfErr result (λ e. RefusesByte 4 e self.old.input.now) }
@@ -113,7 +113,7 @@ impl<'a> Reader<'a> {
     }
 
     // A remainder, which is a variable only where one may be bound.
-    pub(crate) fn remainder(&mut self, binds: bool) -> Result<TermRest, CodeFault>
+    pub(crate) fn remainder(&mut self, binds: bool) -> Result<TermRest, ReadFault>
         ensures is { IfOk result (λ x. self.old.input.now ≡ rest_number x ∷ self.new.input.now) }
         ensures wrong { IfErr result (λ e. Wrong (InRest binds) e self.old.input.now) }
         ensures refuses { IfErr result (λ e. RefusesRest binds e self.old.input.now) }
@@ -127,7 +127,7 @@ impl<'a> Reader<'a> {
                 if binds {
                     Ok(TermRest::Var)
                 } else {
-                    Err(CodeFault::NotCanonical { at })
+                    Err(ReadFault::NotCanonical { at })
                 }
             }
             _ => Ok(TermRest::Wild),
@@ -139,7 +139,7 @@ impl<'a> Reader<'a> {
         &mut self,
         binds: bool,
         found: &mut Vec<Sense>,
-    ) -> Result<TermRest, CodeFault>
+    ) -> Result<TermRest, ReadFault>
         ensures is { IfOk result (λ x. self.old.input.now ≡ rest_number x ∷ self.new.input.now) }
         ensures bound { IfOk result (λ x. senses_of found.new.items ≡ senses_of found.old.items ++ bound (leaf (rest x))) }
         ensures wrong { IfErr result (λ e. Wrong (InRest binds) e self.old.input.now) }
@@ -158,7 +158,7 @@ impl<'a> Reader<'a> {
         }
     }
 
-    fn origin(&mut self) -> Result<Origin, CodeFault>
+    fn origin(&mut self) -> Result<Origin, ReadFault>
         ensures is { IfOk result (λ x. self.old.input.now ≡ origin_number x ∷ self.new.input.now) }
         ensures wrong { IfErr result (λ e. Wrong (InByte 2) e self.old.input.now) }
         ensures refuses { IfErr result (λ e. RefusesByte 2 e self.old.input.now) }
@@ -174,7 +174,7 @@ impl<'a> Reader<'a> {
 
 impl<'a> Reader<'a> {
     // At least one origin.
-    pub(crate) fn origins(&mut self) -> Result<Vec<Origin>, CodeFault>
+    pub(crate) fn origins(&mut self) -> Result<Vec<Origin>, ReadFault>
         ensures is { IfOk result (λ v. self.old.input.now ≡ be32 (length v.items) ++ map origin_number v.items ++ self.new.input.now) }
         ensures some { IfOk result (λ v. 1 ≤ length v.items) }
         ensures wrong { IfErr result (λ e. Wrong InOrigins e self.old.input.now) }
@@ -190,7 +190,7 @@ impl<'a> Reader<'a> {
     }
 
     // The ground value that goes on so after its tag.
-    pub(crate) fn ground(&mut self, tag: u8) -> Result<Ground, CodeFault>
+    pub(crate) fn ground(&mut self, tag: u8) -> Result<Ground, ReadFault>
         ensures is { IfOk result (λ g. tag ∷ self.old.input.now ≡ code (ground_tree g) ++ self.new.input.now) }
         ensures plain { IfOk result (λ g. (s : Sort) (v : Scope) → IsPlain s v (ground_label g) none) }
         ensures wrong { IfErr result (λ e. Wrong InGround e (tag ∷ self.old.input.now)) }
@@ -203,13 +203,13 @@ impl<'a> Reader<'a> {
             0x12 => Ok(Ground::Str(self.text(TextKind::Str)?)),
             0x13 => Ok(Ground::Uri(self.text(TextKind::Uri)?)),
             0x14 => Ok(Ground::Bytes(self.bytes()?)),
-            _ => Err(CodeFault::NotCanonical {
+            _ => Err(ReadFault::NotCanonical {
                 at: self.last_place(),
             }),
         }
     }
 
-    pub(crate) fn digest(&mut self) -> Result<Digest, CodeFault>
+    pub(crate) fn digest(&mut self) -> Result<Digest, ReadFault>
         ensures is { IfOk result (λ d. self.old.input.now ≡ d.0 ++ self.new.input.now) }
         ensures digest { IfOk result (λ d. IsDigest d.0) }
         ensures tells { IfErr result (λ e. TellsNone e) }
@@ -220,7 +220,7 @@ impl<'a> Reader<'a> {
         Ok(Digest(array_of(taken)))
     }
 
-    pub(crate) fn int(&mut self) -> Result<i64, CodeFault>
+    pub(crate) fn int(&mut self) -> Result<i64, ReadFault>
         ensures is { IfOk result (λ z. self.old.input.now ≡ be64 (nat_abs (z +ℤ pos (2 ^ 63))) ++ self.new.input.now) }
         ensures tells { IfErr result (λ e. TellsNone e) }
         ensures refuses { IfErr result (λ e. (n : ℕ) → Denies e self.old.input.now (be64 n)) }
@@ -232,7 +232,7 @@ impl<'a> Reader<'a> {
         Ok(from_least(number_of(taken)))
     }
 
-    pub(crate) fn bytes(&mut self) -> Result<Vec<u8>, CodeFault>
+    pub(crate) fn bytes(&mut self) -> Result<Vec<u8>, ReadFault>
         ensures is { IfOk result (λ v. self.old.input.now ≡ text v.items ++ self.new.input.now) }
         ensures bytes { IfOk result (λ v. IsBytes v.items) }
         ensures wrong { IfErr result (λ e. Wrong InBytes e self.old.input.now) }
@@ -244,8 +244,8 @@ impl<'a> Reader<'a> {
         Ok(Vec::from_slice(self.alloc, taken)?)
     }
 
-    // A text is blamed on the first byte after its length.
-    pub(crate) fn text(&mut self, kind: TextKind) -> Result<String, CodeFault>
+    // A text is blamed on the first byte after its length, but a name of no bytes on the length.
+    pub(crate) fn text(&mut self, kind: TextKind) -> Result<String, ReadFault>
         ensures is { IfOk result (λ s. self.old.input.now ≡ text (string_bytes s) ++ self.new.input.now) }
         ensures form { IfOk result (λ s. HasForm kind (string_bytes s)) }
         ensures bytes { IfOk result (λ s. IsBytes (string_bytes s)) }
@@ -253,6 +253,7 @@ impl<'a> Reader<'a> {
         ensures refuses { IfErr result (λ e. (x : List ℕ) → HasForm kind x → length x < 2 ^ 32 → Denies e self.old.input.now (text x)) }
         ensures begun { IfErr result (λ e. HasPlace e → Goes e (BegunText kind self.old.input.now)) }
     {
+        let length_at = self.place();
         let len = self.number(0, u32::MAX)? as usize;
         let at = self.place();
         if self.input.len() < len {
@@ -260,17 +261,17 @@ impl<'a> Reader<'a> {
         }
         let taken = self.take(len)?;
         if !is_text(kind, taken) {
-            return Err(CodeFault::NotCanonical { at });
+            return Err(ill_formed(length_at, at, len));
         }
         match str::from_utf8(taken) {
             Ok(text) => Ok(String::from_str(self.alloc, text)?),
-            Err(_) => Err(CodeFault::NotCanonical { at }),
+            Err(_) => Err(ReadFault::NotCanonical { at }),
         }
     }
 
     // The index of a variable of this sense. Its tag, which stands before it, is blamed where none is in
     // scope.
-    pub(crate) fn variable(&mut self, scope: &Vec<Sense>, sense: Sense) -> Result<u32, CodeFault>
+    pub(crate) fn variable(&mut self, scope: &Vec<Sense>, sense: Sense) -> Result<u32, ReadFault>
         ensures is { IfOk result (λ i. self.old.input.now ≡ be32 i ++ self.new.input.now) }
         ensures has { IfOk result (λ i. HasVariable (scope_of scope.now.items) i (sense_of sense)) }
         ensures wrong { IfErr result (λ e. WrongVariable (scope_of scope.now.items) (sense_of sense) e self.old.input.now) }
@@ -280,9 +281,9 @@ impl<'a> Reader<'a> {
         let (tag, place) = (self.last_place(), self.place());
         if self.input.len() < 4 {
             if begins_index(scope, sense, self.input) {
-                return Err(CodeFault::Short { at: self.whole });
+                return Err(ReadFault::Short { at: self.whole });
             }
-            return Err(CodeFault::NotCanonical {
+            return Err(ReadFault::NotCanonical {
                 at: blamed(scope, sense, tag, place),
             });
         }
@@ -290,7 +291,7 @@ impl<'a> Reader<'a> {
         if has_variable(scope, index as usize, sense) {
             return Ok(index);
         }
-        Err(CodeFault::NotCanonical {
+        Err(ReadFault::NotCanonical {
             at: blamed(scope, sense, tag, place),
         })
     }
@@ -298,15 +299,26 @@ impl<'a> Reader<'a> {
 
 // The fault of a text of `len` bytes that ends early: where no more bytes make it a text, its first
 // byte is blamed.
-fn cut_text(kind: TextKind, bytes: &[u8], len: usize, at: usize, whole: usize) -> CodeFault
+fn cut_text(kind: TextKind, bytes: &[u8], len: usize, at: usize, whole: usize) -> ReadFault
     requires { length bytes.now < len }
     ensures refuses { (x : List ℕ) → HasForm kind x → length x ≡ len → Denies result bytes.now x }
     ensures begun { (BeginsText kind bytes.now len × (result ≡ Short whole)) ⊎ ((result ≡ NotCanonical at) × (BeginsText kind bytes.now len → ⊥)) }
 {
     if begins_text(kind, bytes, len) {
-        CodeFault::Short { at: whole }
+        ReadFault::Short { at: whole }
     } else {
-        CodeFault::NotCanonical { at }
+        ReadFault::NotCanonical { at }
+    }
+}
+
+// The fault of a text of `len` bytes that has not the form of its kind.
+fn ill_formed(length_at: usize, at: usize, len: usize) -> ReadFault
+    ensures { ((len ≡ 0) × (result ≡ Unnamed length_at)) ⊎ ((0 < len) × (result ≡ NotCanonical at)) }
+{
+    if len == 0 {
+        ReadFault::Unnamed { at: length_at }
+    } else {
+        ReadFault::NotCanonical { at }
     }
 }
 

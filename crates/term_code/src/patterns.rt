@@ -9,13 +9,14 @@ ghost use Rattle.rho_term.specs.Parts.{pat_part_tree, pair_tree};
 ghost use Rattle.term_code.specs.Scopes.{scope_of, senses_of};
 ghost use Rattle.term_code.specs.Reading.{Reads};
 ghost use Rattle.term_code.specs.Beginning.{HasPlace, Goes, Begun, BegunRow};
-ghost use Rattle.term_code.specs.Refusing.{Refuses, RefusesRow, is_pat_form_tag};
+ghost use Rattle.term_code.specs.Refusing.{Refuses, RefusesRow};
+ghost use Rattle.term_code.specs.Tags.{is_pat_form_tag};
 ghost use Rattle.term_code.specs.Wide.{is_wide_tag};
-ghost use Rattle.term_code.specs.Blaming.{Wrong, InTree, InRow, over};
-ghost use Rattle.term_code.specs.declared.fault.CodeFault.TheVariants.{NotCanonical};
+ghost use Rattle.term_code.specs.Blaming.{Wrong, InTree, InRow};
+ghost use Rattle.term_code.specs.declared.fault.ReadFault.TheVariants.{NotCanonical};
 
-use crate::fault::CodeFault;
-use crate::reader::{Reader, Sense};
+use crate::fault::ReadFault;
+use crate::reader::{Reader, Sense, lacks_room};
 use rho_term::{PatPart, TermPat};
 
 // Whether the byte is the tag of a part of a pattern that is no leaf.
@@ -27,7 +28,7 @@ fn is_pat_form(tag: u8) -> bool
 
 // The number of wide parts with one more part of this tag, after i parts. At most one part is wide,
 // and at most 8 are not.
-fn more_wide(wide: u32, i: u32, tag: u8, at: usize) -> Result<u32, CodeFault>
+fn more_wide(wide: u32, i: u32, tag: u8, at: usize) -> Result<u32, ReadFault>
     requires { i < 9 }
     ensures is { IfOk result (λ n. n ≡ wide + cond (is_wide_tag tag) 1 0) }
     ensures one { IfOk result (λ n. n ≤ 1) }
@@ -37,12 +38,12 @@ fn more_wide(wide: u32, i: u32, tag: u8, at: usize) -> Result<u32, CodeFault>
 {
     if 0x50 <= tag && tag <= 0x56 {
         if 0 < wide {
-            return Err(CodeFault::NotCanonical { at });
+            return Err(ReadFault::NotCanonical { at });
         }
         return Ok(1);
     }
     if wide > 1 || 8 + wide <= i {
-        return Err(CodeFault::NotCanonical { at });
+        return Err(ReadFault::NotCanonical { at });
     }
     Ok(wide)
 }
@@ -78,10 +79,10 @@ impl<'a> Reader<'a> {
         scope: &Vec<Sense>,
         found: &mut Vec<Sense>,
         room: u32,
-    ) -> Result<TermPat, CodeFault>
+    ) -> Result<TermPat, ReadFault>
         ensures reads { IfOk result (λ t. Reads pat (scope_of scope.now.items) room t self.old.input.now self.new.input.now) }
         ensures bound { IfOk result (λ t. senses_of found.new.items ≡ senses_of found.old.items ++ bound t) }
-        ensures wrong { (more : ℕ) → IfErr result (λ e. Wrong (InTree binds pat (scope_of scope.now.items) (room + over e more)) e self.old.input.now) }
+        ensures wrong { IfErr result (λ e. Wrong (InTree binds pat (scope_of scope.now.items) room) e self.old.input.now) }
         ensures refuses { IfErr result (λ e. Refuses binds pat (scope_of scope.now.items) room e self.old.input.now) }
         ensures free { binds ≡ false → IfOk result (λ t. bound t ≡ []) }
         ensures begun { IfErr result (λ e. HasPlace e → Goes e (Begun binds pat (scope_of scope.now.items) room self.old.input.now)) }
@@ -92,8 +93,8 @@ impl<'a> Reader<'a> {
         for i in 0..count {
             let at = self.place();
             let tag = self.byte()?;
-            if room == 0 && is_pat_form(tag) {
-                return Err(CodeFault::TooDeep { at });
+            if lacks_room(room, is_pat_form(tag)) {
+                return Err(ReadFault::TooDeep { at });
             }
             wide = more_wide(wide, i, tag, at)?;
             let part = self.pat_part(tag, binds, scope, found, room)?;
@@ -110,10 +111,10 @@ impl<'a> Reader<'a> {
         scope: &Vec<Sense>,
         found: &mut Vec<Sense>,
         room: u32,
-    ) -> Result<TermPat, CodeFault>
+    ) -> Result<TermPat, ReadFault>
         ensures reads { IfOk result (λ t. Reads name_pat (scope_of scope.now.items) room t self.old.input.now self.new.input.now) }
         ensures bound { IfOk result (λ t. senses_of found.new.items ≡ senses_of found.old.items ++ bound t) }
-        ensures wrong { (more : ℕ) → IfErr result (λ e. Wrong (InTree binds name_pat (scope_of scope.now.items) (room + over e more)) e self.old.input.now) }
+        ensures wrong { IfErr result (λ e. Wrong (InTree binds name_pat (scope_of scope.now.items) room) e self.old.input.now) }
         ensures refuses { IfErr result (λ e. Refuses binds name_pat (scope_of scope.now.items) room e self.old.input.now) }
         ensures free { binds ≡ false → IfOk result (λ t. bound t ≡ []) }
         ensures begun { IfErr result (λ e. HasPlace e → Goes e (Begun binds name_pat (scope_of scope.now.items) room self.old.input.now)) }
@@ -130,7 +131,7 @@ impl<'a> Reader<'a> {
         }
     }
 
-    // The part of a pattern that goes on so after its tag.
+    // The part of a pattern that goes on so after its tag, which is that of no form where none has room.
     #[cycle(read)]
     fn pat_part(
         &mut self,
@@ -139,11 +140,12 @@ impl<'a> Reader<'a> {
         scope: &Vec<Sense>,
         found: &mut Vec<Sense>,
         room: u32,
-    ) -> Result<PatPart, CodeFault>
+    ) -> Result<PatPart, ReadFault>
+        requires { room ≡ 0 → is_pat_form_tag tag ≡ false }
         ensures reads { IfOk result (λ p. Reads pat_part (scope_of scope.now.items) room (pat_part_tree p) (tag ∷ self.old.input.now) self.new.input.now) }
         ensures ordered { IfOk result (λ p. IsOrdered (pat_part_tree p)) }
         ensures bound { IfOk result (λ p. senses_of found.new.items ≡ senses_of found.old.items ++ bound (pat_part_tree p)) }
-        ensures wrong { (more : ℕ) → IfErr result (λ e. Wrong (InTree binds pat_part (scope_of scope.now.items) (room + over e more)) e (tag ∷ self.old.input.now)) }
+        ensures wrong { IfErr result (λ e. Wrong (InTree binds pat_part (scope_of scope.now.items) room) e (tag ∷ self.old.input.now)) }
         ensures refuses { IfErr result (λ e. Refuses binds pat_part (scope_of scope.now.items) room e (tag ∷ self.old.input.now)) }
         ensures free { binds ≡ false → IfOk result (λ p. bound (pat_part_tree p) ≡ []) }
         ensures begun { IfErr result (λ e. HasPlace e → Goes e (Begun binds pat_part (scope_of scope.now.items) room (tag ∷ self.old.input.now))) }
@@ -151,7 +153,7 @@ impl<'a> Reader<'a> {
         match tag {
             0x50 => {
                 if !binds {
-                    return Err(CodeFault::NotCanonical {
+                    return Err(ReadFault::NotCanonical {
                         at: self.last_place(),
                     });
                 }
@@ -166,11 +168,6 @@ impl<'a> Reader<'a> {
             }
             _ => {
                 if is_pat_form(tag) {
-                    if room == 0 {
-                        return Err(CodeFault::TooDeep {
-                            at: self.last_place(),
-                        });
-                    }
                     self.pat_form(tag, binds, scope, found, room - 1)
                 } else {
                     Ok(PatPart::Ground(self.ground(tag)?))
@@ -189,13 +186,13 @@ impl<'a> Reader<'a> {
         scope: &Vec<Sense>,
         found: &mut Vec<Sense>,
         room: u32,
-    ) -> Result<PatPart, CodeFault>
+    ) -> Result<PatPart, ReadFault>
         requires form { is_pat_form_tag tag ≡ true }
         requires not_closed { (0x31 ≤ tag) → (tag ≤ 0x33) → ⊥ }
         ensures reads { IfOk result (λ p. Reads pat_part (scope_of scope.now.items) (room + 1) (pat_part_tree p) (tag ∷ self.old.input.now) self.new.input.now) }
         ensures ordered { IfOk result (λ p. IsOrdered (pat_part_tree p)) }
         ensures bound { IfOk result (λ p. senses_of found.new.items ≡ senses_of found.old.items ++ bound (pat_part_tree p)) }
-        ensures wrong { (more : ℕ) → IfErr result (λ e. Wrong (InTree binds pat_part (scope_of scope.now.items) ((room + 1) + over e more)) e (tag ∷ self.old.input.now)) }
+        ensures wrong { IfErr result (λ e. Wrong (InTree binds pat_part (scope_of scope.now.items) (room + 1)) e (tag ∷ self.old.input.now)) }
         ensures refuses { IfErr result (λ e. Refuses binds pat_part (scope_of scope.now.items) (room + 1) e (tag ∷ self.old.input.now)) }
         ensures free { binds ≡ false → IfOk result (λ p. bound (pat_part_tree p) ≡ []) }
         ensures begun { IfErr result (λ e. HasPlace e → Goes e (Begun binds pat_part (scope_of scope.now.items) (room + 1) (tag ∷ self.old.input.now))) }
@@ -244,27 +241,23 @@ impl<'a> Reader<'a> {
                 Ok(PatPart::Either(left, right))
             }
             0x56 => Ok(PatPart::Not(self.free_pat(scope, room)?)),
-            _ => Err(CodeFault::NotCanonical {
+            _ => Err(ReadFault::NotCanonical {
                 at: self.last_place(),
             }),
         }
     }
 
-    // A pattern that binds no variable. What binds none has found none.
+    // A pattern that binds no variable.
     #[cycle(read)]
-    fn free_pat(&mut self, scope: &Vec<Sense>, room: u32) -> Result<TermPat, CodeFault>
+    fn free_pat(&mut self, scope: &Vec<Sense>, room: u32) -> Result<TermPat, ReadFault>
         ensures reads { IfOk result (λ t. Reads pat (scope_of scope.now.items) room t self.old.input.now self.new.input.now) }
         ensures bound { IfOk result (λ t. bound t ≡ []) }
-        ensures wrong { (more : ℕ) → IfErr result (λ e. Wrong (InTree false pat (scope_of scope.now.items) (room + over e more)) e self.old.input.now) }
+        ensures wrong { IfErr result (λ e. Wrong (InTree false pat (scope_of scope.now.items) room) e self.old.input.now) }
         ensures refuses { IfErr result (λ e. Refuses false pat (scope_of scope.now.items) room e self.old.input.now) }
         ensures begun { IfErr result (λ e. HasPlace e → Goes e (Begun false pat (scope_of scope.now.items) room self.old.input.now)) }
     {
         let mut found = Vec::new(self.alloc);
-        let pat = self.pat(false, scope, &mut found, room)?;
-        if !found.is_empty() {
-            return Err(CodeFault::NotCanonical { at: self.place() });
-        }
-        Ok(pat)
+        self.pat(false, scope, &mut found, room)
     }
 
     // From `least` to `most` patterns.
@@ -277,12 +270,12 @@ impl<'a> Reader<'a> {
         scope: &Vec<Sense>,
         found: &mut Vec<Sense>,
         room: u32,
-    ) -> Result<Vec<TermPat>, CodeFault>
+    ) -> Result<Vec<TermPat>, ReadFault>
         ensures reads { IfOk result (λ ts. Reads (row_of pat) (scope_of scope.now.items) room (many row ts.items) self.old.input.now self.new.input.now) }
         ensures bound { IfOk result (λ ts. senses_of found.new.items ≡ senses_of found.old.items ++ bound (many row ts.items)) }
         ensures least { IfOk result (λ ts. least ≤ length ts.items) }
         ensures most { IfOk result (λ ts. length ts.items ≤ most) }
-        ensures wrong { (more : ℕ) → IfErr result (λ e. Wrong (InRow binds pat (scope_of scope.now.items) (room + over e more) least most) e self.old.input.now) }
+        ensures wrong { IfErr result (λ e. Wrong (InRow binds pat (scope_of scope.now.items) room least most) e self.old.input.now) }
         ensures refuses { IfErr result (λ e. RefusesRow binds pat (scope_of scope.now.items) room least most e self.old.input.now) }
         ensures free { binds ≡ false → IfOk result (λ ts. bound (many row ts.items) ≡ []) }
         ensures begun { IfErr result (λ e. HasPlace e → least ≤ most → Goes e (BegunRow binds pat (scope_of scope.now.items) room least most self.old.input.now)) }
@@ -302,10 +295,10 @@ impl<'a> Reader<'a> {
         scope: &Vec<Sense>,
         found: &mut Vec<Sense>,
         room: u32,
-    ) -> Result<Vec<TermPat>, CodeFault>
+    ) -> Result<Vec<TermPat>, ReadFault>
         ensures reads { IfOk result (λ ts. Reads (row_of name_pat) (scope_of scope.now.items) room (many row ts.items) self.old.input.now self.new.input.now) }
         ensures bound { IfOk result (λ ts. senses_of found.new.items ≡ senses_of found.old.items ++ bound (many row ts.items)) }
-        ensures wrong { (more : ℕ) → IfErr result (λ e. Wrong (InRow true name_pat (scope_of scope.now.items) (room + over e more) 0 0xFFFFFFFF) e self.old.input.now) }
+        ensures wrong { IfErr result (λ e. Wrong (InRow true name_pat (scope_of scope.now.items) room 0 0xFFFFFFFF) e self.old.input.now) }
         ensures refuses { IfErr result (λ e. RefusesRow true name_pat (scope_of scope.now.items) room 0 0xFFFFFFFF e self.old.input.now) }
         ensures begun { IfErr result (λ e. HasPlace e → Goes e (BegunRow true name_pat (scope_of scope.now.items) room 0 0xFFFFFFFF self.old.input.now)) }
     {
@@ -326,11 +319,11 @@ impl<'a> Reader<'a> {
         scope: &Vec<Sense>,
         found: &mut Vec<Sense>,
         room: u32,
-    ) -> Result<Vec<(TermPat, TermPat)>, CodeFault>
+    ) -> Result<Vec<(TermPat, TermPat)>, ReadFault>
         ensures reads { IfOk result (λ ps. Reads (row_of (pair_of pat)) (scope_of scope.now.items) room (many row (map pair_tree ps.items)) self.old.input.now self.new.input.now) }
         ensures bound { IfOk result (λ ps. senses_of found.new.items ≡ senses_of found.old.items ++ bound (many row (map pair_tree ps.items))) }
         ensures few { IfOk result (λ ps. length ps.items ≤ 8) }
-        ensures wrong { (more : ℕ) → IfErr result (λ e. Wrong (InRow binds (pair_of pat) (scope_of scope.now.items) (room + over e more) 0 8) e self.old.input.now) }
+        ensures wrong { IfErr result (λ e. Wrong (InRow binds (pair_of pat) (scope_of scope.now.items) room 0 8) e self.old.input.now) }
         ensures refuses { IfErr result (λ e. RefusesRow binds (pair_of pat) (scope_of scope.now.items) room 0 8 e self.old.input.now) }
         ensures free { binds ≡ false → IfOk result (λ ps. bound (many row (map pair_tree ps.items)) ≡ []) }
         ensures begun { IfErr result (λ e. HasPlace e → Goes e (BegunRow binds (pair_of pat) (scope_of scope.now.items) room 0 8 self.old.input.now)) }

@@ -1,15 +1,16 @@
 // What stands in codes beside processes: bytes, flags, numbers, texts and variables.
-ghost use Rattle.std.specs.Prelude.{◌≡◌, ◌++◌, ◌∷◌, ◌≤◌, ◌<◌, ◌^◌, ◌+◌, ℕ, List, length, true, IfOk, IfErr, take, ◌-◌, [], OnOk};
+ghost use Rattle.std.specs.Prelude.{◌≡◌, ◌++◌, ◌∷◌, ◌≤◌, ◌<◌, ◌^◌, ◌+◌, ℕ, List, length, true, false, IfOk, IfErr, take, ◌-◌, [], OnOk};
 ghost use Rattle.calculus.specs.Bytes.{be32};
 ghost use Rattle.calculus.specs.Order.{up_to};
 ghost use Rattle.calculus.specs.Form.{IsBytes};
 ghost use Rattle.term_code.specs.Beginning.{HasPlace, IsAt, Goes, Cuts, BegunNumber, Follows};
-ghost use Rattle.term_code.specs.Refusing.{Denies, RefusesByte, RefusesNumber, is_form_tag};
+ghost use Rattle.term_code.specs.Refusing.{Denies, RefusesByte, RefusesNumber};
+ghost use Rattle.term_code.specs.Tags.{is_form_tag};
 ghost use Rattle.term_code.specs.Places.{Reaches};
 ghost use Rattle.term_code.specs.Blaming.{IsShallow, TellsNone, Wrong, InByte, InNumber};
-ghost use Rattle.term_code.specs.declared.fault.CodeFault.TheVariants.{NotCanonical};
+ghost use Rattle.term_code.specs.declared.fault.ReadFault.TheVariants.{NotCanonical};
 
-use crate::fault::CodeFault;
+use crate::fault::ReadFault;
 use std::alloc::Global;
 use std::cmp::Ordering;
 
@@ -44,7 +45,7 @@ impl<'a> Reader<'a> {
         self.input.len() + 1
     }
 
-    pub(crate) fn byte(&mut self) -> Result<u8, CodeFault>
+    pub(crate) fn byte(&mut self) -> Result<u8, ReadFault>
         ensures is { IfOk result (λ b. self.old.input.now ≡ b ∷ self.new.input.now) }
         ensures tells { IfErr result (λ e. TellsNone e) }
         ensures refuses { IfErr result (λ e. (c : List ℕ) → 0 < length c → Denies e self.old.input.now c) }
@@ -55,12 +56,12 @@ impl<'a> Reader<'a> {
                 self.input = others;
                 Ok(*first)
             }
-            [] => Err(CodeFault::Short { at: self.whole }),
+            [] => Err(ReadFault::Short { at: self.whole }),
         }
     }
 
     // The next n bytes.
-    pub(crate) fn take(&mut self, n: usize) -> Result<&'a [u8], CodeFault>
+    pub(crate) fn take(&mut self, n: usize) -> Result<&'a [u8], ReadFault>
         ensures is { IfOk result (λ s. self.old.input.now ≡ s.now ++ self.new.input.now) }
         ensures long { IfOk result (λ s. length s.now ≡ n) }
         ensures bytes { IfOk result (λ s. IsBytes s.now) }
@@ -72,14 +73,14 @@ impl<'a> Reader<'a> {
     {
         let taken = front(self.input, n.min(self.input.len()));
         if taken.len() < n {
-            return Err(CodeFault::Short { at: self.whole });
+            return Err(ReadFault::Short { at: self.whole });
         }
         self.input = &self.input[n..];
         Ok(taken)
     }
 
     // The code that was read since these bytes were left, which is no less than the one before it.
-    pub(crate) fn read_since(&self, start: &'a [u8], last: &[u8]) -> Result<&'a [u8], CodeFault>
+    pub(crate) fn read_since(&self, start: &'a [u8], last: &[u8]) -> Result<&'a [u8], ReadFault>
         ensures code { IfOk result (λ c. (d : List ℕ) → start.now ≡ d ++ self.now.input.now → c.now ≡ d) }
         ensures up { IfOk result (λ c. up_to last.now c.now ≡ true) }
         ensures place { IfErr result (λ e. e ≡ NotCanonical (length start.now)) }
@@ -87,13 +88,13 @@ impl<'a> Reader<'a> {
     {
         let code = &start[..start.len().saturating_sub(self.input.len())];
         if last.cmp(code) == Ordering::Greater {
-            return Err(CodeFault::NotCanonical { at: start.len() });
+            return Err(ReadFault::NotCanonical { at: start.len() });
         }
         Ok(code)
     }
 
     // A byte of at most this number.
-    pub(crate) fn flag(&mut self, most: u8) -> Result<u8, CodeFault>
+    pub(crate) fn flag(&mut self, most: u8) -> Result<u8, ReadFault>
         ensures is { IfOk result (λ b. self.old.input.now ≡ b ∷ self.new.input.now) }
         ensures few { IfOk result (λ b. b ≤ most) }
         ensures wrong { IfErr result (λ e. Wrong (InByte most) e self.old.input.now) }
@@ -103,14 +104,14 @@ impl<'a> Reader<'a> {
         let at = self.place();
         let byte = self.byte()?;
         if byte > most {
-            return Err(CodeFault::NotCanonical { at });
+            return Err(ReadFault::NotCanonical { at });
         }
         Ok(byte)
     }
 
     // A number from `least` to `most`. Where it is cut, its bytes begin that of some such number; where they
     // do not, its first byte is blamed.
-    pub(crate) fn number(&mut self, least: u32, most: u32) -> Result<u32, CodeFault>
+    pub(crate) fn number(&mut self, least: u32, most: u32) -> Result<u32, ReadFault>
         ensures is { IfOk result (λ n. self.old.input.now ≡ be32 n ++ self.new.input.now) }
         ensures least { IfOk result (λ n. least ≤ n) }
         ensures most { IfOk result (λ n. n ≤ most) }
@@ -123,25 +124,25 @@ impl<'a> Reader<'a> {
         let at = self.place();
         let (low, high) = number_bounds(self.input);
         if low > most || high < least {
-            return Err(CodeFault::NotCanonical { at });
+            return Err(ReadFault::NotCanonical { at });
         }
         match self.input {
             [a, b, c, d, others @ ..] => {
                 let n = u32::from_be_bytes([*a, *b, *c, *d]);
                 if n < least || most < n {
-                    return Err(CodeFault::NotCanonical { at });
+                    return Err(ReadFault::NotCanonical { at });
                 }
                 self.input = others;
                 Ok(n)
             }
-            _ => Err(CodeFault::Short { at: self.whole }),
+            _ => Err(ReadFault::Short { at: self.whole }),
         }
     }
 }
 
 // Bytes that fall below the code before them are no code there, whatever follows the byte that does. Else
 // bytes may follow so that they do not.
-pub(crate) fn check_order(last: &[u8], bytes: &[u8]) -> Result<(), CodeFault>
+pub(crate) fn check_order(last: &[u8], bytes: &[u8]) -> Result<(), ReadFault>
     ensures up { IfOk result (λ _. Reaches last.now bytes.now) }
     ensures follows { OnOk result (Follows last.now bytes.now) }
     ensures place { IfErr result (λ e. e ≡ NotCanonical (length bytes.now)) }
@@ -149,7 +150,7 @@ pub(crate) fn check_order(last: &[u8], bytes: &[u8]) -> Result<(), CodeFault>
 {
     let both = last.len().min(bytes.len());
     if front(last, both).cmp(front(bytes, both)) == Ordering::Greater {
-        return Err(CodeFault::NotCanonical { at: bytes.len() });
+        return Err(ReadFault::NotCanonical { at: bytes.len() });
     }
     Ok(())
 }
@@ -159,6 +160,14 @@ pub(crate) fn is_form(tag: u8) -> bool
     ensures { result ≡ is_form_tag tag }
 {
     matches!(tag, 0x20..=0x23 | 0x30..=0x34 | 0x40..=0x42)
+}
+
+// Whether a form, if there is one, has no room.
+pub(crate) fn lacks_room(room: u32, form: bool) -> bool
+    ensures yes { result ≡ true → (room ≡ 0) × (form ≡ true) }
+    ensures no { result ≡ false → room ≡ 0 → form ≡ false }
+{
+    room == 0 && form
 }
 
 fn front(bytes: &[u8], n: usize) -> &[u8]

@@ -125,6 +125,28 @@ fn height_400_is_read_and_no_more(rt: HostRuntime) -> Result<(), Fail> {
     Ok(())
 }
 
+// Inside so many lists, a `match` whose pattern has a wildcard and `~` of an empty pattern: two wide parts.
+fn wide_in(alloc: Global, lists: usize) -> Result<Vec<u8>, AllocError> {
+    let mut code = Vec::new(alloc);
+    for _i in 0..lists {
+        code.extend_from_slice(&[0, 0, 0, 1, 0x20, 0, 0, 0, 1])?;
+    }
+    code.extend_from_slice(&[0, 0, 0, 1, 0x33, 0, 0, 0, 0, 0, 0, 0, 1])?;
+    code.extend_from_slice(&[0, 0, 0, 2, 0x52, 0x56, 0, 0, 0, 0, 0, 0, 0, 0])?;
+    Ok(code)
+}
+
+// A part that is too deep is told as such, also where it is a wide part too many.
+#[test]
+fn depth_goes_before_other_causes_at_one_place(rt: HostRuntime) -> Result<(), Fail> {
+    let alloc = rt.alloc();
+    let fault = decode_term(alloc, wide_in(alloc, 398)?.as_slice()).err();
+    assert_eq!(rt; fault, Some(CodeFault::NotCanonical { at: 3600 }));
+    let fault = decode_term(alloc, wide_in(alloc, 399)?.as_slice()).err();
+    assert_eq!(rt; fault, Some(CodeFault::TooDeep { at: 3609 }));
+    Ok(())
+}
+
 // Two parts: a String and a list of 262140 empty processes.
 #[test]
 fn a_code_of_a_mebibyte_is_read(rt: HostRuntime) -> Result<(), Fail> {

@@ -1,4 +1,4 @@
-use Rattle.std.proofs.Common.{sym, ◌∙◌}
+use Rattle.std.proofs.Common.{◌∙◌}
 use Rattle.term_code.proofs.TextEnds.{whole-ends, cut-only, cut-all, ends-all, is-none}
 use Rattle.term_code.proofs.text.begins_utf8.Goals as goal
 

@@ -1,4 +1,3 @@
-use Rattle.term_code.specs.Texts.{HasForm}
 use Rattle.term_code.proofs.TextRefusals.{no_key}
 use Rattle.term_code.proofs.text.is_text.Goals as goal
 

@@ -1,4 +1,4 @@
-use Rattle.std.proofs.Common.{refl, ◌≡◌, ◌-◌, true, inl, ◌∷◌, [], ◌++◌, ◌+◌, length, map, ap, sym, ◌∙◌, subst, arith, cond, append_assoc, append-nil}
+use Rattle.std.proofs.Common.{true, ◌∷◌, [], ◌++◌, ◌+◌, length, map, ap, sym, ◌∙◌, subst, arith, cond, append_assoc, append-nil}
 use Rattle.std.specs.Prelude.{All}
 use Rattle.calculus.specs.Form.{part, pat_part, name_pat, wides}
 use Rattle.calculus.specs.Shape.{leaf, many}
@@ -27,15 +27,15 @@ use Rattle.term_code.proofs.PatRefusals.{tuple_pattern-refused}
 use Rattle.term_code.proofs.PatGoing.{pat-number, pat-refused}
 use Rattle.term_code.proofs.NameRefusals.{refuses-at, none-left, wide-refused, name-refused, term-refused, at-room}
 use Rattle.term_code.proofs.Exits.{at-tag, send-flag, send-channel, send-args, receive-kind, receive-binds, receive-body, new-origins, new-body, match-target, match-cases, bundle-rights, bundle-body, unary-op, unary-arg, binary-op, binary-left, binary-right, method-name, method-target, method-args}
-use Rattle.term_code.proofs.PatExits.{list-members, list-rest, set-members, set-rest, map-pairs, map-rest, pat_send-flag, pat_send-channel, pat_send-args, pat_bundle-rights, pat_bundle-body, same-body, both-left, both-right, either-left, either-right, not-body, variable-refused, simple-refused, closed-refused, plain-refused, deep_pattern-refused, case-pattern, case-body, bind-channel, bind-patterns, bind-rest, bound-refused}
-use Rattle.term_code.proofs.Blaming.{none-told, no-memory, not-canonical}
+use Rattle.term_code.proofs.PatExits.{list-members, list-rest, set-members, set-rest, map-pairs, map-rest, pat_send-flag, pat_send-channel, pat_send-args, pat_bundle-rights, pat_bundle-body, same-body, both-left, both-right, either-left, either-right, not-body, variable-refused, simple-refused, closed-refused, plain-refused, deep_pattern-refused, case-pattern, case-body, bind-channel, bind-patterns, bind-rest}
+use Rattle.term_code.proofs.Blaming.{none-told, no-memory, no-form, has-room}
 use Rattle.term_code.proofs.BlamedRows.{row-blamed, number-row_blamed, number-bag_blamed, pair-first_blamed, pair-second_blamed}
-use Rattle.term_code.proofs.BlamedBags.{bag-blamed, bag-first_blamed, bag-low_blamed, bag-lower_blamed, term_blamed}
-use Rattle.term_code.proofs.BlamedParts.{room_wrong, bytes_wrong, wrong-unscoped, var_wrong, name_var_wrong, ground_wrong, deep_wrong, plain_wrong, deep_pattern_wrong, unbound_wrong, simple_wrong, closed_wrong}
-use Rattle.term_code.proofs.BlamedPats.{pat-number_wrong, pat_wrong, wide_wrong}
+use Rattle.term_code.proofs.BlamedBags.{bag-blamed, bag-deep_blamed, tag-no_form, tag-form, bag-low_blamed, bag-lower_blamed, term_blamed}
+use Rattle.term_code.proofs.BlamedParts.{room_wrong, bytes_wrong, wrong-unscoped, var_wrong, name_var_wrong, ground_wrong, plain_wrong, unbound_wrong, simple_wrong, closed_wrong}
+use Rattle.term_code.proofs.BlamedPats.{pat-number_wrong, pat_wrong, pat-deep_wrong, pat-tag_no_form, pat-tag_form, wide_wrong}
 use Rattle.term_code.proofs.BlamedNames.{name_wrong}
 use Rattle.term_code.proofs.BlamedExits.{at-tag_wrong, at-form_wrong, at-leaf_wrong, list_wrong, tuple_wrong, set_wrong, map_wrong, send-flag_wrong, send-channel_wrong, send-args_wrong, receive-kind_wrong, receive-binds_wrong, receive-body_wrong, new-origins_wrong, new-body_wrong, match-target_wrong, match-cases_wrong, bundle-rights_wrong, bundle-body_wrong, unary-op_wrong, unary-arg_wrong, binary-op_wrong, binary-left_wrong, binary-right_wrong, method-name_wrong, method-target_wrong, method-args_wrong}
-use Rattle.term_code.proofs.BlamedPatExits.{list-members_wrong, list-rest_wrong, tuple_pattern_wrong, set-members_wrong, set-rest_wrong, map-pairs_wrong, map-rest_wrong, pat_send-flag_wrong, pat_send-channel_wrong, pat_send-args_wrong, pat_bundle-rights_wrong, pat_bundle-body_wrong, same-body_wrong, both-left_wrong, both-right_wrong, either-left_wrong, either-right_wrong, not-body_wrong, case-pattern_wrong, case-body_wrong, bind-channel_wrong, bind-patterns_wrong, bind-rest_wrong, bound_wrong}
+use Rattle.term_code.proofs.BlamedPatExits.{list-members_wrong, list-rest_wrong, tuple_pattern_wrong, set-members_wrong, set-rest_wrong, map-pairs_wrong, map-rest_wrong, pat_send-flag_wrong, pat_send-channel_wrong, pat_send-args_wrong, pat_bundle-rights_wrong, pat_bundle-body_wrong, same-body_wrong, both-left_wrong, both-right_wrong, either-left_wrong, either-right_wrong, not-body_wrong, case-pattern_wrong, case-body_wrong, bind-channel_wrong, bind-patterns_wrong, bind-rest_wrong}
 use Rattle.term_code.proofs.Begins.{a_term, a_part, a_pat, a_name, a_pair, some-case, some-bind}
 use Rattle.term_code.proofs.BegunRows.{row-begun, number-begun, bag-begun, number-begun_bag}
 use Rattle.term_code.proofs.BegunForms.{term-begun, list-begun, tuple-begun, set-begun, map-begun, send-flag_begun, send-channel_begun, send-args_begun, receive-kind_begun, receive-binds_begun, receive-body_begun, new-origins_begun, new-body_begun, match-target_begun, match-cases_begun, bundle-rights_begun, bundle-body_begun, unary-op_begun, unary-arg_begun, binary-op_begun, binary-left_begun, binary-right_begun, method-name_begun, method-target_begun, method-args_begun, fresh-begun, var-begun, name_var-begun, at-tag_begun}
@@ -44,7 +44,8 @@ use Rattle.term_code.proofs.BegunParts.{pat-number_begun, pat-tag_begun, pat-par
 use Rattle.term_code.proofs.BegunMore.{none-begun, bag-none_begun, begun-at, begun-room, begun-unscoped, quiet-push}
 use Rattle.term_code.proofs.Places.{goes-on, goes-here, goes-at}
 use Rattle.term_code.proofs.Memory.{memory-refuses, memory-row, memory-bag}
-use Rattle.term_code.proofs.Scoped.{refuses-unscoped, found-none, not-empty}
+use Rattle.term_code.specs.declared.fault.ReadFault.TheVariants.{TooDeep}
+use Rattle.term_code.proofs.Scoped.{refuses-unscoped}
 use Rattle.term_code.proofs.reader.Reader.+read.Goals as goal
 
 pub terms-loop-i-init : goal.terms-loop-i-init
@@ -231,332 +232,320 @@ pub pat_form-returns-in_ok-rest-in-35-clause-reads : goal.pat_form-returns-in_ok
 pat_form-returns-in_ok-rest-in-35-clause-reads t c = map_pattern-form (map pair_tree c.in_ok-pairs-in-35.pairs.items) c.in_ok-rest-in-35.rest c.args.tag c.in-35.is c.in_ok-pairs-in-35.ensures.reads c.in_ok-rest-in-35.ensures.is (rw (length-map pair_tree c.in_ok-pairs-in-35.pairs.items) c.in_ok-pairs-in-35.ensures.few)
 
 pub terms-returns-in_err-count-clause-wrong : goal.terms-returns-in_err-count-clause-wrong
-terms-returns-in_err-count-clause-wrong t c = λ more. exit _ _ _ c.from_residual.ensures.1 (number-row_blamed c.in_err-count.ensures.wrong)
+terms-returns-in_err-count-clause-wrong t c = exit _ _ _ c.from_residual.ensures.1 (number-row_blamed c.in_err-count.ensures.wrong)
 
 pub terms-returns-in_err-term-clause-wrong : goal.terms-returns-in_err-term-clause-wrong
-terms-returns-in_err-term-clause-wrong t c = λ more. exit _ _ _ c.from_residual-in_err-term.ensures.1 (row-blamed c.args.least 0xFFFFFFFF c.in_ok-count.count _ c.loop-i.invariant.read c.in_ok-count.ensures.is (omega arith) (omega (arith, c.loop-i.invariant.count)) (c.in_err-term.ensures.wrong more))
+terms-returns-in_err-term-clause-wrong t c = exit _ _ _ c.from_residual-in_err-term.ensures.1 (row-blamed c.args.least 0xFFFFFFFF c.in_ok-count.count _ c.loop-i.invariant.read c.in_ok-count.ensures.is (omega arith) (omega (arith, c.loop-i.invariant.count)) c.in_err-term.ensures.wrong)
 
 pub members-returns-in_err-count-clause-wrong : goal.members-returns-in_err-count-clause-wrong
-members-returns-in_err-count-clause-wrong t c = λ more. exit _ _ _ c.from_residual.ensures.1 (number-bag_blamed c.in_err-count.ensures.wrong)
+members-returns-in_err-count-clause-wrong t c = exit _ _ _ c.from_residual.ensures.1 (number-bag_blamed c.in_err-count.ensures.wrong)
 
 pub members-returns-in_err-check_order-clause-wrong : goal.members-returns-in_err-check_order-clause-wrong
-members-returns-in_err-check_order-clause-wrong t c = λ more. exit _ _ _ c.from_residual-in_err-check_order.ensures.1 (bag-low_blamed c.in_ok-count.count _ c.loop-i.invariant.read c.in_ok-count.ensures.is (omega arith) (omega (arith, c.loop-i.invariant.count)) c.in_err-check_order.ensures.place c.in_err-check_order.ensures.refuses)
+members-returns-in_err-check_order-clause-wrong t c = exit _ _ _ c.from_residual-in_err-check_order.ensures.1 (bag-low_blamed c.in_ok-count.count _ c.loop-i.invariant.read c.in_ok-count.ensures.is (omega arith) (omega (arith, c.loop-i.invariant.count)) c.in_err-check_order.ensures.place (no-form _ _) c.in_err-check_order.ensures.refuses)
 
 pub members-returns-in_err-term-clause-wrong : goal.members-returns-in_err-term-clause-wrong
-members-returns-in_err-term-clause-wrong t c = λ more. exit _ _ _ c.from_residual-in_err-term.ensures.1 (bag-blamed c.in_ok-count.count _ c.loop-i.invariant.read c.in_ok-count.ensures.is (omega arith) (omega (arith, c.loop-i.invariant.count)) c.in_ok-check_order.ensures.up (c.in_err-term.ensures.wrong more))
+members-returns-in_err-term-clause-wrong t c = exit _ _ _ c.from_residual-in_err-term.ensures.1 (bag-blamed c.in_ok-count.count _ c.loop-i.invariant.read c.in_ok-count.ensures.is (omega arith) (omega (arith, c.loop-i.invariant.count)) c.in_ok-check_order.ensures.up (no-form _ _) c.in_err-term.ensures.wrong)
 
 pub members-returns-in_err-last-clause-wrong : goal.members-returns-in_err-last-clause-wrong
-members-returns-in_err-last-clause-wrong t c = λ more. exit _ _ _ c.from_residual-in_err-last.ensures.1 (bag-lower_blamed c.in_ok-count.count _ c.loop-i.invariant.read c.in_ok-count.ensures.is (omega arith) (omega (arith, c.loop-i.invariant.count)) c.in_err-last.ensures.place c.in_ok-term.ensures.reads c.in_err-last.ensures.down)
+members-returns-in_err-last-clause-wrong t c = exit _ _ _ c.from_residual-in_err-last.ensures.1 (bag-lower_blamed c.in_ok-count.count _ c.loop-i.invariant.read c.in_ok-count.ensures.is (omega arith) (omega (arith, c.loop-i.invariant.count)) c.in_err-last.ensures.place (no-form _ _) c.in_ok-term.ensures.reads c.in_err-last.ensures.down)
 
 pub pairs-returns-in_err-count-clause-wrong : goal.pairs-returns-in_err-count-clause-wrong
-pairs-returns-in_err-count-clause-wrong t c = λ more. exit _ _ _ c.from_residual.ensures.1 (number-bag_blamed c.in_err-count.ensures.wrong)
+pairs-returns-in_err-count-clause-wrong t c = exit _ _ _ c.from_residual.ensures.1 (number-bag_blamed c.in_err-count.ensures.wrong)
 
 pub pairs-returns-in_err-check_order-clause-wrong : goal.pairs-returns-in_err-check_order-clause-wrong
-pairs-returns-in_err-check_order-clause-wrong t c = λ more. exit _ _ _ c.from_residual-in_err-check_order.ensures.1 (bag-low_blamed c.in_ok-count.count _ c.loop-i.invariant.read c.in_ok-count.ensures.is (omega arith) (omega (arith, c.loop-i.invariant.count)) c.in_err-check_order.ensures.place c.in_err-check_order.ensures.refuses)
+pairs-returns-in_err-check_order-clause-wrong t c = exit _ _ _ c.from_residual-in_err-check_order.ensures.1 (bag-low_blamed c.in_ok-count.count _ c.loop-i.invariant.read c.in_ok-count.ensures.is (omega arith) (omega (arith, c.loop-i.invariant.count)) c.in_err-check_order.ensures.place (no-form _ _) c.in_err-check_order.ensures.refuses)
 
 pub pairs-returns-in_err-key-clause-wrong : goal.pairs-returns-in_err-key-clause-wrong
-pairs-returns-in_err-key-clause-wrong t c = λ more. exit _ _ _ c.from_residual-in_err-key.ensures.1 (bag-blamed c.in_ok-count.count _ c.loop-i.invariant.read c.in_ok-count.ensures.is (omega arith) (omega (arith, c.loop-i.invariant.count)) c.in_ok-check_order.ensures.up (pair-first_blamed (c.in_err-key.ensures.wrong more)))
+pairs-returns-in_err-key-clause-wrong t c = exit _ _ _ c.from_residual-in_err-key.ensures.1 (bag-blamed c.in_ok-count.count _ c.loop-i.invariant.read c.in_ok-count.ensures.is (omega arith) (omega (arith, c.loop-i.invariant.count)) c.in_ok-check_order.ensures.up (no-form _ _) (pair-first_blamed c.in_err-key.ensures.wrong))
 
 pub pairs-returns-in_err-value-clause-wrong : goal.pairs-returns-in_err-value-clause-wrong
-pairs-returns-in_err-value-clause-wrong t c = λ more. exit _ _ _ c.from_residual-in_err-value.ensures.1 (bag-blamed c.in_ok-count.count _ c.loop-i.invariant.read c.in_ok-count.ensures.is (omega arith) (omega (arith, c.loop-i.invariant.count)) c.in_ok-check_order.ensures.up (pair-second_blamed c.in_ok-key.ensures.reads (c.in_err-value.ensures.wrong more)))
+pairs-returns-in_err-value-clause-wrong t c = exit _ _ _ c.from_residual-in_err-value.ensures.1 (bag-blamed c.in_ok-count.count _ c.loop-i.invariant.read c.in_ok-count.ensures.is (omega arith) (omega (arith, c.loop-i.invariant.count)) c.in_ok-check_order.ensures.up (no-form _ _) (pair-second_blamed c.in_ok-key.ensures.reads c.in_err-value.ensures.wrong))
 
 pub pairs-returns-in_err-last-clause-wrong : goal.pairs-returns-in_err-last-clause-wrong
-pairs-returns-in_err-last-clause-wrong t c = λ more. exit _ _ _ c.from_residual-in_err-last.ensures.1 (bag-lower_blamed c.in_ok-count.count _ c.loop-i.invariant.read c.in_ok-count.ensures.is (omega arith) (omega (arith, c.loop-i.invariant.count)) c.in_err-last.ensures.place (pair-form c.in_ok-key.ensures.reads c.in_ok-value.ensures.reads) c.in_err-last.ensures.down)
+pairs-returns-in_err-last-clause-wrong t c = exit _ _ _ c.from_residual-in_err-last.ensures.1 (bag-lower_blamed c.in_ok-count.count _ c.loop-i.invariant.read c.in_ok-count.ensures.is (omega arith) (omega (arith, c.loop-i.invariant.count)) c.in_err-last.ensures.place (no-form _ _) (pair-form c.in_ok-key.ensures.reads c.in_ok-value.ensures.reads) c.in_err-last.ensures.down)
 
 pub term-returns-in_err-count-clause-wrong : goal.term-returns-in_err-count-clause-wrong
-term-returns-in_err-count-clause-wrong t c = λ more. exit _ _ _ c.from_residual.ensures.1 (term_blamed (number-bag_blamed c.in_err-count.ensures.wrong))
+term-returns-in_err-count-clause-wrong t c = exit _ _ _ c.from_residual.ensures.1 (term_blamed (number-bag_blamed c.in_err-count.ensures.wrong))
 
 pub term-returns-in_err-tag-clause-wrong : goal.term-returns-in_err-tag-clause-wrong
-term-returns-in_err-tag-clause-wrong t c = λ more. exit _ _ _ c.from_residual-in_err-tag.ensures.1 (none-told _ c.in_err-tag.ensures.tells)
+term-returns-in_err-tag-clause-wrong t c = exit _ _ _ c.from_residual-in_err-tag.ensures.1 (none-told _ c.in_err-tag.ensures.tells)
 
 pub term-returns-in_err-check_order-clause-wrong : goal.term-returns-in_err-check_order-clause-wrong
-term-returns-in_err-check_order-clause-wrong t c = λ more. exit _ _ _ c.from_residual-in_err-check_order.ensures.1 (term_blamed (bag-low_blamed c.in_ok-count.count _ c.loop-i.invariant.read c.in_ok-count.ensures.is (omega arith) (omega (arith, c.loop-i.invariant.count)) c.in_err-check_order.ensures.place c.in_err-check_order.ensures.refuses))
+term-returns-in_err-check_order-clause-wrong t c = exit _ _ _ c.from_residual-in_err-check_order.ensures.1 (term_blamed (bag-low_blamed c.in_ok-count.count _ c.loop-i.invariant.read c.in_ok-count.ensures.is (omega arith) (omega (arith, c.loop-i.invariant.count)) c.in_err-check_order.ensures.place (tag-no_form c.in_ok-tag.ensures.is (λ q. sym c.is_form.ensures ∙ c.lacks_room.ensures.no c.if-lacks_room.false q)) c.in_err-check_order.ensures.refuses))
 
 pub term-returns-in_err-part-clause-wrong : goal.term-returns-in_err-part-clause-wrong
-term-returns-in_err-part-clause-wrong t c = λ more. exit _ _ _ c.from_residual-in_err-part.ensures.1 (term_blamed (bag-blamed c.in_ok-count.count _ c.loop-i.invariant.read c.in_ok-count.ensures.is (omega arith) (omega (arith, c.loop-i.invariant.count)) c.in_ok-check_order.ensures.up (bytes_wrong c.in_ok-tag.ensures.is (c.in_err-part.ensures.wrong more))))
+term-returns-in_err-part-clause-wrong t c = exit _ _ _ c.from_residual-in_err-part.ensures.1 (term_blamed (bag-blamed c.in_ok-count.count _ c.loop-i.invariant.read c.in_ok-count.ensures.is (omega arith) (omega (arith, c.loop-i.invariant.count)) c.in_ok-check_order.ensures.up (tag-no_form c.in_ok-tag.ensures.is (λ q. sym c.is_form.ensures ∙ c.lacks_room.ensures.no c.if-lacks_room.false q)) (bytes_wrong c.in_ok-tag.ensures.is c.in_err-part.ensures.wrong)))
 
 pub term-returns-in_err-last-clause-wrong : goal.term-returns-in_err-last-clause-wrong
-term-returns-in_err-last-clause-wrong t c = λ more. exit _ _ _ c.from_residual-in_err-last.ensures.1 (term_blamed (bag-lower_blamed c.in_ok-count.count _ c.loop-i.invariant.read c.in_ok-count.ensures.is (omega arith) (omega (arith, c.loop-i.invariant.count)) c.in_err-last.ensures.place (reads-at _ c.in_ok-tag.ensures.is c.in_ok-part.ensures.reads) c.in_err-last.ensures.down))
+term-returns-in_err-last-clause-wrong t c = exit _ _ _ c.from_residual-in_err-last.ensures.1 (term_blamed (bag-lower_blamed c.in_ok-count.count _ c.loop-i.invariant.read c.in_ok-count.ensures.is (omega arith) (omega (arith, c.loop-i.invariant.count)) c.in_err-last.ensures.place (tag-no_form c.in_ok-tag.ensures.is (λ q. sym c.is_form.ensures ∙ c.lacks_room.ensures.no c.if-lacks_room.false q)) (reads-at _ c.in_ok-tag.ensures.is c.in_ok-part.ensures.reads) c.in_err-last.ensures.down))
 
 pub cases-returns-in_err-count-clause-wrong : goal.cases-returns-in_err-count-clause-wrong
-cases-returns-in_err-count-clause-wrong t c = λ more. exit _ _ _ c.from_residual.ensures.1 (number-row_blamed c.in_err-count.ensures.wrong)
+cases-returns-in_err-count-clause-wrong t c = exit _ _ _ c.from_residual.ensures.1 (number-row_blamed c.in_err-count.ensures.wrong)
 
 pub cases-returns-in_err-pat-clause-wrong : goal.cases-returns-in_err-pat-clause-wrong
-cases-returns-in_err-pat-clause-wrong t c = λ more. exit _ _ _ c.from_residual-in_err-pat.ensures.1 (row-blamed 1 0xFFFFFFFF c.in_ok-count.count _ c.loop-i.invariant.read c.in_ok-count.ensures.is (omega arith) (omega (arith, c.loop-i.invariant.count)) (case-pattern_wrong (c.in_err-pat.ensures.wrong more)))
+cases-returns-in_err-pat-clause-wrong t c = exit _ _ _ c.from_residual-in_err-pat.ensures.1 (row-blamed 1 0xFFFFFFFF c.in_ok-count.count _ c.loop-i.invariant.read c.in_ok-count.ensures.is (omega arith) (omega (arith, c.loop-i.invariant.count)) (case-pattern_wrong c.in_err-pat.ensures.wrong))
 
 pub cases-returns-in_err-body-clause-wrong : goal.cases-returns-in_err-body-clause-wrong
-cases-returns-in_err-body-clause-wrong t c = λ more. exit _ _ _ c.from_residual-in_err-body.ensures.1 (row-blamed 1 0xFFFFFFFF c.in_ok-count.count _ c.loop-i.invariant.read c.in_ok-count.ensures.is (omega arith) (omega (arith, c.loop-i.invariant.count)) (case-body_wrong c.in_ok-pat.ensures.reads (scope-more c.args.scope.now.items c.pat.new.found.items (bound c.in_ok-pat.pat) (c.in_ok-pat.ensures.bound ∙ ap (λ xs. senses_of xs ++ bound c.in_ok-pat.pat) c.in_ok-inner.ensures)) (c.in_err-body.ensures.wrong more)))
+cases-returns-in_err-body-clause-wrong t c = exit _ _ _ c.from_residual-in_err-body.ensures.1 (row-blamed 1 0xFFFFFFFF c.in_ok-count.count _ c.loop-i.invariant.read c.in_ok-count.ensures.is (omega arith) (omega (arith, c.loop-i.invariant.count)) (case-body_wrong c.in_ok-pat.ensures.reads (scope-more c.args.scope.now.items c.pat.new.found.items (bound c.in_ok-pat.pat) (c.in_ok-pat.ensures.bound ∙ ap (λ xs. senses_of xs ++ bound c.in_ok-pat.pat) c.in_ok-inner.ensures)) c.in_err-body.ensures.wrong))
 
 pub binds-returns-in_err-count-clause-wrong : goal.binds-returns-in_err-count-clause-wrong
-binds-returns-in_err-count-clause-wrong t c = λ more. exit _ _ _ c.from_residual.ensures.1 (number-row_blamed c.in_err-count.ensures.wrong)
+binds-returns-in_err-count-clause-wrong t c = exit _ _ _ c.from_residual.ensures.1 (number-row_blamed c.in_err-count.ensures.wrong)
 
 pub binds-returns-in_err-channel-clause-wrong : goal.binds-returns-in_err-channel-clause-wrong
-binds-returns-in_err-channel-clause-wrong t c = λ more. exit _ _ _ c.from_residual-in_err-channel.ensures.1 (row-blamed 1 16 c.in_ok-count.count _ c.loop-i.invariant.read c.in_ok-count.ensures.is (omega arith) (omega (arith, c.loop-i.invariant.count)) (bind-channel_wrong (c.in_err-channel.ensures.wrong more)))
+binds-returns-in_err-channel-clause-wrong t c = exit _ _ _ c.from_residual-in_err-channel.ensures.1 (row-blamed 1 16 c.in_ok-count.count _ c.loop-i.invariant.read c.in_ok-count.ensures.is (omega arith) (omega (arith, c.loop-i.invariant.count)) (bind-channel_wrong c.in_err-channel.ensures.wrong))
 
 pub binds-returns-in_err-pats-clause-wrong : goal.binds-returns-in_err-pats-clause-wrong
-binds-returns-in_err-pats-clause-wrong t c = λ more. exit _ _ _ c.from_residual-in_err-pats.ensures.1 (row-blamed 1 16 c.in_ok-count.count _ c.loop-i.invariant.read c.in_ok-count.ensures.is (omega arith) (omega (arith, c.loop-i.invariant.count)) (bind-patterns_wrong c.in_ok-channel.ensures.reads (c.in_err-pats.ensures.wrong more)))
+binds-returns-in_err-pats-clause-wrong t c = exit _ _ _ c.from_residual-in_err-pats.ensures.1 (row-blamed 1 16 c.in_ok-count.count _ c.loop-i.invariant.read c.in_ok-count.ensures.is (omega arith) (omega (arith, c.loop-i.invariant.count)) (bind-patterns_wrong c.in_ok-channel.ensures.reads c.in_err-pats.ensures.wrong))
 
 pub binds-returns-in_err-rest-clause-wrong : goal.binds-returns-in_err-rest-clause-wrong
-binds-returns-in_err-rest-clause-wrong t c = λ more. exit _ _ _ c.from_residual-in_err-rest.ensures.1 (row-blamed 1 16 c.in_ok-count.count _ c.loop-i.invariant.read c.in_ok-count.ensures.is (omega arith) (omega (arith, c.loop-i.invariant.count)) (bind-rest_wrong c.in_ok-channel.ensures.reads c.in_ok-pats.ensures.reads c.in_err-rest.ensures.wrong))
+binds-returns-in_err-rest-clause-wrong t c = exit _ _ _ c.from_residual-in_err-rest.ensures.1 (row-blamed 1 16 c.in_ok-count.count _ c.loop-i.invariant.read c.in_ok-count.ensures.is (omega arith) (omega (arith, c.loop-i.invariant.count)) (bind-rest_wrong c.in_ok-channel.ensures.reads c.in_ok-pats.ensures.reads c.in_err-rest.ensures.wrong))
 
 pub pats-returns-in_err-count-clause-wrong : goal.pats-returns-in_err-count-clause-wrong
-pats-returns-in_err-count-clause-wrong t c = λ more. exit _ _ _ c.from_residual.ensures.1 (number-row_blamed c.in_err-count.ensures.wrong)
+pats-returns-in_err-count-clause-wrong t c = exit _ _ _ c.from_residual.ensures.1 (number-row_blamed c.in_err-count.ensures.wrong)
 
 pub pats-returns-in_err-pat-clause-wrong : goal.pats-returns-in_err-pat-clause-wrong
-pats-returns-in_err-pat-clause-wrong t c = λ more. exit _ _ _ c.from_residual-in_err-pat.ensures.1 (row-blamed c.args.least c.args.most c.in_ok-count.count _ c.loop-i.invariant.read c.in_ok-count.ensures.is (omega arith) (omega (arith, c.loop-i.invariant.count)) (c.in_err-pat.ensures.wrong more))
+pats-returns-in_err-pat-clause-wrong t c = exit _ _ _ c.from_residual-in_err-pat.ensures.1 (row-blamed c.args.least c.args.most c.in_ok-count.count _ c.loop-i.invariant.read c.in_ok-count.ensures.is (omega arith) (omega (arith, c.loop-i.invariant.count)) c.in_err-pat.ensures.wrong)
 
 pub name_pats-returns-in_err-count-clause-wrong : goal.name_pats-returns-in_err-count-clause-wrong
-name_pats-returns-in_err-count-clause-wrong t c = λ more. exit _ _ _ c.from_residual.ensures.1 (number-row_blamed c.in_err-count.ensures.wrong)
+name_pats-returns-in_err-count-clause-wrong t c = exit _ _ _ c.from_residual.ensures.1 (number-row_blamed c.in_err-count.ensures.wrong)
 
 pub name_pats-returns-in_err-pat-clause-wrong : goal.name_pats-returns-in_err-pat-clause-wrong
-name_pats-returns-in_err-pat-clause-wrong t c = λ more. exit _ _ _ c.from_residual-in_err-pat.ensures.1 (row-blamed 0 0xFFFFFFFF c.in_ok-count.count _ c.loop-i.invariant.read c.in_ok-count.ensures.is (omega arith) (omega (arith, c.loop-i.invariant.count)) (c.in_err-pat.ensures.wrong more))
+name_pats-returns-in_err-pat-clause-wrong t c = exit _ _ _ c.from_residual-in_err-pat.ensures.1 (row-blamed 0 0xFFFFFFFF c.in_ok-count.count _ c.loop-i.invariant.read c.in_ok-count.ensures.is (omega arith) (omega (arith, c.loop-i.invariant.count)) c.in_err-pat.ensures.wrong)
 
 pub pat_pairs-returns-in_err-count-clause-wrong : goal.pat_pairs-returns-in_err-count-clause-wrong
-pat_pairs-returns-in_err-count-clause-wrong t c = λ more. exit _ _ _ c.from_residual.ensures.1 (number-row_blamed c.in_err-count.ensures.wrong)
+pat_pairs-returns-in_err-count-clause-wrong t c = exit _ _ _ c.from_residual.ensures.1 (number-row_blamed c.in_err-count.ensures.wrong)
 
 pub pat_pairs-returns-in_err-key-clause-wrong : goal.pat_pairs-returns-in_err-key-clause-wrong
-pat_pairs-returns-in_err-key-clause-wrong t c = λ more. exit _ _ _ c.from_residual-in_err-key.ensures.1 (row-blamed 0 8 c.in_ok-count.count _ c.loop-i.invariant.read c.in_ok-count.ensures.is (omega arith) (omega (arith, c.loop-i.invariant.count)) (pair-first_blamed (c.in_err-key.ensures.wrong more)))
+pat_pairs-returns-in_err-key-clause-wrong t c = exit _ _ _ c.from_residual-in_err-key.ensures.1 (row-blamed 0 8 c.in_ok-count.count _ c.loop-i.invariant.read c.in_ok-count.ensures.is (omega arith) (omega (arith, c.loop-i.invariant.count)) (pair-first_blamed c.in_err-key.ensures.wrong))
 
 pub pat_pairs-returns-in_err-value-clause-wrong : goal.pat_pairs-returns-in_err-value-clause-wrong
-pat_pairs-returns-in_err-value-clause-wrong t c = λ more. exit _ _ _ c.from_residual-in_err-value.ensures.1 (row-blamed 0 8 c.in_ok-count.count _ c.loop-i.invariant.read c.in_ok-count.ensures.is (omega arith) (omega (arith, c.loop-i.invariant.count)) (pair-second_blamed c.in_ok-key.ensures.reads (c.in_err-value.ensures.wrong more)))
+pat_pairs-returns-in_err-value-clause-wrong t c = exit _ _ _ c.from_residual-in_err-value.ensures.1 (row-blamed 0 8 c.in_ok-count.count _ c.loop-i.invariant.read c.in_ok-count.ensures.is (omega arith) (omega (arith, c.loop-i.invariant.count)) (pair-second_blamed c.in_ok-key.ensures.reads c.in_err-value.ensures.wrong))
 
 pub pat-returns-in_err-count-clause-wrong : goal.pat-returns-in_err-count-clause-wrong
-pat-returns-in_err-count-clause-wrong t c = λ more. exit _ _ _ c.from_residual.ensures.1 (pat-number_wrong c.in_err-count.ensures.wrong)
+pat-returns-in_err-count-clause-wrong t c = exit _ _ _ c.from_residual.ensures.1 (pat-number_wrong c.in_err-count.ensures.wrong)
 
 pub pat-returns-in_err-tag-clause-wrong : goal.pat-returns-in_err-tag-clause-wrong
-pat-returns-in_err-tag-clause-wrong t c = λ more. exit _ _ _ c.from_residual-in_err-tag.ensures.1 (pat_wrong _ c.in_ok-count.count c.loop-i.invariant.read c.in_ok-count.ensures.is (omega arith) (omega (arith, c.loop-i.invariant.count)) (none-told _ c.in_err-tag.ensures.tells))
+pat-returns-in_err-tag-clause-wrong t c = exit _ _ _ c.from_residual-in_err-tag.ensures.1 (none-told _ c.in_err-tag.ensures.tells)
 
 pub pat-returns-in_err-wide-clause-wrong : goal.pat-returns-in_err-wide-clause-wrong
-pat-returns-in_err-wide-clause-wrong t c = λ more. exit _ _ _ c.from_residual-in_err-wide.ensures.1 (wide_wrong _ c.in_ok-count.count c.loop-i.invariant.read c.in_ok-count.ensures.is (omega arith) (omega (arith, c.loop-i.invariant.count)) c.in_err-wide.ensures.place (omega arith) c.in_ok-tag.ensures.is (λ p q. c.in_err-wide.ensures.many (omega (arith, p, c.loop-i.invariant.wide)) (omega (arith, q, c.loop-i.invariant.wide, c.loop-i.invariant.count))))
+pat-returns-in_err-wide-clause-wrong t c = exit _ _ _ c.from_residual-in_err-wide.ensures.1 (wide_wrong _ c.in_ok-count.count c.loop-i.invariant.read c.in_ok-count.ensures.is (omega arith) (omega (arith, c.loop-i.invariant.count)) c.in_err-wide.ensures.place (omega arith) c.in_ok-tag.ensures.is (pat-tag_no_form c.in_ok-tag.ensures.is (λ q. sym c.is_pat_form.ensures ∙ c.lacks_room.ensures.no c.if-lacks_room.false q)) (λ p q. c.in_err-wide.ensures.many (omega (arith, p, c.loop-i.invariant.wide)) (omega (arith, q, c.loop-i.invariant.wide, c.loop-i.invariant.count))))
 
 pub pat-returns-in_err-part-clause-wrong : goal.pat-returns-in_err-part-clause-wrong
-pat-returns-in_err-part-clause-wrong t c = λ more. exit _ _ _ c.from_residual-in_err-part.ensures.1 (pat_wrong _ c.in_ok-count.count c.loop-i.invariant.read c.in_ok-count.ensures.is (omega arith) (omega (arith, c.loop-i.invariant.count)) (bytes_wrong c.in_ok-tag.ensures.is (c.in_err-part.ensures.wrong more)))
+pat-returns-in_err-part-clause-wrong t c = exit _ _ _ c.from_residual-in_err-part.ensures.1 (pat_wrong _ c.in_ok-count.count c.loop-i.invariant.read c.in_ok-count.ensures.is (omega arith) (omega (arith, c.loop-i.invariant.count)) (pat-tag_no_form c.in_ok-tag.ensures.is (λ q. sym c.is_pat_form.ensures ∙ c.lacks_room.ensures.no c.if-lacks_room.false q)) (bytes_wrong c.in_ok-tag.ensures.is c.in_err-part.ensures.wrong))
 
 pub form-returns-in_err-terms-in-32-clause-wrong : goal.form-returns-in_err-terms-in-32-clause-wrong
-form-returns-in_err-terms-in-32-clause-wrong t c = λ more. exit _ _ _ c.from_residual.ensures.1 (at-form_wrong _ 0x20 c.in-32.is (list_wrong (c.in_err-terms-in-32.ensures.wrong more)) (omega arith))
+form-returns-in_err-terms-in-32-clause-wrong t c = exit _ _ _ c.from_residual.ensures.1 (at-form_wrong _ 0x20 c.in-32.is (list_wrong c.in_err-terms-in-32.ensures.wrong) (omega arith))
 
 pub form-returns-in_err-terms-in-33-clause-wrong : goal.form-returns-in_err-terms-in-33-clause-wrong
-form-returns-in_err-terms-in-33-clause-wrong t c = λ more. exit _ _ _ c.from_residual-in_err-terms-in-33.ensures.1 (at-form_wrong _ 0x21 c.in-33.is (tuple_wrong (c.in_err-terms-in-33.ensures.wrong more)) (omega arith))
+form-returns-in_err-terms-in-33-clause-wrong t c = exit _ _ _ c.from_residual-in_err-terms-in-33.ensures.1 (at-form_wrong _ 0x21 c.in-33.is (tuple_wrong c.in_err-terms-in-33.ensures.wrong) (omega arith))
 
 pub form-returns-in_err-members-in-34-clause-wrong : goal.form-returns-in_err-members-in-34-clause-wrong
-form-returns-in_err-members-in-34-clause-wrong t c = λ more. exit _ _ _ c.from_residual-in_err-members-in-34.ensures.1 (at-form_wrong _ 0x22 c.in-34.is (set_wrong (c.in_err-members-in-34.ensures.wrong more)) (omega arith))
+form-returns-in_err-members-in-34-clause-wrong t c = exit _ _ _ c.from_residual-in_err-members-in-34.ensures.1 (at-form_wrong _ 0x22 c.in-34.is (set_wrong c.in_err-members-in-34.ensures.wrong) (omega arith))
 
 pub form-returns-in_err-pairs-in-35-clause-wrong : goal.form-returns-in_err-pairs-in-35-clause-wrong
-form-returns-in_err-pairs-in-35-clause-wrong t c = λ more. exit _ _ _ c.from_residual-in_err-pairs-in-35.ensures.1 (at-form_wrong _ 0x23 c.in-35.is (map_wrong (c.in_err-pairs-in-35.ensures.wrong more)) (omega arith))
+form-returns-in_err-pairs-in-35-clause-wrong t c = exit _ _ _ c.from_residual-in_err-pairs-in-35.ensures.1 (at-form_wrong _ 0x23 c.in-35.is (map_wrong c.in_err-pairs-in-35.ensures.wrong) (omega arith))
 
 pub form-returns-in_err-persistent-in-48-clause-wrong : goal.form-returns-in_err-persistent-in-48-clause-wrong
-form-returns-in_err-persistent-in-48-clause-wrong t c = λ more. exit _ _ _ c.from_residual-in_err-persistent-in-48.ensures.1 (at-leaf_wrong _ 0x30 c.in-48.is (λ r. send-flag_wrong r c.in_err-persistent-in-48.ensures.wrong) (omega arith))
+form-returns-in_err-persistent-in-48-clause-wrong t c = exit _ _ _ c.from_residual-in_err-persistent-in-48.ensures.1 (at-leaf_wrong _ 0x30 c.in-48.is (λ r. send-flag_wrong r c.in_err-persistent-in-48.ensures.wrong) (omega arith))
 
 pub form-returns-in_err-channel-in-48-clause-wrong : goal.form-returns-in_err-channel-in-48-clause-wrong
-form-returns-in_err-channel-in-48-clause-wrong t c = λ more. exit _ _ _ c.from_residual-in_err-channel-in-48.ensures.1 (at-form_wrong _ 0x30 c.in-48.is (send-channel_wrong c.in_ok-persistent-in-48.ensures.is (c.in_err-channel-in-48.ensures.wrong more)) (omega arith))
+form-returns-in_err-channel-in-48-clause-wrong t c = exit _ _ _ c.from_residual-in_err-channel-in-48.ensures.1 (at-form_wrong _ 0x30 c.in-48.is (send-channel_wrong c.in_ok-persistent-in-48.ensures.is c.in_err-channel-in-48.ensures.wrong) (omega arith))
 
 pub form-returns-in_err-args-in-48-clause-wrong : goal.form-returns-in_err-args-in-48-clause-wrong
-form-returns-in_err-args-in-48-clause-wrong t c = λ more. exit _ _ _ c.from_residual-in_err-args-in-48.ensures.1 (at-form_wrong _ 0x30 c.in-48.is (send-args_wrong c.in_ok-persistent-in-48.ensures.is c.in_ok-channel-in-48.ensures.reads (c.in_err-args-in-48.ensures.wrong more)) (omega arith))
+form-returns-in_err-args-in-48-clause-wrong t c = exit _ _ _ c.from_residual-in_err-args-in-48.ensures.1 (at-form_wrong _ 0x30 c.in-48.is (send-args_wrong c.in_ok-persistent-in-48.ensures.is c.in_ok-channel-in-48.ensures.reads c.in_err-args-in-48.ensures.wrong) (omega arith))
 
 pub form-returns-in_err-kind-in-49-clause-wrong : goal.form-returns-in_err-kind-in-49-clause-wrong
-form-returns-in_err-kind-in-49-clause-wrong t c = λ more. exit _ _ _ c.from_residual-in_err-kind-in-49.ensures.1 (at-leaf_wrong _ 0x31 c.in-49.is (λ r. receive-kind_wrong r c.in_err-kind-in-49.ensures.wrong) (omega arith))
+form-returns-in_err-kind-in-49-clause-wrong t c = exit _ _ _ c.from_residual-in_err-kind-in-49.ensures.1 (at-leaf_wrong _ 0x31 c.in-49.is (λ r. receive-kind_wrong r c.in_err-kind-in-49.ensures.wrong) (omega arith))
 
 pub form-returns-in_err-binds-in-49-clause-wrong : goal.form-returns-in_err-binds-in-49-clause-wrong
-form-returns-in_err-binds-in-49-clause-wrong t c = λ more. exit _ _ _ c.from_residual-in_err-binds-in-49.ensures.1 (at-form_wrong _ 0x31 c.in-49.is (receive-binds_wrong c.in_ok-kind-in-49.ensures.is (c.in_err-binds-in-49.ensures.wrong more)) (omega arith))
+form-returns-in_err-binds-in-49-clause-wrong t c = exit _ _ _ c.from_residual-in_err-binds-in-49.ensures.1 (at-form_wrong _ 0x31 c.in-49.is (receive-binds_wrong c.in_ok-kind-in-49.ensures.is c.in_err-binds-in-49.ensures.wrong) (omega arith))
 
 pub form-returns-in_err-body-in-49-clause-wrong : goal.form-returns-in_err-body-in-49-clause-wrong
-form-returns-in_err-body-in-49-clause-wrong t c = λ more. exit _ _ _ c.from_residual-in_err-body-in-49.ensures.1 (at-form_wrong _ 0x31 c.in-49.is (receive-body_wrong c.in_ok-kind-in-49.ensures.is c.in_ok-binds-in-49.ensures.reads (scope-more c.args.scope.now.items c.binds.new.found.items (bound (many row (map bind_tree c.in_ok-binds-in-49.binds.items))) (c.in_ok-binds-in-49.ensures.bound ∙ ap (λ xs. senses_of xs ++ bound (many row (map bind_tree c.in_ok-binds-in-49.binds.items))) c.in_ok-inner-in-49.ensures)) (c.in_err-body-in-49.ensures.wrong more)) (omega arith))
+form-returns-in_err-body-in-49-clause-wrong t c = exit _ _ _ c.from_residual-in_err-body-in-49.ensures.1 (at-form_wrong _ 0x31 c.in-49.is (receive-body_wrong c.in_ok-kind-in-49.ensures.is c.in_ok-binds-in-49.ensures.reads (scope-more c.args.scope.now.items c.binds.new.found.items (bound (many row (map bind_tree c.in_ok-binds-in-49.binds.items))) (c.in_ok-binds-in-49.ensures.bound ∙ ap (λ xs. senses_of xs ++ bound (many row (map bind_tree c.in_ok-binds-in-49.binds.items))) c.in_ok-inner-in-49.ensures)) c.in_err-body-in-49.ensures.wrong) (omega arith))
 
 pub form-returns-in_err-names-in-50-clause-wrong : goal.form-returns-in_err-names-in-50-clause-wrong
-form-returns-in_err-names-in-50-clause-wrong t c = λ more. exit _ _ _ c.from_residual-in_err-names-in-50.ensures.1 (at-leaf_wrong _ 0x32 c.in-50.is (λ r. new-origins_wrong r c.in_err-names-in-50.ensures.wrong) (omega arith))
+form-returns-in_err-names-in-50-clause-wrong t c = exit _ _ _ c.from_residual-in_err-names-in-50.ensures.1 (at-leaf_wrong _ 0x32 c.in-50.is (λ r. new-origins_wrong r c.in_err-names-in-50.ensures.wrong) (omega arith))
 
 pub form-returns-in_err-body-in-50-clause-wrong : goal.form-returns-in_err-body-in-50-clause-wrong
-form-returns-in_err-body-in-50-clause-wrong t c = λ more. exit _ _ _ c.from_residual-in_err-body-in-50.ensures.1 (at-form_wrong _ 0x32 c.in-50.is (new-body_wrong c.in_ok-names-in-50.names.items c.in_ok-names-in-50.ensures.is (scope-names c.args.scope.now.items c.in_ok-inner-in-50.inner.items c.in_ok-names-in-50.names.items c.len.result (omega arith) c.in_ok-inner-in-50.ensures) (c.in_err-body-in-50.ensures.wrong more)) (omega arith))
+form-returns-in_err-body-in-50-clause-wrong t c = exit _ _ _ c.from_residual-in_err-body-in-50.ensures.1 (at-form_wrong _ 0x32 c.in-50.is (new-body_wrong c.in_ok-names-in-50.names.items c.in_ok-names-in-50.ensures.is (scope-names c.args.scope.now.items c.in_ok-inner-in-50.inner.items c.in_ok-names-in-50.names.items c.len.result (omega arith) c.in_ok-inner-in-50.ensures) c.in_err-body-in-50.ensures.wrong) (omega arith))
 
 pub form-returns-in_err-target-in-51-clause-wrong : goal.form-returns-in_err-target-in-51-clause-wrong
-form-returns-in_err-target-in-51-clause-wrong t c = λ more. exit _ _ _ c.from_residual-in_err-target-in-51.ensures.1 (at-form_wrong _ 0x33 c.in-51.is (match-target_wrong (c.in_err-target-in-51.ensures.wrong more)) (omega arith))
+form-returns-in_err-target-in-51-clause-wrong t c = exit _ _ _ c.from_residual-in_err-target-in-51.ensures.1 (at-form_wrong _ 0x33 c.in-51.is (match-target_wrong c.in_err-target-in-51.ensures.wrong) (omega arith))
 
 pub form-returns-in_err-cases-in-51-clause-wrong : goal.form-returns-in_err-cases-in-51-clause-wrong
-form-returns-in_err-cases-in-51-clause-wrong t c = λ more. exit _ _ _ c.from_residual-in_err-cases-in-51.ensures.1 (at-form_wrong _ 0x33 c.in-51.is (match-cases_wrong c.in_ok-target-in-51.ensures.reads (c.in_err-cases-in-51.ensures.wrong more)) (omega arith))
+form-returns-in_err-cases-in-51-clause-wrong t c = exit _ _ _ c.from_residual-in_err-cases-in-51.ensures.1 (at-form_wrong _ 0x33 c.in-51.is (match-cases_wrong c.in_ok-target-in-51.ensures.reads c.in_err-cases-in-51.ensures.wrong) (omega arith))
 
 pub form-returns-in_err-rights-in-52-clause-wrong : goal.form-returns-in_err-rights-in-52-clause-wrong
-form-returns-in_err-rights-in-52-clause-wrong t c = λ more. exit _ _ _ c.from_residual-in_err-rights-in-52.ensures.1 (at-leaf_wrong _ 0x34 c.in-52.is (λ r. bundle-rights_wrong r c.in_err-rights-in-52.ensures.wrong) (omega arith))
+form-returns-in_err-rights-in-52-clause-wrong t c = exit _ _ _ c.from_residual-in_err-rights-in-52.ensures.1 (at-leaf_wrong _ 0x34 c.in-52.is (λ r. bundle-rights_wrong r c.in_err-rights-in-52.ensures.wrong) (omega arith))
 
 pub form-returns-in_err-body-in-52-clause-wrong : goal.form-returns-in_err-body-in-52-clause-wrong
-form-returns-in_err-body-in-52-clause-wrong t c = λ more. exit _ _ _ c.from_residual-in_err-body-in-52.ensures.1 (at-form_wrong _ 0x34 c.in-52.is (bundle-body_wrong c.in_ok-rights-in-52.ensures.is (c.in_err-body-in-52.ensures.wrong more)) (omega arith))
+form-returns-in_err-body-in-52-clause-wrong t c = exit _ _ _ c.from_residual-in_err-body-in-52.ensures.1 (at-form_wrong _ 0x34 c.in-52.is (bundle-body_wrong c.in_ok-rights-in-52.ensures.is c.in_err-body-in-52.ensures.wrong) (omega arith))
 
 pub form-returns-in_err-op-in-64-clause-wrong : goal.form-returns-in_err-op-in-64-clause-wrong
-form-returns-in_err-op-in-64-clause-wrong t c = λ more. exit _ _ _ c.from_residual-in_err-op-in-64.ensures.1 (at-leaf_wrong _ 0x40 c.in-64.is (λ r. unary-op_wrong r c.in_err-op-in-64.ensures.wrong) (omega arith))
+form-returns-in_err-op-in-64-clause-wrong t c = exit _ _ _ c.from_residual-in_err-op-in-64.ensures.1 (at-leaf_wrong _ 0x40 c.in-64.is (λ r. unary-op_wrong r c.in_err-op-in-64.ensures.wrong) (omega arith))
 
 pub form-returns-in_err-arg-in-64-clause-wrong : goal.form-returns-in_err-arg-in-64-clause-wrong
-form-returns-in_err-arg-in-64-clause-wrong t c = λ more. exit _ _ _ c.from_residual-in_err-arg-in-64.ensures.1 (at-form_wrong _ 0x40 c.in-64.is (unary-arg_wrong c.in_ok-op-in-64.ensures.is (c.in_err-arg-in-64.ensures.wrong more)) (omega arith))
+form-returns-in_err-arg-in-64-clause-wrong t c = exit _ _ _ c.from_residual-in_err-arg-in-64.ensures.1 (at-form_wrong _ 0x40 c.in-64.is (unary-arg_wrong c.in_ok-op-in-64.ensures.is c.in_err-arg-in-64.ensures.wrong) (omega arith))
 
 pub form-returns-in_err-op-in-65-clause-wrong : goal.form-returns-in_err-op-in-65-clause-wrong
-form-returns-in_err-op-in-65-clause-wrong t c = λ more. exit _ _ _ c.from_residual-in_err-op-in-65.ensures.1 (at-leaf_wrong _ 0x41 c.in-65.is (λ r. binary-op_wrong r c.in_err-op-in-65.ensures.wrong) (omega arith))
+form-returns-in_err-op-in-65-clause-wrong t c = exit _ _ _ c.from_residual-in_err-op-in-65.ensures.1 (at-leaf_wrong _ 0x41 c.in-65.is (λ r. binary-op_wrong r c.in_err-op-in-65.ensures.wrong) (omega arith))
 
 pub form-returns-in_err-left-in-65-clause-wrong : goal.form-returns-in_err-left-in-65-clause-wrong
-form-returns-in_err-left-in-65-clause-wrong t c = λ more. exit _ _ _ c.from_residual-in_err-left-in-65.ensures.1 (at-form_wrong _ 0x41 c.in-65.is (binary-left_wrong c.in_ok-op-in-65.ensures.is (c.in_err-left-in-65.ensures.wrong more)) (omega arith))
+form-returns-in_err-left-in-65-clause-wrong t c = exit _ _ _ c.from_residual-in_err-left-in-65.ensures.1 (at-form_wrong _ 0x41 c.in-65.is (binary-left_wrong c.in_ok-op-in-65.ensures.is c.in_err-left-in-65.ensures.wrong) (omega arith))
 
 pub form-returns-in_err-right-in-65-clause-wrong : goal.form-returns-in_err-right-in-65-clause-wrong
-form-returns-in_err-right-in-65-clause-wrong t c = λ more. exit _ _ _ c.from_residual-in_err-right-in-65.ensures.1 (at-form_wrong _ 0x41 c.in-65.is (binary-right_wrong c.in_ok-op-in-65.ensures.is c.in_ok-left-in-65.ensures.reads (c.in_err-right-in-65.ensures.wrong more)) (omega arith))
+form-returns-in_err-right-in-65-clause-wrong t c = exit _ _ _ c.from_residual-in_err-right-in-65.ensures.1 (at-form_wrong _ 0x41 c.in-65.is (binary-right_wrong c.in_ok-op-in-65.ensures.is c.in_ok-left-in-65.ensures.reads c.in_err-right-in-65.ensures.wrong) (omega arith))
 
 pub form-returns-in_err-name-in-66-clause-wrong : goal.form-returns-in_err-name-in-66-clause-wrong
-form-returns-in_err-name-in-66-clause-wrong t c = λ more. exit _ _ _ c.from_residual-in_err-name-in-66.ensures.1 (at-leaf_wrong _ 0x42 c.in-66.is (λ r. method-name_wrong r c.in_err-name-in-66.ensures.wrong) (omega arith))
+form-returns-in_err-name-in-66-clause-wrong t c = exit _ _ _ c.from_residual-in_err-name-in-66.ensures.1 (at-leaf_wrong _ 0x42 c.in-66.is (λ r. method-name_wrong r c.in_err-name-in-66.ensures.wrong) (omega arith))
 
 pub form-returns-in_err-target-in-66-clause-wrong : goal.form-returns-in_err-target-in-66-clause-wrong
-form-returns-in_err-target-in-66-clause-wrong t c = λ more. exit _ _ _ c.from_residual-in_err-target-in-66.ensures.1 (at-form_wrong _ 0x42 c.in-66.is (method-target_wrong _ c.in_ok-name-in-66.ensures.is (c.in_err-target-in-66.ensures.wrong more)) (omega arith))
+form-returns-in_err-target-in-66-clause-wrong t c = exit _ _ _ c.from_residual-in_err-target-in-66.ensures.1 (at-form_wrong _ 0x42 c.in-66.is (method-target_wrong _ c.in_ok-name-in-66.ensures.is c.in_err-target-in-66.ensures.wrong) (omega arith))
 
 pub form-returns-in_err-args-in-66-clause-wrong : goal.form-returns-in_err-args-in-66-clause-wrong
-form-returns-in_err-args-in-66-clause-wrong t c = λ more. exit _ _ _ c.from_residual-in_err-args-in-66.ensures.1 (at-form_wrong _ 0x42 c.in-66.is (method-args_wrong _ c.in_ok-name-in-66.ensures.is c.in_ok-target-in-66.ensures.reads (c.in_err-args-in-66.ensures.wrong more)) (omega arith))
+form-returns-in_err-args-in-66-clause-wrong t c = exit _ _ _ c.from_residual-in_err-args-in-66.ensures.1 (at-form_wrong _ 0x42 c.in-66.is (method-args_wrong _ c.in_ok-name-in-66.ensures.is c.in_ok-target-in-66.ensures.reads c.in_err-args-in-66.ensures.wrong) (omega arith))
 
 pub pat_form-returns-in_err-members-in-32-clause-wrong : goal.pat_form-returns-in_err-members-in-32-clause-wrong
-pat_form-returns-in_err-members-in-32-clause-wrong t c = λ more. exit _ _ _ c.from_residual.ensures.1 (at-form_wrong _ 0x20 c.in-32.is (list-members_wrong (c.in_err-members-in-32.ensures.wrong more)) (omega arith))
+pat_form-returns-in_err-members-in-32-clause-wrong t c = exit _ _ _ c.from_residual.ensures.1 (at-form_wrong _ 0x20 c.in-32.is (list-members_wrong c.in_err-members-in-32.ensures.wrong) (omega arith))
 
 pub pat_form-returns-in_err-rest-in-32-clause-wrong : goal.pat_form-returns-in_err-rest-in-32-clause-wrong
-pat_form-returns-in_err-rest-in-32-clause-wrong t c = λ more. exit _ _ _ c.from_residual-in_err-rest-in-32.ensures.1 (at-leaf_wrong _ 0x20 c.in-32.is (λ r. list-rest_wrong r c.in_ok-members-in-32.ensures.reads c.in_err-rest-in-32.ensures.wrong) (omega arith))
+pat_form-returns-in_err-rest-in-32-clause-wrong t c = exit _ _ _ c.from_residual-in_err-rest-in-32.ensures.1 (at-leaf_wrong _ 0x20 c.in-32.is (λ r. list-rest_wrong r c.in_ok-members-in-32.ensures.reads c.in_err-rest-in-32.ensures.wrong) (omega arith))
 
 pub pat_form-returns-in_err-pats-in-33-clause-wrong : goal.pat_form-returns-in_err-pats-in-33-clause-wrong
-pat_form-returns-in_err-pats-in-33-clause-wrong t c = λ more. exit _ _ _ c.from_residual-in_err-pats-in-33.ensures.1 (at-form_wrong _ 0x21 c.in-33.is (tuple_pattern_wrong (c.in_err-pats-in-33.ensures.wrong more)) (omega arith))
+pat_form-returns-in_err-pats-in-33-clause-wrong t c = exit _ _ _ c.from_residual-in_err-pats-in-33.ensures.1 (at-form_wrong _ 0x21 c.in-33.is (tuple_pattern_wrong c.in_err-pats-in-33.ensures.wrong) (omega arith))
 
 pub pat_form-returns-in_err-members-in-34-clause-wrong : goal.pat_form-returns-in_err-members-in-34-clause-wrong
-pat_form-returns-in_err-members-in-34-clause-wrong t c = λ more. exit _ _ _ c.from_residual-in_err-members-in-34.ensures.1 (at-form_wrong _ 0x22 c.in-34.is (set-members_wrong (c.in_err-members-in-34.ensures.wrong more)) (omega arith))
+pat_form-returns-in_err-members-in-34-clause-wrong t c = exit _ _ _ c.from_residual-in_err-members-in-34.ensures.1 (at-form_wrong _ 0x22 c.in-34.is (set-members_wrong c.in_err-members-in-34.ensures.wrong) (omega arith))
 
 pub pat_form-returns-in_err-rest-in-34-clause-wrong : goal.pat_form-returns-in_err-rest-in-34-clause-wrong
-pat_form-returns-in_err-rest-in-34-clause-wrong t c = λ more. exit _ _ _ c.from_residual-in_err-rest-in-34.ensures.1 (at-leaf_wrong _ 0x22 c.in-34.is (λ r. set-rest_wrong r c.in_ok-members-in-34.ensures.reads c.in_err-rest-in-34.ensures.wrong) (omega arith))
+pat_form-returns-in_err-rest-in-34-clause-wrong t c = exit _ _ _ c.from_residual-in_err-rest-in-34.ensures.1 (at-leaf_wrong _ 0x22 c.in-34.is (λ r. set-rest_wrong r c.in_ok-members-in-34.ensures.reads c.in_err-rest-in-34.ensures.wrong) (omega arith))
 
 pub pat_form-returns-in_err-pairs-in-35-clause-wrong : goal.pat_form-returns-in_err-pairs-in-35-clause-wrong
-pat_form-returns-in_err-pairs-in-35-clause-wrong t c = λ more. exit _ _ _ c.from_residual-in_err-pairs-in-35.ensures.1 (at-form_wrong _ 0x23 c.in-35.is (map-pairs_wrong (c.in_err-pairs-in-35.ensures.wrong more)) (omega arith))
+pat_form-returns-in_err-pairs-in-35-clause-wrong t c = exit _ _ _ c.from_residual-in_err-pairs-in-35.ensures.1 (at-form_wrong _ 0x23 c.in-35.is (map-pairs_wrong c.in_err-pairs-in-35.ensures.wrong) (omega arith))
 
 pub pat_form-returns-in_err-rest-in-35-clause-wrong : goal.pat_form-returns-in_err-rest-in-35-clause-wrong
-pat_form-returns-in_err-rest-in-35-clause-wrong t c = λ more. exit _ _ _ c.from_residual-in_err-rest-in-35.ensures.1 (at-leaf_wrong _ 0x23 c.in-35.is (λ r. map-rest_wrong r c.in_ok-pairs-in-35.ensures.reads c.in_err-rest-in-35.ensures.wrong) (omega arith))
+pat_form-returns-in_err-rest-in-35-clause-wrong t c = exit _ _ _ c.from_residual-in_err-rest-in-35.ensures.1 (at-leaf_wrong _ 0x23 c.in-35.is (λ r. map-rest_wrong r c.in_ok-pairs-in-35.ensures.reads c.in_err-rest-in-35.ensures.wrong) (omega arith))
 
 pub pat_form-returns-in_err-persistent-in-48-clause-wrong : goal.pat_form-returns-in_err-persistent-in-48-clause-wrong
-pat_form-returns-in_err-persistent-in-48-clause-wrong t c = λ more. exit _ _ _ c.from_residual-in_err-persistent-in-48.ensures.1 (at-leaf_wrong _ 0x30 c.in-48.is (λ r. pat_send-flag_wrong r c.in_err-persistent-in-48.ensures.wrong) (omega arith))
+pat_form-returns-in_err-persistent-in-48-clause-wrong t c = exit _ _ _ c.from_residual-in_err-persistent-in-48.ensures.1 (at-leaf_wrong _ 0x30 c.in-48.is (λ r. pat_send-flag_wrong r c.in_err-persistent-in-48.ensures.wrong) (omega arith))
 
 pub pat_form-returns-in_err-channel-in-48-clause-wrong : goal.pat_form-returns-in_err-channel-in-48-clause-wrong
-pat_form-returns-in_err-channel-in-48-clause-wrong t c = λ more. exit _ _ _ c.from_residual-in_err-channel-in-48.ensures.1 (at-form_wrong _ 0x30 c.in-48.is (pat_send-channel_wrong c.in_ok-persistent-in-48.ensures.is (c.in_err-channel-in-48.ensures.wrong more)) (omega arith))
+pat_form-returns-in_err-channel-in-48-clause-wrong t c = exit _ _ _ c.from_residual-in_err-channel-in-48.ensures.1 (at-form_wrong _ 0x30 c.in-48.is (pat_send-channel_wrong c.in_ok-persistent-in-48.ensures.is c.in_err-channel-in-48.ensures.wrong) (omega arith))
 
 pub pat_form-returns-in_err-args-in-48-clause-wrong : goal.pat_form-returns-in_err-args-in-48-clause-wrong
-pat_form-returns-in_err-args-in-48-clause-wrong t c = λ more. exit _ _ _ c.from_residual-in_err-args-in-48.ensures.1 (at-form_wrong _ 0x30 c.in-48.is (pat_send-args_wrong c.in_ok-persistent-in-48.ensures.is c.in_ok-channel-in-48.ensures.reads (c.in_err-args-in-48.ensures.wrong more)) (omega arith))
+pat_form-returns-in_err-args-in-48-clause-wrong t c = exit _ _ _ c.from_residual-in_err-args-in-48.ensures.1 (at-form_wrong _ 0x30 c.in-48.is (pat_send-args_wrong c.in_ok-persistent-in-48.ensures.is c.in_ok-channel-in-48.ensures.reads c.in_err-args-in-48.ensures.wrong) (omega arith))
 
 pub pat_form-returns-in_err-rights-in-52-clause-wrong : goal.pat_form-returns-in_err-rights-in-52-clause-wrong
-pat_form-returns-in_err-rights-in-52-clause-wrong t c = λ more. exit _ _ _ c.from_residual-in_err-rights-in-52.ensures.1 (at-leaf_wrong _ 0x34 c.in-52.is (λ r. pat_bundle-rights_wrong r c.in_err-rights-in-52.ensures.wrong) (omega arith))
+pat_form-returns-in_err-rights-in-52-clause-wrong t c = exit _ _ _ c.from_residual-in_err-rights-in-52.ensures.1 (at-leaf_wrong _ 0x34 c.in-52.is (λ r. pat_bundle-rights_wrong r c.in_err-rights-in-52.ensures.wrong) (omega arith))
 
 pub pat_form-returns-in_err-body-in-52-clause-wrong : goal.pat_form-returns-in_err-body-in-52-clause-wrong
-pat_form-returns-in_err-body-in-52-clause-wrong t c = λ more. exit _ _ _ c.from_residual-in_err-body-in-52.ensures.1 (at-form_wrong _ 0x34 c.in-52.is (pat_bundle-body_wrong c.in_ok-rights-in-52.ensures.is (c.in_err-body-in-52.ensures.wrong more)) (omega arith))
+pat_form-returns-in_err-body-in-52-clause-wrong t c = exit _ _ _ c.from_residual-in_err-body-in-52.ensures.1 (at-form_wrong _ 0x34 c.in-52.is (pat_bundle-body_wrong c.in_ok-rights-in-52.ensures.is c.in_err-body-in-52.ensures.wrong) (omega arith))
 
 pub pat_form-returns-in_err-term-in-83-clause-wrong : goal.pat_form-returns-in_err-term-in-83-clause-wrong
-pat_form-returns-in_err-term-in-83-clause-wrong t c = λ more. exit _ _ _ c.from_residual-in_err-term-in-83.ensures.1 (at-form_wrong _ 0x53 c.in-83.is (same-body_wrong (c.in_err-term-in-83.ensures.wrong more)) (omega arith))
+pat_form-returns-in_err-term-in-83-clause-wrong t c = exit _ _ _ c.from_residual-in_err-term-in-83.ensures.1 (at-form_wrong _ 0x53 c.in-83.is (same-body_wrong c.in_err-term-in-83.ensures.wrong) (omega arith))
 
 pub pat_form-returns-in_err-left-in-84-clause-wrong : goal.pat_form-returns-in_err-left-in-84-clause-wrong
-pat_form-returns-in_err-left-in-84-clause-wrong t c = λ more. exit _ _ _ c.from_residual-in_err-left-in-84.ensures.1 (at-form_wrong _ 0x54 c.in-84.is (both-left_wrong (c.in_err-left-in-84.ensures.wrong more)) (omega arith))
+pat_form-returns-in_err-left-in-84-clause-wrong t c = exit _ _ _ c.from_residual-in_err-left-in-84.ensures.1 (at-form_wrong _ 0x54 c.in-84.is (both-left_wrong c.in_err-left-in-84.ensures.wrong) (omega arith))
 
 pub pat_form-returns-in_err-right-in-84-clause-wrong : goal.pat_form-returns-in_err-right-in-84-clause-wrong
-pat_form-returns-in_err-right-in-84-clause-wrong t c = λ more. exit _ _ _ c.from_residual-in_err-right-in-84.ensures.1 (at-form_wrong _ 0x54 c.in-84.is (both-right_wrong c.in_ok-left-in-84.ensures.reads (c.in_err-right-in-84.ensures.wrong more)) (omega arith))
+pat_form-returns-in_err-right-in-84-clause-wrong t c = exit _ _ _ c.from_residual-in_err-right-in-84.ensures.1 (at-form_wrong _ 0x54 c.in-84.is (both-right_wrong c.in_ok-left-in-84.ensures.reads c.in_err-right-in-84.ensures.wrong) (omega arith))
 
 pub pat_form-returns-in_err-left-in-85-clause-wrong : goal.pat_form-returns-in_err-left-in-85-clause-wrong
-pat_form-returns-in_err-left-in-85-clause-wrong t c = λ more. exit _ _ _ c.from_residual-in_err-left-in-85.ensures.1 (at-form_wrong _ 0x55 c.in-85.is (either-left_wrong (c.in_err-left-in-85.ensures.wrong more)) (omega arith))
+pat_form-returns-in_err-left-in-85-clause-wrong t c = exit _ _ _ c.from_residual-in_err-left-in-85.ensures.1 (at-form_wrong _ 0x55 c.in-85.is (either-left_wrong c.in_err-left-in-85.ensures.wrong) (omega arith))
 
 pub pat_form-returns-in_err-right-in-85-clause-wrong : goal.pat_form-returns-in_err-right-in-85-clause-wrong
-pat_form-returns-in_err-right-in-85-clause-wrong t c = λ more. exit _ _ _ c.from_residual-in_err-right-in-85.ensures.1 (at-form_wrong _ 0x55 c.in-85.is (either-right_wrong c.in_ok-left-in-85.ensures.reads (c.in_err-right-in-85.ensures.wrong more)) (omega arith))
+pat_form-returns-in_err-right-in-85-clause-wrong t c = exit _ _ _ c.from_residual-in_err-right-in-85.ensures.1 (at-form_wrong _ 0x55 c.in-85.is (either-right_wrong c.in_ok-left-in-85.ensures.reads c.in_err-right-in-85.ensures.wrong) (omega arith))
 
 pub pat_form-returns-in_err-free_pat-in-86-clause-wrong : goal.pat_form-returns-in_err-free_pat-in-86-clause-wrong
-pat_form-returns-in_err-free_pat-in-86-clause-wrong t c = λ more. exit _ _ _ c.from_residual-in_err-free_pat-in-86.ensures.1 (at-form_wrong _ 0x56 c.in-86.is (not-body_wrong (c.in_err-free_pat-in-86.ensures.wrong more)) (omega arith))
+pat_form-returns-in_err-free_pat-in-86-clause-wrong t c = exit _ _ _ c.from_residual-in_err-free_pat-in-86.ensures.1 (at-form_wrong _ 0x56 c.in-86.is (not-body_wrong c.in_err-free_pat-in-86.ensures.wrong) (omega arith))
 
 pub part-returns-in_err-digest-in-21-clause-wrong : goal.part-returns-in_err-digest-in-21-clause-wrong
-part-returns-in_err-digest-in-21-clause-wrong t c = λ more. exit _ _ _ c.from_residual.ensures.1 (at-tag_wrong _ 0x15 c.in-21.is (none-told _ c.in_err-digest-in-21.ensures.tells))
+part-returns-in_err-digest-in-21-clause-wrong t c = exit _ _ _ c.from_residual.ensures.1 (at-tag_wrong _ 0x15 c.in-21.is (none-told _ c.in_err-digest-in-21.ensures.tells))
 
 pub part-returns-in_err-variable-in-22-clause-wrong : goal.part-returns-in_err-variable-in-22-clause-wrong
-part-returns-in_err-variable-in-22-clause-wrong t c = λ more. exit _ _ _ c.from_residual-in_err-variable-in-22.ensures.1 (at-tag_wrong _ 0x16 c.in-22.is (var_wrong c.in_err-variable-in-22.ensures.wrong))
+part-returns-in_err-variable-in-22-clause-wrong t c = exit _ _ _ c.from_residual-in_err-variable-in-22.ensures.1 (at-tag_wrong _ 0x16 c.in-22.is (var_wrong c.in_err-variable-in-22.ensures.wrong))
 
 pub part-returns-in_err-variable-in-23-clause-wrong : goal.part-returns-in_err-variable-in-23-clause-wrong
-part-returns-in_err-variable-in-23-clause-wrong t c = λ more. exit _ _ _ c.from_residual-in_err-variable-in-23.ensures.1 (at-tag_wrong _ 0x17 c.in-23.is (name_var_wrong c.in_err-variable-in-23.ensures.wrong))
+part-returns-in_err-variable-in-23-clause-wrong t c = exit _ _ _ c.from_residual-in_err-variable-in-23.ensures.1 (at-tag_wrong _ 0x17 c.in-23.is (name_var_wrong c.in_err-variable-in-23.ensures.wrong))
 
 pub pat_part-returns-in_err-simple-in-87-clause-wrong : goal.pat_part-returns-in_err-simple-in-87-clause-wrong
-pat_part-returns-in_err-simple-in-87-clause-wrong t c = λ more. exit _ _ _ c.from_residual-in_err-simple-in-87.ensures.1 (at-tag_wrong _ 0x57 c.in-87.is (simple_wrong c.in_err-simple-in-87.ensures.wrong))
+pat_part-returns-in_err-simple-in-87-clause-wrong t c = exit _ _ _ c.from_residual-in_err-simple-in-87.ensures.1 (at-tag_wrong _ 0x57 c.in-87.is (simple_wrong c.in_err-simple-in-87.ensures.wrong))
 
-pub term-returns-then-is_form-clause-wrong : goal.term-returns-then-is_form-clause-wrong
-term-returns-then-is_form-clause-wrong t c = λ more. term_blamed (bag-first_blamed c.in_ok-count.count _ c.loop-i.invariant.read c.in_ok-count.ensures.is (omega arith) (omega (arith, c.loop-i.invariant.count)) (omega arith)
-    (bytes_wrong c.in_ok-tag.ensures.is (deep_wrong _ _ (omega (arith, ap length c.in_ok-tag.ensures.is)) (sym c.is_form.ensures ∙ c.if-is_form.true) (omega arith))))
+pub term-returns-then-lacks_room-clause-wrong : goal.term-returns-then-lacks_room-clause-wrong
+term-returns-then-lacks_room-clause-wrong t c =
+    let w = c.lacks_room.ensures.yes c.if-lacks_room.true in
+    term_blamed (bag-deep_blamed c.in_ok-count.count _ c.loop-i.invariant.read c.in_ok-count.ensures.is (omega arith) (omega (arith, c.loop-i.invariant.count)) (ap TooDeep (omega arith)) w.0 (tag-form c.in_ok-tag.ensures.is (sym c.is_form.ensures ∙ w.1)))
 
-pub part-returns-then-room-eq0-clause-wrong : goal.part-returns-then-room-eq0-clause-wrong
-part-returns-then-room-eq0-clause-wrong t c = λ more. deep_wrong _ _ (omega arith) (sym c.is_form.ensures ∙ c.if-is_form.true) (omega arith)
-
-pub part-returns-else-room-eq0-clause-wrong : goal.part-returns-else-room-eq0-clause-wrong
-part-returns-else-room-eq0-clause-wrong t c = λ more. exit-map _ _ _ (λ e h. room_wrong _ _ (omega arith) h) (c.form.ensures.wrong more)
+pub part-returns-then-is_form-clause-wrong : goal.part-returns-then-is_form-clause-wrong
+part-returns-then-is_form-clause-wrong t c = exit-map _ _ _ (λ e h. room_wrong _ _ (let k = has-room c.requires (sym c.is_form.ensures ∙ c.if-is_form.true) in omega (arith, k)) h) c.form.ensures.wrong
 
 pub part-returns-in_err-ground-in_default-clause-wrong : goal.part-returns-in_err-ground-in_default-clause-wrong
-part-returns-in_err-ground-in_default-clause-wrong t c = λ more. exit _ _ _ c.from_residual-in_err-ground-in_default.ensures.1
+part-returns-in_err-ground-in_default-clause-wrong t c = exit _ _ _ c.from_residual-in_err-ground-in_default.ensures.1
     (ground_wrong c.args.tag (λ q. omega (arith, q)) (λ q. omega (arith, q)) (λ q. omega (arith, q)) (sym c.is_form.ensures ∙ c.if-is_form.false) c.in_err-ground-in_default.ensures.wrong)
 
 pub form-returns-in_default-clause-wrong : goal.form-returns-in_default-clause-wrong
-form-returns-in_default-clause-wrong t c = λ more. absurd (form-tags c.args.tag c.requires
+form-returns-in_default-clause-wrong t c = absurd (form-tags c.args.tag c.requires
     (λ q. omega (arith, q)) (λ q. omega (arith, q)) (λ q. omega (arith, q)) (λ q. omega (arith, q)) (λ q. omega (arith, q)) (λ q. omega (arith, q))
     (λ q. omega (arith, q)) (λ q. omega (arith, q)) (λ q. omega (arith, q)) (λ q. omega (arith, q)) (λ q. omega (arith, q)) (λ q. omega (arith, q)))
 
-pub pat-returns-then-is_pat_form-clause-wrong : goal.pat-returns-then-is_pat_form-clause-wrong
-pat-returns-then-is_pat_form-clause-wrong t c = λ more. pat_wrong _ c.in_ok-count.count c.loop-i.invariant.read c.in_ok-count.ensures.is (omega arith) (omega (arith, c.loop-i.invariant.count))
-    (bytes_wrong c.in_ok-tag.ensures.is (deep_pattern_wrong _ _ (omega (arith, ap length c.in_ok-tag.ensures.is)) (sym c.is_pat_form.ensures ∙ c.if-is_pat_form.true) (omega arith)))
+pub pat-returns-then-lacks_room-clause-wrong : goal.pat-returns-then-lacks_room-clause-wrong
+pat-returns-then-lacks_room-clause-wrong t c =
+    let w = c.lacks_room.ensures.yes c.if-lacks_room.true in
+    pat-deep_wrong _ c.in_ok-count.count c.loop-i.invariant.read c.in_ok-count.ensures.is (omega arith) (omega (arith, c.loop-i.invariant.count)) (ap TooDeep (omega arith)) w.0 (pat-tag_form c.in_ok-tag.ensures.is (sym c.is_pat_form.ensures ∙ w.1))
 
 pub pat_form-returns-in_default-clause-wrong : goal.pat_form-returns-in_default-clause-wrong
-pat_form-returns-in_default-clause-wrong t c = λ more. absurd (pat_form-tags c.args.tag c.requires.form c.requires.not_closed
+pat_form-returns-in_default-clause-wrong t c = absurd (pat_form-tags c.args.tag c.requires.form c.requires.not_closed
     (λ q. omega (arith, q)) (λ q. omega (arith, q)) (λ q. omega (arith, q)) (λ q. omega (arith, q)) (λ q. omega (arith, q))
     (λ q. omega (arith, q)) (λ q. omega (arith, q)) (λ q. omega (arith, q)) (λ q. omega (arith, q)) (λ q. omega (arith, q)))
 
-pub pat_part-returns-then-room-eq0-clause-wrong : goal.pat_part-returns-then-room-eq0-clause-wrong
-pat_part-returns-then-room-eq0-clause-wrong t c = λ more. deep_pattern_wrong _ _ (omega arith) (sym c.is_pat_form.ensures ∙ c.if-is_pat_form.true) (omega arith)
-
-pub pat_part-returns-else-room-eq0-clause-wrong : goal.pat_part-returns-else-room-eq0-clause-wrong
-pat_part-returns-else-room-eq0-clause-wrong t c = λ more. exit-map _ _ _ (λ e h. room_wrong _ _ (omega arith) h) (c.pat_form.ensures.wrong more)
+pub pat_part-returns-then-is_pat_form-clause-wrong : goal.pat_part-returns-then-is_pat_form-clause-wrong
+pat_part-returns-then-is_pat_form-clause-wrong t c = exit-map _ _ _ (λ e h. room_wrong _ _ (let k = has-room c.requires (sym c.is_pat_form.ensures ∙ c.if-is_pat_form.true) in omega (arith, k)) h) c.pat_form.ensures.wrong
 
 pub pat_part-returns-in_err-ground-in_default-clause-wrong : goal.pat_part-returns-in_err-ground-in_default-clause-wrong
-pat_part-returns-in_err-ground-in_default-clause-wrong t c = λ more. exit _ _ _ c.from_residual-in_err-ground-in_default.ensures.1
+pat_part-returns-in_err-ground-in_default-clause-wrong t c = exit _ _ _ c.from_residual-in_err-ground-in_default.ensures.1
     (plain_wrong c.args.tag (λ q. omega (arith, q)) (λ q. omega (arith, q)) (λ q. omega (arith, q)) (sym c.is_pat_form.ensures ∙ c.if-is_pat_form.false) c.in_err-ground-in_default.ensures.wrong)
 
 pub pat_part-returns-then-not-binds-clause-wrong : goal.pat_part-returns-then-not-binds-clause-wrong
-pat_part-returns-then-not-binds-clause-wrong t c = λ more. at-tag_wrong _ 0x50 c.in-80.is (unbound_wrong _ (omega arith) c.if-not-binds.true)
+pat_part-returns-then-not-binds-clause-wrong t c = at-tag_wrong _ 0x50 c.in-80.is (unbound_wrong _ (omega arith) c.if-not-binds.true)
 
 pub pat_part-returns-in_err-part-in-49-to-51-clause-wrong : goal.pat_part-returns-in_err-part-in-49-to-51-clause-wrong
-pat_part-returns-in_err-part-in-49-to-51-clause-wrong t c = λ more. exit _ _ _ c.from_residual-in_err-part-in-49-to-51.ensures.1 (closed_wrong c.args.tag (omega arith) (omega arith) (wrong-unscoped c.new-outside.ensures.items (c.in_err-part-in-49-to-51.ensures.wrong more)))
-
-pub free_pat-returns-in_err-pat-clause-wrong : goal.free_pat-returns-in_err-pat-clause-wrong
-free_pat-returns-in_err-pat-clause-wrong t c = λ more. exit _ _ _ c.from_residual.ensures.1 (c.in_err-pat.ensures.wrong more)
-
-pub free_pat-returns-then-not-is_empty-clause-wrong : goal.free_pat-returns-then-not-is_empty-clause-wrong
-free_pat-returns-then-not-is_empty-clause-wrong t c = λ more. not-canonical (bound_wrong c.in_ok-pat.ensures.reads (omega arith) (λ q.
-    let n = found-none c.pat.new.found.items c.new-found.ensures.items c.in_ok-pat.ensures.bound q in
-    not-empty _ c.is_empty.result c.is_empty.ensures c.if-not-is_empty.true (omega (arith, n))))
+pat_part-returns-in_err-part-in-49-to-51-clause-wrong t c = exit _ _ _ c.from_residual-in_err-part-in-49-to-51.ensures.1 (closed_wrong c.args.tag (omega arith) (omega arith) (wrong-unscoped c.new-outside.ensures.items c.in_err-part-in-49-to-51.ensures.wrong))
 
 pub name_pat-returns-in-None-clause-wrong : goal.name_pat-returns-in-None-clause-wrong
-name_pat-returns-in-None-clause-wrong t c = λ more. exit-map _ _ _ (λ e h. name_wrong h c.in-None.ensures.none) (c.pat.ensures.wrong more)
+name_pat-returns-in-None-clause-wrong t c = exit-map _ _ _ (λ e h. name_wrong h c.in-None.ensures.none) c.pat.ensures.wrong
 
 pub binds-returns-in_err-push-clause-wrong : goal.binds-returns-in_err-push-clause-wrong
-binds-returns-in_err-push-clause-wrong t c = λ more. exit _ _ _ c.from_residual-in_err-push.ensures.1 no-memory
+binds-returns-in_err-push-clause-wrong t c = exit _ _ _ c.from_residual-in_err-push.ensures.1 no-memory
 
 pub cases-returns-in_err-push-clause-wrong : goal.cases-returns-in_err-push-clause-wrong
-cases-returns-in_err-push-clause-wrong t c = λ more. exit _ _ _ c.from_residual-in_err-push.ensures.1 no-memory
+cases-returns-in_err-push-clause-wrong t c = exit _ _ _ c.from_residual-in_err-push.ensures.1 no-memory
 
 pub name_pats-returns-in_err-push-clause-wrong : goal.name_pats-returns-in_err-push-clause-wrong
-name_pats-returns-in_err-push-clause-wrong t c = λ more. exit _ _ _ c.from_residual-in_err-push.ensures.1 no-memory
+name_pats-returns-in_err-push-clause-wrong t c = exit _ _ _ c.from_residual-in_err-push.ensures.1 no-memory
 
 pub pat_pairs-returns-in_err-push-clause-wrong : goal.pat_pairs-returns-in_err-push-clause-wrong
-pat_pairs-returns-in_err-push-clause-wrong t c = λ more. exit _ _ _ c.from_residual-in_err-push.ensures.1 no-memory
+pat_pairs-returns-in_err-push-clause-wrong t c = exit _ _ _ c.from_residual-in_err-push.ensures.1 no-memory
 
 pub pats-returns-in_err-push-clause-wrong : goal.pats-returns-in_err-push-clause-wrong
-pats-returns-in_err-push-clause-wrong t c = λ more. exit _ _ _ c.from_residual-in_err-push.ensures.1 no-memory
+pats-returns-in_err-push-clause-wrong t c = exit _ _ _ c.from_residual-in_err-push.ensures.1 no-memory
 
 pub terms-returns-in_err-push-clause-wrong : goal.terms-returns-in_err-push-clause-wrong
-terms-returns-in_err-push-clause-wrong t c = λ more. exit _ _ _ c.from_residual-in_err-push.ensures.1 no-memory
+terms-returns-in_err-push-clause-wrong t c = exit _ _ _ c.from_residual-in_err-push.ensures.1 no-memory
 
 pub cases-returns-in_err-inner-clause-wrong : goal.cases-returns-in_err-inner-clause-wrong
-cases-returns-in_err-inner-clause-wrong t c = λ more. exit _ _ _ c.from_residual-in_err-inner.ensures.1 no-memory
+cases-returns-in_err-inner-clause-wrong t c = exit _ _ _ c.from_residual-in_err-inner.ensures.1 no-memory
 
 pub members-returns-in_err-push-clause-wrong : goal.members-returns-in_err-push-clause-wrong
-members-returns-in_err-push-clause-wrong t c = λ more. exit _ _ _ c.from_residual-in_err-push.ensures.1 no-memory
+members-returns-in_err-push-clause-wrong t c = exit _ _ _ c.from_residual-in_err-push.ensures.1 no-memory
 
 pub pairs-returns-in_err-push-clause-wrong : goal.pairs-returns-in_err-push-clause-wrong
-pairs-returns-in_err-push-clause-wrong t c = λ more. exit _ _ _ c.from_residual-in_err-push.ensures.1 no-memory
+pairs-returns-in_err-push-clause-wrong t c = exit _ _ _ c.from_residual-in_err-push.ensures.1 no-memory
 
 pub pat-returns-in_err-push-clause-wrong : goal.pat-returns-in_err-push-clause-wrong
-pat-returns-in_err-push-clause-wrong t c = λ more. exit _ _ _ c.from_residual-in_err-push.ensures.1 no-memory
+pat-returns-in_err-push-clause-wrong t c = exit _ _ _ c.from_residual-in_err-push.ensures.1 no-memory
 
 pub term-returns-in_err-push-clause-wrong : goal.term-returns-in_err-push-clause-wrong
-term-returns-in_err-push-clause-wrong t c = λ more. exit _ _ _ c.from_residual-in_err-push.ensures.1 no-memory
+term-returns-in_err-push-clause-wrong t c = exit _ _ _ c.from_residual-in_err-push.ensures.1 no-memory
 
 pub terms-returns-in_err-count-clause-refuses : goal.terms-returns-in_err-count-clause-refuses
 terms-returns-in_err-count-clause-refuses t c = exit _ _ _ c.from_residual.ensures.1 (number-row c.in_err-count.ensures.refuses)
@@ -798,15 +787,13 @@ part-returns-in_err-variable-in-23-clause-refuses t c = exit _ _ _ c.from_residu
 pub pat_part-returns-in_err-simple-in-87-clause-refuses : goal.pat_part-returns-in_err-simple-in-87-clause-refuses
 pat_part-returns-in_err-simple-in-87-clause-refuses t c = exit _ _ _ c.from_residual-in_err-simple-in-87.ensures.1 (at-tag _ 0x57 c.in-87.is (simple-refused _ c.in_err-simple-in-87.ensures.refuses))
 
-pub term-returns-then-is_form-clause-refuses : goal.term-returns-then-is_form-clause-refuses
-term-returns-then-is_form-clause-refuses t c = term-refused (bag-refused c.in_ok-count.count _ c.loop-i.invariant.read c.in_ok-count.ensures.is (omega arith) (omega (arith, c.loop-i.invariant.count))
-    (refuses-at c.in_ok-tag.ensures.is (deep-refused _ _ (sym c.is_form.ensures ∙ c.if-is_form.true) (omega arith))))
+pub term-returns-then-lacks_room-clause-refuses : goal.term-returns-then-lacks_room-clause-refuses
+term-returns-then-lacks_room-clause-refuses t c =
+    let w = c.lacks_room.ensures.yes c.if-lacks_room.true in
+    term-refused (bag-refused c.in_ok-count.count _ c.loop-i.invariant.read c.in_ok-count.ensures.is (omega arith) (omega (arith, c.loop-i.invariant.count)) (refuses-at c.in_ok-tag.ensures.is (deep-refused _ _ (sym c.is_form.ensures ∙ w.1) w.0)))
 
-pub part-returns-then-room-eq0-clause-refuses : goal.part-returns-then-room-eq0-clause-refuses
-part-returns-then-room-eq0-clause-refuses t c = deep-refused _ _ (sym c.is_form.ensures ∙ c.if-is_form.true) (omega arith)
-
-pub part-returns-else-room-eq0-clause-refuses : goal.part-returns-else-room-eq0-clause-refuses
-part-returns-else-room-eq0-clause-refuses t c = exit-map _ _ _ (λ e h. at-room _ _ (omega arith) h) c.form.ensures.refuses
+pub part-returns-then-is_form-clause-refuses : goal.part-returns-then-is_form-clause-refuses
+part-returns-then-is_form-clause-refuses t c = exit-map _ _ _ (λ e h. at-room _ _ (let k = has-room c.requires (sym c.is_form.ensures ∙ c.if-is_form.true) in omega (arith, k)) h) c.form.ensures.refuses
 
 pub part-returns-in_err-ground-in_default-clause-refuses : goal.part-returns-in_err-ground-in_default-clause-refuses
 part-returns-in_err-ground-in_default-clause-refuses t c = exit _ _ _ c.from_residual-in_err-ground-in_default.ensures.1
@@ -817,20 +804,18 @@ form-returns-in_default-clause-refuses t c = absurd (form-tags c.args.tag c.requ
     (λ q. omega (arith, q)) (λ q. omega (arith, q)) (λ q. omega (arith, q)) (λ q. omega (arith, q)) (λ q. omega (arith, q)) (λ q. omega (arith, q))
     (λ q. omega (arith, q)) (λ q. omega (arith, q)) (λ q. omega (arith, q)) (λ q. omega (arith, q)) (λ q. omega (arith, q)) (λ q. omega (arith, q)))
 
-pub pat-returns-then-is_pat_form-clause-refuses : goal.pat-returns-then-is_pat_form-clause-refuses
-pat-returns-then-is_pat_form-clause-refuses t c = pat-refused _ c.in_ok-count.count c.loop-i.invariant.read c.in_ok-count.ensures.is (omega arith) (omega (arith, c.loop-i.invariant.count))
-    (refuses-at c.in_ok-tag.ensures.is (deep_pattern-refused _ _ (sym c.is_pat_form.ensures ∙ c.if-is_pat_form.true) (omega arith)))
+pub pat-returns-then-lacks_room-clause-refuses : goal.pat-returns-then-lacks_room-clause-refuses
+pat-returns-then-lacks_room-clause-refuses t c =
+    let w = c.lacks_room.ensures.yes c.if-lacks_room.true in
+    pat-refused _ c.in_ok-count.count c.loop-i.invariant.read c.in_ok-count.ensures.is (omega arith) (omega (arith, c.loop-i.invariant.count)) (refuses-at c.in_ok-tag.ensures.is (deep_pattern-refused _ _ (sym c.is_pat_form.ensures ∙ w.1) w.0))
 
 pub pat_form-returns-in_default-clause-refuses : goal.pat_form-returns-in_default-clause-refuses
 pat_form-returns-in_default-clause-refuses t c = absurd (pat_form-tags c.args.tag c.requires.form c.requires.not_closed
     (λ q. omega (arith, q)) (λ q. omega (arith, q)) (λ q. omega (arith, q)) (λ q. omega (arith, q)) (λ q. omega (arith, q))
     (λ q. omega (arith, q)) (λ q. omega (arith, q)) (λ q. omega (arith, q)) (λ q. omega (arith, q)) (λ q. omega (arith, q)))
 
-pub pat_part-returns-then-room-eq0-clause-refuses : goal.pat_part-returns-then-room-eq0-clause-refuses
-pat_part-returns-then-room-eq0-clause-refuses t c = deep_pattern-refused _ _ (sym c.is_pat_form.ensures ∙ c.if-is_pat_form.true) (omega arith)
-
-pub pat_part-returns-else-room-eq0-clause-refuses : goal.pat_part-returns-else-room-eq0-clause-refuses
-pat_part-returns-else-room-eq0-clause-refuses t c = exit-map _ _ _ (λ e h. at-room _ _ (omega arith) h) c.pat_form.ensures.refuses
+pub pat_part-returns-then-is_pat_form-clause-refuses : goal.pat_part-returns-then-is_pat_form-clause-refuses
+pat_part-returns-then-is_pat_form-clause-refuses t c = exit-map _ _ _ (λ e h. at-room _ _ (let k = has-room c.requires (sym c.is_pat_form.ensures ∙ c.if-is_pat_form.true) in omega (arith, k)) h) c.pat_form.ensures.refuses
 
 pub pat_part-returns-in_err-ground-in_default-clause-refuses : goal.pat_part-returns-in_err-ground-in_default-clause-refuses
 pat_part-returns-in_err-ground-in_default-clause-refuses t c = exit _ _ _ c.from_residual-in_err-ground-in_default.ensures.1
@@ -841,14 +826,6 @@ pat_part-returns-then-not-binds-clause-refuses t c = at-tag _ 0x50 c.in-80.is (v
 
 pub pat_part-returns-in_err-part-in-49-to-51-clause-refuses : goal.pat_part-returns-in_err-part-in-49-to-51-clause-refuses
 pat_part-returns-in_err-part-in-49-to-51-clause-refuses t c = exit _ _ _ c.from_residual-in_err-part-in-49-to-51.ensures.1 (closed-refused _ c.args.tag (omega arith) (omega arith) (refuses-unscoped c.new-outside.ensures.items c.in_err-part-in-49-to-51.ensures.refuses))
-
-pub free_pat-returns-in_err-pat-clause-refuses : goal.free_pat-returns-in_err-pat-clause-refuses
-free_pat-returns-in_err-pat-clause-refuses t c = exit _ _ _ c.from_residual.ensures.1 c.in_err-pat.ensures.refuses
-
-pub free_pat-returns-then-not-is_empty-clause-refuses : goal.free_pat-returns-then-not-is_empty-clause-refuses
-free_pat-returns-then-not-is_empty-clause-refuses t c = bound-refused c.in_ok-pat.ensures.reads (λ q.
-    let n = found-none c.pat.new.found.items c.new-found.ensures.items c.in_ok-pat.ensures.bound q in
-    not-empty _ c.is_empty.result c.is_empty.ensures c.if-not-is_empty.true (omega (arith, n)))
 
 pub name_pat-returns-in-None-clause-refuses : goal.name_pat-returns-in-None-clause-refuses
 name_pat-returns-in-None-clause-refuses t c = exit-map _ _ _ (λ e h. name-refused h c.in-None.ensures.none) c.pat.ensures.refuses
@@ -943,8 +920,8 @@ term-returns-in_err-part-clause-begun t c = exit _ _ _ c.from_residual-in_err-pa
 pub term-returns-in_err-last-clause-begun : goal.term-returns-in_err-last-clause-begun
 term-returns-in_err-last-clause-begun t c = exit _ _ _ c.from_residual-in_err-last.ensures.1 (λ s. goes-at _ (term-begun (bag-none_begun c.in_ok-count.count (a_part _) c.loop-i.invariant.read c.in_ok-count.ensures.is (omega (arith, c.loop-i.invariant.count)))) c.in_err-last.ensures.place (omega arith))
 
-pub term-returns-then-is_form-clause-begun : goal.term-returns-then-is_form-clause-begun
-term-returns-then-is_form-clause-begun t c = λ s. record { after = c.loop-i.self.input.now; place = inl (omega arith); begun = term-begun (bag-none_begun c.in_ok-count.count (a_part _) c.loop-i.invariant.read c.in_ok-count.ensures.is (omega (arith, c.loop-i.invariant.count))) }
+pub term-returns-then-lacks_room-clause-begun : goal.term-returns-then-lacks_room-clause-begun
+term-returns-then-lacks_room-clause-begun t c = λ s. record { after = c.loop-i.self.input.now; place = omega arith; begun = term-begun (bag-none_begun c.in_ok-count.count (a_part _) c.loop-i.invariant.read c.in_ok-count.ensures.is (omega (arith, c.loop-i.invariant.count))) }
 
 pub pat-returns-in_err-count-clause-begun : goal.pat-returns-in_err-count-clause-begun
 pat-returns-in_err-count-clause-begun t c = exit _ _ _ c.from_residual.ensures.1 (λ s. goes-on (c.in_err-count.ensures.begun s (omega arith)) (λ z g. pat-number_begun g))
@@ -958,8 +935,8 @@ pat-returns-in_err-wide-clause-begun t c = exit _ _ _ c.from_residual-in_err-wid
 pub pat-returns-in_err-part-clause-begun : goal.pat-returns-in_err-part-clause-begun
 pat-returns-in_err-part-clause-begun t c = exit _ _ _ c.from_residual-in_err-part.ensures.1 (λ s. goes-on (c.in_err-part.ensures.begun s) (λ z g. pat-part_begun c.in_ok-count.count _ _ c.loop-i.invariant.read c.loop-i.invariant.quiet c.in_ok-count.ensures.is (omega (arith, c.loop-i.invariant.count)) c.in_ok-count.ensures.most c.in_ok-tag.ensures.is c.in_ok-wide.ensures.is c.loop-i.invariant.wide c.loop-i.invariant.one c.in_ok-wide.ensures.one (omega (arith, c.in_ok-wide.ensures.thin, c.loop-i.invariant.count)) g))
 
-pub pat-returns-then-is_pat_form-clause-begun : goal.pat-returns-then-is_pat_form-clause-begun
-pat-returns-then-is_pat_form-clause-begun t c = λ s. record { after = c.loop-i.self.input.now; place = inl (omega arith); begun = pat-tag_begun c.in_ok-count.count c.loop-i.wide c.loop-i.invariant.read c.loop-i.invariant.quiet c.in_ok-count.ensures.is (omega (arith, c.loop-i.invariant.count)) c.in_ok-count.ensures.most c.loop-i.invariant.wide c.loop-i.invariant.one }
+pub pat-returns-then-lacks_room-clause-begun : goal.pat-returns-then-lacks_room-clause-begun
+pat-returns-then-lacks_room-clause-begun t c = λ s. record { after = c.loop-i.self.input.now; place = omega arith; begun = pat-tag_begun c.in_ok-count.count c.loop-i.wide c.loop-i.invariant.read c.loop-i.invariant.quiet c.in_ok-count.ensures.is (omega (arith, c.loop-i.invariant.count)) c.in_ok-count.ensures.most c.loop-i.invariant.wide c.loop-i.invariant.one }
 
 pub form-returns-in_err-terms-in-32-clause-begun : goal.form-returns-in_err-terms-in-32-clause-begun
 form-returns-in_err-terms-in-32-clause-begun t c = exit _ _ _ c.from_residual.ensures.1 (λ s. goes-on (c.in_err-terms-in-32.ensures.begun s) (λ z g. at-tag_begun _ 0x20 c.in-32.is (list-begun g)))
@@ -1100,48 +1077,34 @@ pub pat_part-returns-in_err-simple-in-87-clause-begun : goal.pat_part-returns-in
 pat_part-returns-in_err-simple-in-87-clause-begun t c = exit _ _ _ c.from_residual-in_err-simple-in-87.ensures.1 (λ s. goes-here _ (at-tag_begun _ 0x57 c.in-87.is (simple-begun _)) c.in_err-simple-in-87.ensures.place)
 
 pub form-returns-in_default-clause-begun : goal.form-returns-in_default-clause-begun
-form-returns-in_default-clause-begun t c = λ s. record { after = c.args.tag ∷ c.args.self.now.input.now; place = inl (omega arith); begun = none-begun (a_part _) }
+form-returns-in_default-clause-begun t c = λ s. record { after = c.args.tag ∷ c.args.self.now.input.now; place = omega arith; begun = none-begun (a_part _) }
 
 pub pat_form-returns-in_default-clause-begun : goal.pat_form-returns-in_default-clause-begun
-pat_form-returns-in_default-clause-begun t c = λ s. record { after = c.args.tag ∷ c.args.self.now.input.now; place = inl (omega arith); begun = no-part_begun _ }
+pat_form-returns-in_default-clause-begun t c = λ s. record { after = c.args.tag ∷ c.args.self.now.input.now; place = omega arith; begun = no-part_begun _ }
 
-pub part-returns-then-room-eq0-clause-begun : goal.part-returns-then-room-eq0-clause-begun
-part-returns-then-room-eq0-clause-begun t c = λ s. record { after = c.args.tag ∷ c.args.self.now.input.now; place = inl (omega arith); begun = none-begun (a_part _) }
-
-pub part-returns-else-room-eq0-clause-begun : goal.part-returns-else-room-eq0-clause-begun
-part-returns-else-room-eq0-clause-begun t c =
+pub part-returns-then-is_form-clause-begun : goal.part-returns-then-is_form-clause-begun
+part-returns-then-is_form-clause-begun t c =
     let bs = c.args.tag ∷ c.args.self.now.input.now in
     exit-on _ (λ e. HasPlace e → Goes e (Begun true part (scope_of c.args.scope.now.items) c.args.room bs)) c.form.result c.form.ensures.begun
-    (λ e h s. goes-on (h s) (λ z g. begun-room _ _ (omega arith) g))
+    (λ e h s. goes-on (h s) (λ z g. begun-room _ _ (let k = has-room c.requires (sym c.is_form.ensures ∙ c.if-is_form.true) in omega (arith, k)) g))
 
 pub part-returns-in_err-ground-in_default-clause-begun : goal.part-returns-in_err-ground-in_default-clause-begun
 part-returns-in_err-ground-in_default-clause-begun t c = exit _ _ _ c.from_residual-in_err-ground-in_default.ensures.1 (λ s. goes-on (c.in_err-ground-in_default.ensures.begun s) (λ z g. ground-begun g))
 
-pub pat_part-returns-then-room-eq0-clause-begun : goal.pat_part-returns-then-room-eq0-clause-begun
-pat_part-returns-then-room-eq0-clause-begun t c = λ s. record { after = c.args.tag ∷ c.args.self.now.input.now; place = inl (omega arith); begun = no-part_begun _ }
-
-pub pat_part-returns-else-room-eq0-clause-begun : goal.pat_part-returns-else-room-eq0-clause-begun
-pat_part-returns-else-room-eq0-clause-begun t c =
+pub pat_part-returns-then-is_pat_form-clause-begun : goal.pat_part-returns-then-is_pat_form-clause-begun
+pat_part-returns-then-is_pat_form-clause-begun t c =
     let bs = c.args.tag ∷ c.args.self.now.input.now in
     exit-on _ (λ e. HasPlace e → Goes e (Begun c.args.binds pat_part (scope_of c.args.scope.now.items) c.args.room bs)) c.pat_form.result c.pat_form.ensures.begun
-    (λ e h s. goes-on (h s) (λ z g. begun-room _ _ (omega arith) g))
+    (λ e h s. goes-on (h s) (λ z g. begun-room _ _ (let k = has-room c.requires (sym c.is_pat_form.ensures ∙ c.if-is_pat_form.true) in omega (arith, k)) g))
 
 pub pat_part-returns-in_err-ground-in_default-clause-begun : goal.pat_part-returns-in_err-ground-in_default-clause-begun
 pat_part-returns-in_err-ground-in_default-clause-begun t c = exit _ _ _ c.from_residual-in_err-ground-in_default.ensures.1 (λ s. goes-on (c.in_err-ground-in_default.ensures.begun s) (λ z g. plain-begun g))
 
 pub pat_part-returns-then-not-binds-clause-begun : goal.pat_part-returns-then-not-binds-clause-begun
-pat_part-returns-then-not-binds-clause-begun t c = λ s. record { after = c.args.tag ∷ c.args.self.now.input.now; place = inl (omega arith); begun = no-part_begun _ }
+pat_part-returns-then-not-binds-clause-begun t c = λ s. record { after = c.args.tag ∷ c.args.self.now.input.now; place = omega arith; begun = no-part_begun _ }
 
 pub pat_part-returns-in_err-part-in-49-to-51-clause-begun : goal.pat_part-returns-in_err-part-in-49-to-51-clause-begun
 pat_part-returns-in_err-part-in-49-to-51-clause-begun t c = exit _ _ _ c.from_residual-in_err-part-in-49-to-51.ensures.1 (λ s. goes-on (c.in_err-part-in-49-to-51.ensures.begun s) (λ z g. closed-begun c.args.tag (omega arith) (omega arith) (begun-unscoped c.new-outside.ensures.items g)))
-
-pub free_pat-returns-in_err-pat-clause-begun : goal.free_pat-returns-in_err-pat-clause-begun
-free_pat-returns-in_err-pat-clause-begun t c = exit _ _ _ c.from_residual.ensures.1 (λ s. goes-on (c.in_err-pat.ensures.begun s) (λ z g. g))
-
-pub free_pat-returns-then-not-is_empty-clause-begun : goal.free_pat-returns-then-not-is_empty-clause-begun
-free_pat-returns-then-not-is_empty-clause-begun t c = λ s. absurd (
-    let n = found-none c.pat.new.found.items c.new-found.ensures.items c.in_ok-pat.ensures.bound (c.in_ok-pat.ensures.free refl) in
-    not-empty _ c.is_empty.result c.is_empty.ensures c.if-not-is_empty.true (omega (arith, n)))
 
 pub name_pat-returns-in-None-clause-begun : goal.name_pat-returns-in-None-clause-begun
 name_pat-returns-in-None-clause-begun t c =

@@ -1,4 +1,3 @@
-use Rattle.std.proofs.Common.{arith}
 use Rattle.term_code.proofs.Exit.{exit}
 use Rattle.term_code.proofs.BegunMore.{digest-begun}
 use Rattle.term_code.proofs.Places.{goes-here}

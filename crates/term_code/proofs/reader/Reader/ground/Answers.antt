@@ -1,4 +1,4 @@
-use Rattle.std.proofs.Common.{arith, ◌∷◌, inl}
+use Rattle.std.proofs.Common.{arith, ◌∷◌}
 use Rattle.term_code.proofs.Exit.{exit}
 use Rattle.term_code.proofs.LeafRefusals.{ground-at, ground-str, ground-uri}
 use Rattle.term_code.proofs.Blaming.{none-told, not-canonical}
@@ -48,4 +48,4 @@ pub returns-in_err-bytes-in-20-clause-begun : goal.returns-in_err-bytes-in-20-cl
 returns-in_err-bytes-in-20-clause-begun c = exit _ _ _ c.from_residual-in_err-bytes-in-20.ensures.1 (λ s. goes-on (c.in_err-bytes-in-20.ensures.begun s) (λ z g. ground-cut c.in-20.is (bytes-begun g)))
 
 pub returns-in_default-clause-begun : goal.returns-in_default-clause-begun
-returns-in_default-clause-begun c = λ s. record { after = c.args.tag ∷ c.args.self.now.input.now; place = inl (omega arith); begun = ground-none_begun }
+returns-in_default-clause-begun c = λ s. record { after = c.args.tag ∷ c.args.self.now.input.now; place = omega arith; begun = ground-none_begun }

@@ -1,4 +1,4 @@
-use Rattle.std.proofs.Common.{[], inl, refl, arith}
+use Rattle.std.proofs.Common.{[], refl, arith}
 use Rattle.term_code.proofs.Numbers.{four}
 use Rattle.term_code.proofs.BegunMore.{number-cut, number-none}
 use Rattle.term_code.proofs.LeafRefusals.{number-others, number-short}
@@ -44,13 +44,13 @@ returns-then-n-least-clause-wrong c =
 pub returns-in_default-clause-begun : goal.returns-in_default-clause-begun
 returns-in_default-clause-begun c = λ s m. record {
   after = [];
-  place = inl refl;
+  place = refl;
   begun = number-cut c.args.self.now.input.now c.number_bounds-low.result.0 c.number_bounds-low.result.1 c.args.least c.args.most
       (λ n h p q. c.number_bounds-low.ensures.only n (omega arith) h p q) c.number_bounds-low.ensures.order (omega arith) (omega arith) (omega arith) m;
 }
 
 pub returns-then-n-least-clause-begun : goal.returns-then-n-least-clause-begun
-returns-then-n-least-clause-begun c = λ s m. record { after = c.args.self.now.input.now; place = inl (omega arith); begun = number-none c.args.self.now.input.now c.args.least c.args.most m }
+returns-then-n-least-clause-begun c = λ s m. record { after = c.args.self.now.input.now; place = omega arith; begun = number-none c.args.self.now.input.now c.args.least c.args.most m }
 
 pub returns-then-low-most-clause-begun : goal.returns-then-low-most-clause-begun
-returns-then-low-most-clause-begun c = λ s m. record { after = c.args.self.now.input.now; place = inl (omega arith); begun = number-none c.args.self.now.input.now c.args.least c.args.most m }
+returns-then-low-most-clause-begun c = λ s m. record { after = c.args.self.now.input.now; place = omega arith; begun = number-none c.args.self.now.input.now c.args.least c.args.most m }

@@ -1,11 +1,11 @@
-use Rattle.std.proofs.Common.{sym, ◌∙◌, subst, arith, refl, ⊎_elim}
+use Rattle.std.proofs.Common.{sym, ◌∙◌, subst, arith, ⊎_elim}
 use Rattle.term_code.specs.Texts.{HasForm}
 use Rattle.term_code.specs.Blaming.{Wrong, InText}
 use Rattle.term_code.proofs.Exit.{exit}
 use Rattle.term_code.proofs.Kids.{no_false}
-use Rattle.term_code.proofs.TextRefusals.{text-refused, others-denied, not-begun, form-utf8}
+use Rattle.term_code.proofs.TextRefusals.{text-refused, others-denied, form-utf8}
 use Rattle.term_code.proofs.Blaming.{none-told, not-canonical}
-use Rattle.term_code.proofs.BlamedLeaves.{number-text, unbegun-wrong, other-wrong}
+use Rattle.term_code.proofs.BlamedLeaves.{number-text, unbegun-wrong, other-wrong, nameless-wrong}
 use Rattle.term_code.proofs.BegunMore.{text-begun, text-none_begun, number-text_begun}
 use Rattle.term_code.proofs.Places.{goes-on, goes-at, goes-short}
 use Rattle.term_code.proofs.Unnamed.{ill-formed}
@@ -54,8 +54,12 @@ pub returns-in_err-taken-clause-wrong : goal.returns-in_err-taken-clause-wrong
 returns-in_err-taken-clause-wrong c = exit _ _ _ c.from_residual-in_err-taken.ensures.1 (none-told _ c.in_err-taken.ensures.tells)
 
 pub returns-then-not-is_text-clause-wrong : goal.returns-then-not-is_text-clause-wrong
-returns-then-not-is_text-clause-wrong c = not-canonical (other-wrong c.args.kind _ c.in_ok-len.ensures.is (omega arith) c.place-at.ensures c.in_ok-taken.taken.now _ c.in_ok-taken.ensures.is (omega (arith, c.in_ok-taken.ensures.long))
-    (λ f. no_false (sym (c.is_text.ensures.all f) ∙ c.if-not-is_text.true)))
+returns-then-not-is_text-clause-wrong c =
+    let no : HasForm c.args.kind c.in_ok-taken.taken.now → ⊥ = λ f. no_false (sym (c.is_text.ensures.all f) ∙ c.if-not-is_text.true) in
+    ⊎_elim
+    (λ h. subst (λ e. Wrong (InText c.args.kind) e c.args.self.now.input.now) (sym h.1) (nameless-wrong c.args.kind _ _ c.in_ok-len.ensures.is (omega (arith, h.0)) c.in_ok-taken.ensures.is (omega (arith, c.in_ok-taken.ensures.long)) no c.place-length_at.ensures))
+    (λ h. subst (λ e. Wrong (InText c.args.kind) e c.args.self.now.input.now) (sym h.1) (not-canonical (other-wrong c.args.kind _ c.in_ok-len.ensures.is (omega arith) c.place-at.ensures c.in_ok-taken.taken.now _ c.in_ok-taken.ensures.is (omega (arith, c.in_ok-taken.ensures.long)) no)))
+    c.ill_formed.ensures
 
 pub returns-in-Err-clause-wrong : goal.returns-in-Err-clause-wrong
 returns-in-Err-clause-wrong c = not-canonical (other-wrong c.args.kind _ c.in_ok-len.ensures.is (omega arith) c.place-at.ensures c.in_ok-taken.taken.now _ c.in_ok-taken.ensures.is (omega (arith, c.in_ok-taken.ensures.long))
@@ -63,7 +67,7 @@ returns-in-Err-clause-wrong c = not-canonical (other-wrong c.args.kind _ c.in_ok
 
 pub returns-then-not-is_text-clause-begun : goal.returns-then-not-is_text-clause-begun
 returns-then-not-is_text-clause-begun c = λ s. ill-formed c.args.kind c.in_ok-len.field-0 _ _ _ _ c.in_ok-len.ensures.is c.in_ok-taken.ensures.is c.in_ok-taken.ensures.long
-    (λ f. no_false (sym (c.is_text.ensures.all f) ∙ c.if-not-is_text.true)) refl (omega arith)
+    (λ f. no_false (sym (c.is_text.ensures.all f) ∙ c.if-not-is_text.true)) c.ill_formed.ensures c.place-length_at.ensures (omega arith)
 
 pub returns-in-Err-clause-begun : goal.returns-in-Err-clause-begun
 returns-in-Err-clause-begun c = λ s. absurd (c.in-Err.ensures.cases.0 (form-utf8 c.args.kind _ (c.is_text.ensures.only c.if-not-is_text.false)))

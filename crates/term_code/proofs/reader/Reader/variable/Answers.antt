@@ -1,4 +1,4 @@
-use Rattle.std.proofs.Common.{arith, subst, sym, ◌∙◌, inl, inr, refl, []}
+use Rattle.std.proofs.Common.{arith, subst, sym, ◌∙◌, inr, refl, []}
 use Rattle.calculus.specs.Bytes.{be32}
 use Rattle.calculus.specs.Form.{HasVariable}
 use Rattle.calculus.proofs.Tails.{length-be32}
@@ -33,7 +33,7 @@ returns-clause-wrong c = variable-blamed c.blamed-2.ensures (omega arith) (omega
     no_false (sym (c.has_variable.ensures.all (subst (λ j. HasVariable (scope_of c.args.scope.now.items) j (sense_of c.args.sense)) (sym w) v)) ∙ c.if-has_variable.false))
 
 pub returns-then-begins_index-clause-begun : goal.returns-then-begins_index-clause-begun
-returns-then-begins_index-clause-begun c = λ tag s. record { after = []; place = inl refl; begun = inr (c.begins_index.ensures.only c.if-begins_index.true (omega arith)) }
+returns-then-begins_index-clause-begun c = λ tag s. record { after = []; place = refl; begun = inr (c.begins_index.ensures.only c.if-begins_index.true (omega arith)) }
 
 pub returns-in_err-index-clause-begun : goal.returns-in_err-index-clause-begun
 returns-in_err-index-clause-begun c = λ tag. exit _ _ _ c.from_residual.ensures.1 (λ s. absurd (omega (arith, c.in_err-index.ensures.ends (omega arith) (omega arith))))
