@@ -1,6 +1,6 @@
 -- Each allowed step is among the candidates.
 use Rattle.std.proofs.Common.{◌≡◌, ℕ, suc, Bool, true, false, not, ◌&&◌, ◌||◌, cond, List, [], ◌∷◌, ◌++◌, length, refl, ap, sym, ◌∙◌, subst, inl, inr}
-use Rattle.std.specs.Prelude.{◌⊎◌, ⊤, flat_map, map as each, Option, Some, None, count_by, is_none, option_and_then, IsSome}
+use Rattle.std.specs.Prelude.{◌⊎◌, ⊤, flat_map, map as each, Option, Some, None, count_by, is_none, option_map, option_and_then, IsSome}
 use Rattle.std.specs.Str.{bytes_eq}
 use Rattle.std.proofs.lemmas.Slice.Eq.{bytes_eq-Decides}
 use Rattle.std.proofs.lemmas.Bool.{eqb-true}
@@ -22,19 +22,19 @@ abbrev pub Every : {A : Type 0} → (A → Type 0) → List A → Type 0
 Every P [] = ⊤
 Every P (x ∷ xs) = P x × Every P xs
 
-every-append : {A : Type 0} (P : A → Type 0) (xs ys : List A) → Every P xs → Every P ys → Every P (xs ++ ys)
+pub every-append : {A : Type 0} (P : A → Type 0) (xs ys : List A) → Every P xs → Every P ys → Every P (xs ++ ys)
 every-append P [] ys h k = k
 every-append P (x ∷ xs) ys h k = (h.0, every-append P xs ys h.1 k)
 
-every-each : {A B : Type 0} (P : B → Type 0) (Q : A → Type 0) (f : A → B) → ((x : A) → Q x → P (f x)) → (xs : List A) → Every Q xs → Every P (each f xs)
+pub every-each : {A B : Type 0} (P : B → Type 0) (Q : A → Type 0) (f : A → B) → ((x : A) → Q x → P (f x)) → (xs : List A) → Every Q xs → Every P (each f xs)
 every-each P Q f g [] h = tt
 every-each P Q f g (x ∷ xs) h = (g x h.0, every-each P Q f g xs h.1)
 
-every-flat : {A B : Type 0} (P : B → Type 0) (Q : A → Type 0) (f : A → List B) → ((x : A) → Q x → Every P (f x)) → (xs : List A) → Every Q xs → Every P (flat_map f xs)
+pub every-flat : {A B : Type 0} (P : B → Type 0) (Q : A → Type 0) (f : A → List B) → ((x : A) → Q x → Every P (f x)) → (xs : List A) → Every Q xs → Every P (flat_map f xs)
 every-flat P Q f g [] h = tt
 every-flat P Q f g (x ∷ xs) h = every-append P (f x) (flat_map f xs) (g x h.0) (every-flat P Q f g xs h.1)
 
-every-up : {A : Type 0} (P Q : A → Type 0) → ((x : A) → P x → Q x) → (xs : List A) → Every P xs → Every Q xs
+pub every-up : {A : Type 0} (P Q : A → Type 0) → ((x : A) → P x → Q x) → (xs : List A) → Every P xs → Every Q xs
 every-up P Q g [] h = tt
 every-up P Q g (x ∷ xs) h = (g x h.0, every-up P Q g xs h.1)
 
@@ -58,9 +58,13 @@ member-flat f x y (z ∷ xs) (inl e) k = member-left y (f z) (flat_map f xs) (su
 member-flat f x y (z ∷ xs) (inr h) k = member-right y (f z) (flat_map f xs) (member-flat f x y xs h k)
 
 -- a value that an option's value gave
-and_then-inv : {A B : Type 0} (x : Option A) (f : A → Option B) (m : B) → option_and_then f x ≡ Some m → (y : A) × (x ≡ Some y) × (f y ≡ Some m)
+pub and_then-inv : {A B : Type 0} (x : Option A) (f : A → Option B) (m : B) → option_and_then f x ≡ Some m → (y : A) × (x ≡ Some y) × (f y ≡ Some m)
 and_then-inv None f m e = cc
 and_then-inv (Some y) f m e = (y, refl, e)
+
+pub map-inv : {A B : Type 0} (x : Option A) (f : A → B) (m : B) → option_map f x ≡ Some m → (y : A) × (x ≡ Some y) × (f y ≡ m)
+map-inv None f m e = cc
+map-inv (Some y) f m e = (y, refl, cc e)
 
 -- what a held row is: a row of the bag with this id
 abbrev IsHeld : List Row → List ℕ → Held → Type 0
@@ -75,10 +79,10 @@ with_id-held x i (r ∷ rs) = go (every-up (IsHeld rs x) (IsHeld (r ∷ rs) x) (
     go up false e = up
 
 -- the rows of a choice have these ids, and are in the bag
-abbrev IsChoice : List Row → List (List ℕ) → List Held → Type 0
+abbrev pub IsChoice : List Row → List (List ℕ) → List Held → Type 0
 IsChoice b xs hs = (xs ≡ each (λ h. h.1.id) hs) × Every (λ h. Member h.1 b) hs
 
-row_choices-hold : (b : List Row) (xs : List (List ℕ)) → Every (IsChoice b xs) (row_choices b xs)
+pub row_choices-hold : (b : List Row) (xs : List (List ℕ)) → Every (IsChoice b xs) (row_choices b xs)
 row_choices-hold b [] = ((refl, tt), tt)
 row_choices-hold b (x ∷ xs) =
     every-flat (IsChoice b (x ∷ xs)) (IsHeld b x) (λ r. each (λ rs. r ∷ rs) (row_choices b xs))
@@ -125,7 +129,7 @@ ids-among b (h ∷ hs) k =
     (member-each (λ xs. h.1.id ∷ xs) (each (λ g. g.1.id) hs) (id_lists (length hs) b) (ids-among b hs k.1))
 
 -- a choice that meets has what every choice has
-first-meets : (made : List Step) (s : Step) (Q : List Held → Type 0) (hss : List (List Held)) (m : Meeting) → Every Q hss → first_there (each (meet_for made s) hss) ≡ Some m → (hs : List Held) × Q hs × (meet_for made s hs ≡ Some m)
+pub first-meets : (made : List Step) (s : Step) (Q : List Held → Type 0) (hss : List (List Held)) (m : Meeting) → Every Q hss → first_there (each (meet_for made s) hss) ≡ Some m → (hs : List Held) × Q hs × (meet_for made s hs ≡ Some m)
 first-meets made s Q [] m k e = cc
 first-meets made s Q (hs ∷ hss) m k e = go (first-meets made s Q hss m k.1) (meet_for made s hs) refl e
   where
@@ -133,7 +137,7 @@ first-meets made s Q (hs ∷ hss) m k e = go (first-meets made s Q hss m k.1) (m
     go next None d f = next f
     go next (Some n) d f = (hs, k.0, d ∙ f)
 
-only_true : {A : Type 0} (t : Bool) (x : Option A) (m : A) → cond t x None ≡ Some m → (t ≡ true) × (x ≡ Some m)
+pub only_true : {A : Type 0} (t : Bool) (x : Option A) (m : A) → cond t x None ≡ Some m → (t ≡ true) × (x ≡ Some m)
 only_true true x m e = (refl, e)
 only_true false x m e = cc
 
@@ -163,7 +167,7 @@ names-of-choice b s (h ∷ hs) m k e =
       ids = subst (λ n. Member s.data_ids (id_lists n b)) (sym i.2) among;
     }
 
-and-first : (x y : Bool) → x && y ≡ true → x ≡ true
+pub and-first : (x y : Bool) → x && y ≡ true → x ≡ true
 and-first true y e = refl
 and-first false y e = cc
 

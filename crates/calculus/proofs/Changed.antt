@@ -69,6 +69,10 @@ module _ (s : Sort) (l : Label) (ts us : Trees) (x y : Scope) (nv : NoVariable l
   pub node_kept : Kept s (node l ts) (node l us)
   node_kept = (refl, ap (own l) (bound-like ts us alike), same_count s l ts us (length-like ts us alike))
 
+-- a process binds nothing outside
+pub no_variables : (v : Scope) (t : Tree) → Fits term v t → bound t ≡ []
+no_variables v t h = no_bound IsFine term t tt (formed IsFine fine term v t h)
+
 module _ (F : Change) (d : ℕ) (x y : Scope) where
   pub whole_done : (s : Sort) (l : Label) (ts : Trees) → Whole s → NotTerm s → Fits s x (node l ts)
       → Done (kids s l (count ts)) (outer s l y) (reverse (binders l ts)) ts (change_all F d (length (binders l ts)) ts) → One s y (node l ts) (change F d (node l ts))
@@ -76,9 +80,6 @@ module _ (F : Change) (d : ℕ) (x y : Scope) where
       let us = change_all F d (length (binders l ts)) ts in
       let z = steady l s (count ts) o n (hold_form (kids s l (count ts)) (outer s l x) (reverse (binders l ts)) ts h.1) in
       (node l us, change-node F d l ts z.0 ∙ ap (λ u. also u none) (made-steady l us z.1), node_fits s l ts us x y z.0 h.0 k, node_kept s l ts us x y z.0 h.0 k)
-
-  no_variables : (v : Scope) (t : Tree) → Fits term v t → bound t ≡ []
-  no_variables v t h = no_bound IsFine term t tt (formed IsFine fine term v t h)
 
   pub term_done : (l : Label) (ts : Trees) → Fits term x (node l ts) → (Hold (all part) x [] ts → Hold (all part) y [] (change_all F d 0 ts)) → One term y (node l ts) (change F d (node l ts))
   term_done par ts h f =

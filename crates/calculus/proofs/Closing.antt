@@ -1,5 +1,6 @@
 -- Closed values for the variables of a body, and other variables for them.
-use Rattle.std.proofs.Common.{◌≡◌, ℕ, zero, suc, ◌<◌, ◌≤◌, ◌+◌, ◌-◌, List, [], ◌∷◌, ◌++◌, length, reverse, get_or, refl, sym, ◌∙◌, subst, arith, All}
+use Rattle.std.proofs.Common.{◌≡◌, ℕ, zero, suc, ◌<◌, ◌≤◌, ◌+◌, ◌-◌, Bool, true, false, ltb, List, [], ◌∷◌, ◌++◌, length, reverse, get_or, refl, sym, ◌∙◌, subst, arith, All}
+use Rattle.std.proofs.lemmas.Bool.{ltb-true, ltb-false}
 use Rattle.std.proofs.lemmas.List.{length-reverse, get_or-reverse}
 use Rattle.calculus.specs.Tree.{par, Tree, node, Trees, none, also, trees}
 use Rattle.calculus.specs.Shape.{leaf, held, at}
@@ -7,7 +8,6 @@ use Rattle.calculus.specs.Variables.{Sense}
 use Rattle.calculus.specs.Substitution.{Change, change, the_one, put, renumber}
 use Rattle.calculus.specs.Form.{term, part, all, Scope, HasVariable, Fits, Hold, IsClosed}
 use Rattle.calculus.specs.SubstitutionLaws.{PutIsClosed, RenumberFits}
-use Rattle.calculus.proofs.Ranges.{in_scope}
 use Rattle.calculus.proofs.Weakening.{weaken_kids}
 use Rattle.calculus.proofs.Placing.{trees-listed}
 use Rattle.calculus.proofs.Changing.{leaf_fits, Good}
@@ -44,26 +44,38 @@ at-get_or k [] h = absurd (omega arith)
 at-get_or zero (t ∷ ts) h = refl
 at-get_or (suc k) (t ∷ ts) h = at-get_or k ts (omega arith)
 
-closed_value : (vs : List Tree) (k : ℕ) → All IsClosed vs → k < length vs → IsClosed (at k (reverse vs))
-closed_value vs k h l =
-    let e = at-get_or k (reverse vs) (omega (arith, length-reverse vs)) ∙ get_or-reverse vs k (leaf par) l in
-    subst IsClosed (sym e) (h (length vs - 1 - k) (leaf par) (omega arith))
+at-beyond : (k : ℕ) (ts : List Tree) → length ts ≤ k → at k ts ≡ leaf par
+at-beyond k [] h = refl
+at-beyond zero (t ∷ ts) h = absurd (omega arith)
+at-beyond (suc k) (t ∷ ts) h = at-beyond k ts (omega arith)
+
+closed_value : (vs : List Tree) (k : ℕ) → All IsClosed vs → IsClosed (at k (reverse vs))
+closed_value vs k h = go (ltb k (length vs)) refl
+  where
+    go : (b : Bool) → ltb k (length vs) ≡ b → IsClosed (at k (reverse vs))
+    go true e =
+        let l = ltb-true k (length vs) e in
+        let q = at-get_or k (reverse vs) (omega (arith, length-reverse vs)) ∙ get_or-reverse vs k (leaf par) l in
+        subst IsClosed (sym q) (h (length vs - 1 - k) (leaf par) (omega arith))
+    go false e = subst IsClosed (sym (at-beyond k (reverse vs) (omega (arith, length-reverse vs, ltb-false k (length vs) e)))) (tt, tt)
 
 -- the values in turn
 abbrev valued : List Tree → Change
 valued vs = λ k d form. trees (held (at k (reverse vs)))
 
-values_good : (v : Scope) (vs : List Tree) → length vs ≡ length v → All IsClosed vs → Good (valued vs) 0 v []
-values_good v vs n a o e i s b h = (
+values_good : (v : Scope) (vs : List Tree) → ((k : ℕ) → IsClosed (at k (reverse vs))) → Good (valued vs) 0 v []
+values_good v vs a o e i s b h = (
   λ l. inner_variable o v [] i s (omega arith) h,
-  λ l. let k : i - e < length vs = omega (arith, in_scope v (i - e) s (outer_variable o v e i s (omega arith) l h)) in
-      weaken_kids (all part) [] (o ++ []) [] (trees (held (at (i - e) (reverse vs)))) (parts_of (at (i - e) (reverse vs)) (closed_value vs (i - e) a k)),
+  λ l. weaken_kids (all part) [] (o ++ []) [] (trees (held (at (i - e) (reverse vs)))) (parts_of (at (i - e) (reverse vs)) (a (i - e))),
 )
 
-pub put_is_closed : PutIsClosed
+-- a body with closed values put in is closed, however many they are
+pub put_closed : (v : Scope) (t : Tree) (vs : List Tree) → Fits term v t → ((k : ℕ) → IsClosed (at k (reverse vs))) → IsClosed (put vs t)
 unfolding put
-put_is_closed v t vs h n a =
-    only_one [] t (change (valued vs) 0 t) (whole (valued vs) term 0 v [] t tt (values_good v vs n a) h)
+put_closed v t vs h a = only_one [] t (change (valued vs) 0 t) (whole (valued vs) term 0 v [] t tt (values_good v vs a) h)
+
+pub put_is_closed : PutIsClosed
+put_is_closed v t vs h n a = put_closed v t vs h (λ k. closed_value vs k a)
 
 -- the new indices
 abbrev numbered : (ℕ → ℕ) → Change

@@ -83,7 +83,7 @@ length-trees : (ts : List Tree) → length (key_all (trees ts)) ≡ length ts
 length-trees [] = refl
 length-trees (t ∷ ts) = ap suc (length-trees ts)
 
-everywhere : (P : List ℕ → Type 0) → ((c : List ℕ) → P c) → (cs : List (List ℕ)) → Each P cs
+pub everywhere : (P : List ℕ → Type 0) → ((c : List ℕ) → P c) → (cs : List (List ℕ)) → Each P cs
 everywhere P f [] = tt
 everywhere P f (c ∷ cs) = (f c, everywhere P f cs)
 

@@ -26,6 +26,7 @@ unfolding computing
 code_examples =
     record {
       code_of_a_send = refl;
+      code_of_a_bundle = refl;
       parts_ascend = refl;
       members_ascend = refl;
       height_of_nil = refl;

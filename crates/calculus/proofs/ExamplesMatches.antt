@@ -25,4 +25,10 @@ match_examples =
       persistence_must_agree = refl;
       name_pattern_inside = refl;
       all_matches_in_order = refl;
+      wild_remainder_of_a_list = refl;
+      wild_remainder_of_a_set = refl;
+      wild_remainder_of_arguments = refl;
+      set_in_two_ways = refl;
+      map_in_two_ways = refl;
+      bundle_without_rights = refl;
     }

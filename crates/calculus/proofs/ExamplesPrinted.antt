@@ -27,4 +27,7 @@ printed_examples =
       negation = refl;
       names = refl;
       a_fresh_name_and_bytes = refl;
+      bundle_without_rights = refl;
+      wild_remainder = refl;
+      wild_remainder_of_a_bind = refl;
     }

@@ -1,6 +1,7 @@
 -- Proofs of the examples of values, with prices and faults.
-use Rattle.std.specs.Prelude.{refl}
-use Rattle.calculus.specs.ExamplesValues.{ValueExamples}
+use Rattle.std.proofs.Common.{refl, arith}
+use Rattle.calculus.specs.ExamplesValues.{op_prices, ValueExamples}
+use Rattle.calculus.proofs.ByteLimits.{value-word, value-too-big}
 use Rattle.calculus.proofs.Opened.{computing}
 
 pub value_examples : ValueExamples
@@ -26,4 +27,9 @@ value_examples =
       pairs_ascend = refl;
       first_fault_in_code_order = refl;
       sends_are_not_evaluated = refl;
+      deepest_value = refl;
+      value_too_deep = refl;
+      longest_value = λ s h. value-word op_prices s (omega (arith, h));
+      value_too_big = λ s h. value-too-big op_prices s (omega (arith, h));
+      too_deep_before_too_big = λ s h. refl;
     }

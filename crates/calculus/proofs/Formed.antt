@@ -7,24 +7,11 @@ use Rattle.calculus.specs.Shape.{count}
 use Rattle.calculus.specs.Congruence.{is_bag}
 use Rattle.calculus.specs.Code.{head, arranged, code, codes}
 use Rattle.calculus.specs.Form.{Sort, term, part, a_bind, a_case, a_rest, pat, name_pat, pat_part, name_part, row_of, pair_of, Kids, all, these, no_form, kids}
+pub use Rattle.calculus.specs.Formed.{Formed, Holds}
 use Rattle.calculus.proofs.Heads.{lead, tail, head-parts}
 use Rattle.calculus.proofs.Known.{IsForm, known}
 use Rattle.calculus.proofs.Tails.{length-be32}
 use Rattle.calculus.proofs.Sorting.{total-arranged}
-
-abbrev mutual
-  -- a tree of this sort, where P holds of each label in it; a name pattern may here have name variables beside other parts
-  pub Formed : (Label → Type 0) → Sort → Tree → Type 0
-  Formed P s (node l ts) = P l × Holds P (kids s l 0) ts
-
-  pub Holds : (Label → Type 0) → Kids → Trees → Type 0
-  Holds P (all s) none = ⊤
-  Holds P (all s) (also t ts) = Formed P s t × Holds P (all s) ts
-  Holds P (these []) none = ⊤
-  Holds P (these []) (also t ts) = ⊥
-  Holds P (these (s ∷ ss)) none = ⊥
-  Holds P (these (s ∷ ss)) (also t ts) = Formed P s t × Holds P (these ss) ts
-  Holds P no_form ts = ⊥
 
 pub is_form : (P : Label → Type 0) (p : Kids) (ts : Trees) → Holds P p ts → IsForm p
 is_form P (all s) ts h = tt

@@ -3,6 +3,7 @@ pub mod Opened
 pub mod Reflexive
 pub mod Room
 pub mod States
+pub mod ByteLimits
 pub mod Candidates
 pub mod Least
 pub mod ExamplesValues
@@ -41,3 +42,5 @@ pub mod Changing
 pub mod Changed
 pub mod Substituting
 pub mod Closing
+pub mod Digests
+pub mod Results

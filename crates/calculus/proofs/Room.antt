@@ -76,10 +76,10 @@ part_more p f g h t (send q) (also c (also (node l xs) none)) = same _
 part_more p f g h t (receive k) (also (node l bs) (also body none)) = same _
 part_more p f g h t l ts = same _
 
-unfold_part_more : (p : Prices) (f g : Unfolder) → RefinesAll f g → (t : List ℕ) (u : Tree) → Refines (unfold_part p f t u) (unfold_part p g t u)
+pub unfold_part_more : (p : Prices) (f g : Unfolder) → RefinesAll f g → (t : List ℕ) (u : Tree) → Refines (unfold_part p f t u) (unfold_part p g t u)
 unfold_part_more p f g h t (node l ts) = part_more p f g h t l ts
 
-parts_more : (p : Prices) (f g : Unfolder) → RefinesAll f g → (s : List ℕ) (i : ℕ) (ts : List Tree) → Refines (parts_unfolded p f s i ts) (parts_unfolded p g s i ts)
+pub parts_more : (p : Prices) (f g : Unfolder) → RefinesAll f g → (s : List ℕ) (i : ℕ) (ts : List Tree) → Refines (parts_unfolded p f s i ts) (parts_unfolded p g s i ts)
 parts_more p f g h s i [] = same (pure [])
 parts_more p f g h s i (t ∷ ts) =
     after_more (unfold_part p f (digest_of (Split s i)) t) (unfold_part p g (digest_of (Split s i)) t) _ _

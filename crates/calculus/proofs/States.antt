@@ -1,5 +1,5 @@
 -- More room leaves a state as it is, so there is one at most.
-use Rattle.std.proofs.Common.{◌≡◌, ◌≤◌, ℕ, ◌+◌, List, [], ◌∷◌, refl, sym, ◌∙◌, arith}
+use Rattle.std.proofs.Common.{◌≡◌, ◌≤◌, ℕ, ◌+◌, List, [], ◌∷◌, ◌++◌, refl, sym, ◌∙◌, subst, arith}
 use Rattle.std.specs.Prelude.{Option, Some, None, option_map, option_and_then}
 use Rattle.calculus.specs.Tree.{Tree}
 use Rattle.calculus.specs.Outcome.{Prices}
@@ -9,12 +9,12 @@ use Rattle.calculus.specs.Rows.{Row}
 use Rattle.calculus.specs.Root.{root}
 use Rattle.calculus.specs.Unfolding.{unfold_in}
 use Rattle.calculus.specs.Steps.{Meeting, meeting}
-use Rattle.calculus.specs.Runs.{State, body_work, moved, step_from, steps_from, begun, first_state}
+use Rattle.calculus.specs.Runs.{State, body_work, moved, step_from, steps_from, begun, first_state, state_after, Leads}
 use Rattle.calculus.specs.Laws.{RoomKeepsWork, OneUnfolding, RoomKeepsState, OneState}
 use Rattle.calculus.proofs.Room.{under_more, unfold_more, capped_more}
 
 -- what the first of two gives, the second gives too
-abbrev Keeps : {A : Type 0} → Option A → Option A → Type 0
+abbrev pub Keeps : {A : Type 0} → Option A → Option A → Type 0
 Keeps x y = (v : _) → x ≡ Some v → y ≡ Some v
 
 some_one : {A : Type 0} (x y : A) → Some x ≡ Some y → x ≡ y
@@ -38,11 +38,11 @@ pub one_unfolding : OneUnfolding
 one_unfolding p cap t s v w h k =
     some_one v w (sym (room_keeps_work p cap h.0 (h.0 + k.0) t s v (omega arith) h.1) ∙ room_keeps_work p cap k.0 (h.0 + k.0) t s w (omega arith) k.1)
 
-body_keeps : (p : Prices) (cap n m : ℕ) → n ≤ m → (s : Step) (e : Meeting) → Keeps (body_work p cap n s e) (body_work p cap m s e)
+pub body_keeps : (p : Prices) (cap n m : ℕ) → n ≤ m → (s : Step) (e : Meeting) → Keeps (body_work p cap n s e) (body_work p cap m s e)
 body_keeps p cap n m h s e w k =
     capped_more cap _ _ w (under_more (unfold_in p n) (unfold_in p m) (unfold_more p n m h) (digest_of (Comm s.receiver s.data_ids s.repeat)) e.bindings e.receiver.body) k
 
-step_keeps : (p : Prices) (cap n m : ℕ) → n ≤ m → (a : State) (s : Step) → Keeps (step_from p cap n a s) (step_from p cap m a s)
+pub step_keeps : (p : Prices) (cap n m : ℕ) → n ≤ m → (a : State) (s : Step) → Keeps (step_from p cap n a s) (step_from p cap m a s)
 step_keeps p cap n m h a s =
     then_keeps _ _ (meeting a.bag a.made s) (meeting a.bag a.made s) (same_keeps (meeting a.bag a.made s))
     (λ e. map_keeps (moved a s e) (body_work p cap n s e) (body_work p cap m s e) (body_keeps p cap n m h s e))
@@ -51,7 +51,7 @@ steps_keep : (p : Prices) (cap n m : ℕ) → n ≤ m → (a : State) (ss : List
 steps_keep p cap n m h a [] = same_keeps (Some a)
 steps_keep p cap n m h a (s ∷ ss) = then_keeps _ _ (step_from p cap n a s) (step_from p cap m a s) (step_keeps p cap n m h a s) (λ b. steps_keep p cap n m h b ss)
 
-first_keeps : (p : Prices) (cap n m : ℕ) → n ≤ m → (rows : List Row) (t : Tree) (source : List ℕ) → Keeps (first_state p cap n rows t source) (first_state p cap m rows t source)
+pub first_keeps : (p : Prices) (cap n m : ℕ) → n ≤ m → (rows : List Row) (t : Tree) (source : List ℕ) → Keeps (first_state p cap n rows t source) (first_state p cap m rows t source)
 first_keeps p cap n m h rows t source =
     map_keeps (begun rows) _ _ (λ w e. room_keeps_work p cap n m t (digest_of (Start (root rows) source)) w h e)
 
@@ -62,3 +62,24 @@ room_keeps_state p cap n m rows t source ss a h e =
 pub one_state : OneState
 one_state p cap rows t source ss a b h k =
     some_one a b (sym (room_keeps_state p cap h.0 (h.0 + k.0) rows t source ss a (omega arith) h.1) ∙ room_keeps_state p cap k.0 (h.0 + k.0) rows t source ss b (omega arith) k.1)
+
+-- what a function makes a value of, it makes it of some value
+pub mapped : {A B : Type 0} (f : A → B) (x : Option A) (v : B) → option_map f x ≡ Some v → (a : A) × ((x ≡ Some a) × (f a ≡ v))
+mapped f None v e = cc e
+mapped f (Some a) v e = (a, (refl, cc e))
+
+-- what is computed in one room is so wherever the steps lead
+pub anyhow : {B : Type 0} (p : Prices) (cap room : ℕ) (rows : List Row) (t : Tree) (source : List ℕ) (ss : List Step) (f : State → B) (v : B)
+    → option_map f (state_after p cap room rows t source ss) ≡ Some v → (a : State) → Leads p cap rows t source ss a → f a ≡ v
+anyhow p cap room rows t source ss f v e a l =
+    let m = mapped f (state_after p cap room rows t source ss) v e in
+    subst (λ b. f b ≡ v) (one_state p cap rows t source ss m.0 a (room, m.1.0) l) m.1.1
+
+-- what holds before a step and after it holds wherever it is on the way
+pub on_the_way : (P : List Step → Type 0) (s : Step) → P [] → P (s ∷ []) → (first rest : List Step) → s ∷ [] ≡ first ++ rest → P first
+on_the_way P s before after [] rest e = before
+on_the_way P s before after (u ∷ []) rest e = subst (λ w. P (w ∷ [])) (same e) after
+  where
+    same : s ∷ [] ≡ u ∷ rest → s ≡ u
+    same e = cc e
+on_the_way P s before after (u ∷ w ∷ first) rest e = cc e

@@ -1,12 +1,13 @@
 -- What follows a form's own byte: a length and as many bytes, a number of constituents, or bytes whose number is the form's.
 use Rattle.std.proofs.Common.{◌≡◌, ℕ, ◌<◌, ◌+◌, ◌*◌, ◌^◌, Bool, true, false, List, [], ◌∷◌, ◌++◌, map as each, length, refl, sym, ap, ◌∙◌, subst, arith, length-append}
 use Rattle.std.proofs.lemmas.List.{length-map}
-use Rattle.std.specs.Prelude.{⊤, pos, ◌+ℤ◌, nat_abs}
+use Rattle.std.specs.Prelude.{pos, ◌+ℤ◌, nat_abs}
 use Rattle.calculus.specs.Tree.{Label, par, row, bool, int, str, uri, bytes, fresh, var, name_var, list, tuple, set, dict, send, receive, new, bundle, unary, binary, method, pattern, rest, simple, plain}
 use Rattle.calculus.specs.Kinds.{origin_number}
 use Rattle.calculus.specs.Bytes.{be32, be64}
 use Rattle.calculus.specs.Code.{text}
 use Rattle.calculus.specs.CodeLaws.{Splits}
+pub use Rattle.calculus.specs.Formed.{IsFine}
 use Rattle.calculus.proofs.Prefixes.{Splits-append, Splits-length}
 use Rattle.calculus.proofs.Heads.{tail, blank}
 
@@ -45,11 +46,6 @@ Splits-text xs ys h k =
     let m : length xs < 2 ^ 32 = omega (arith, length-text xs) in
     let n : length ys < 2 ^ 32 = omega (arith, length-text ys) in
     Splits-append (be32 (length xs)) (be32 (length ys)) xs ys (Splits-be32 (length xs) (length ys)) (λ e. Splits-length xs ys (one-be32 (length xs) (length ys) m n e))
-
--- a digest has 32 bytes
-abbrev pub IsFine : Label → Type 0
-IsFine (fresh x) = length x ≡ 32
-IsFine _ = ⊤
 
 -- the forms with data of any length
 abbrev is_text : Label → Bool

@@ -1,5 +1,5 @@
 -- Short words in which examples are written.
-use Rattle.std.specs.Prelude.{ℕ, true, false, List, [], ◌∷◌, pos, neg_ℤ, unwrap_or, replicate}
+use Rattle.std.specs.Prelude.{ℕ, zero, suc, true, false, List, [], ◌∷◌, pos, neg_ℤ, unwrap_or, replicate}
 use Rattle.calculus.specs.declared.plain.Kind.TheVariants as kinds
 use Rattle.calculus.specs.declared.plain.BinaryOp.{BinaryOp}
 use Rattle.calculus.specs.declared.plain.TermRest.TheVariants as rests
@@ -120,3 +120,8 @@ zeros = replicate 32 0
 -- a step of this receiver with these data and this repeat number
 abbrev pub step : List ℕ → List (List ℕ) → ℕ → Step
 step r ds n = record { receiver = r; data_ids = ds; repeat = n }
+
+-- this many sends inside one another around a process: `@Nil!(@Nil!(..))`
+abbrev pub sends_around : ℕ → Tree → Tree
+sends_around zero t = t
+sends_around (suc n) t = only (sent nil (sends_around n t ∷ []))

@@ -1,8 +1,9 @@
 -- Examples of congruence, codes and substitution.
 use Rattle.std.specs.Prelude.{◌≡◌, true, false, [], ◌∷◌, codes}
 use Rattle.calculus.specs.declared.plain.Origin.TheVariants as origins
+use Rattle.calculus.specs.declared.plain.Rights.TheVariants as rights
 use Rattle.calculus.specs.declared.plain.Simple.TheVariants as simples
-use Rattle.calculus.specs.Tree.{set, new, var, same, simple, Tree}
+use Rattle.calculus.specs.Tree.{set, new, bundle, var, same, simple, Tree}
 use Rattle.calculus.specs.Shape.{leaf, one, many, process, only}
 use Rattle.calculus.specs.Size.{height}
 use Rattle.calculus.specs.Congruence.{congruent}
@@ -53,6 +54,8 @@ pub record CongruenceExamples : Type 0 where
 pub record CodeExamples : Type 0 where
   -- the code of `@1!(3)`
   pub code_of_a_send : code (only (sent (num 1) (num 3 ∷ []))) ≡ hex (codes "000000013000000000011180000000000000010000000100000001118000000000000003")
+  -- the code of `bundle0 {1}`
+  pub code_of_a_bundle : code (only (one (bundle rights.Neither) (num 1))) ≡ hex (codes "00000001340000000001118000000000000001")
   -- the codes of `2 | 1` and `1 | 2` are one
   pub parts_ascend : code two_one ≡ code one_two
   -- and so are those of `Set(2, 1)` and `Set(1, 2)`

@@ -3,9 +3,10 @@ use Rattle.std.specs.Prelude.{◌≡◌, ℕ, true, false, List, [], ◌∷◌, 
 use Rattle.calculus.specs.declared.plain.BinaryOp.TheVariants as op
 use Rattle.calculus.specs.declared.plain.TermRest.TheVariants as rests
 use Rattle.calculus.specs.declared.plain.Origin.TheVariants as origins
+use Rattle.calculus.specs.declared.plain.Rights.TheVariants as rights
 use Rattle.calculus.specs.declared.plain.Simple.TheVariants as simples
 use Rattle.calculus.specs.declared.plain.UnaryOp.TheVariants as unary_op
-use Rattle.calculus.specs.Tree.{row, bool, bytes, fresh, send, bind, new, match, case, unary, rest, simple, same, both, not_this, map_pattern, Tree}
+use Rattle.calculus.specs.Tree.{row, bool, bytes, fresh, send, bind, new, match, case, bundle, unary, rest, simple, same, both, not_this, list_pattern, map_pattern, Tree}
 use Rattle.calculus.specs.Shape.{leaf, one, two, three, many, process, only}
 use Rattle.calculus.specs.Examples.{whole, num, minus, word, nil, the_var, the_name, list_of, tuple_of, set_of, map_of, entry, op_on, call, sent, heard, on, thin, a_var, a_name, zeros}
 use Rattle.calculus.specs.Printed.{printed_text}
@@ -19,13 +20,13 @@ pub record PrintedExamples : Type 0 where
   -- the text of `Nil`
   pub empty : Prints nil (codes "Nil")
   -- the text of `2 | 1`
-  pub parts_ascend : Prints (process (whole 1 ∷ whole 2 ∷ [])) (codes "1 | 2")
+  pub parts_ascend : Prints (process (whole 2 ∷ whole 1 ∷ [])) (codes "1 | 2")
   -- the text of `-9223372036854775808`
   pub below_zero : Prints (minus 9223372036854775808) (codes "-9223372036854775808")
   -- the text of `"a\"b\n\t\\"`
   pub string_with_escapes : Prints (word (97 ∷ 34 ∷ 98 ∷ 10 ∷ 9 ∷ 92 ∷ [])) (codes "\"a\\\"b\\n\\t\\\\\"")
   -- the text of `Set(3, 1, 2, 1)`
-  pub set_with_repeats : Prints (set_of (num 1 ∷ num 1 ∷ num 2 ∷ num 3 ∷ [])) (codes "Set(1, 1, 2, 3)")
+  pub set_with_repeats : Prints (set_of (num 3 ∷ num 1 ∷ num 2 ∷ num 1 ∷ [])) (codes "Set(1, 1, 2, 3)")
   -- the text of `(1,)`
   pub one_tuple : Prints (tuple_of (num 1 ∷ [])) (codes "(1,)")
   -- the text of ``new x(`rho:io:stdout`) in { x!("hi") }``
@@ -56,3 +57,9 @@ pub record PrintedExamples : Type 0 where
   pub names : Prints (only (sent (list_of (num 1 ∷ set_of (num 2 ∷ []) ∷ map_of (entry (num 3) (num 4) ∷ []) ∷ [])) (num 5 ∷ tuple_of (num 6 ∷ []) ∷ []))) (codes "@[1, Set(2), {3: 4}]!(5, (6,))")
   -- a fresh name and a ByteArray, which no source spells
   pub a_fresh_name_and_bytes : Prints (only (two (send false) (only (leaf (fresh zeros))) (many row (only (leaf (bytes (1 ∷ 255 ∷ []))) ∷ [])))) (codes "$0000000000000000000000000000000000000000000000000000000000000000!(#01ff)")
+  -- the text of `bundle0 {1}`
+  pub bundle_without_rights : Prints (only (one (bundle rights.Neither) (num 1))) (codes "bundle0 { 1 }")
+  -- the text of `for (@[..._] <- @1) { Nil }`
+  pub wild_remainder : Prints (only (heard (on (num 1) (thin (two list_pattern (many row []) (leaf (rest rests.Wild))) ∷ []) ∷ []) nil)) (codes "for (@[..._] <- @1) { Nil }")
+  -- the text of `for (@x ...@_ <- @1) { @2!(x) }`
+  pub wild_remainder_of_a_bind : Prints (only (heard (three bind (num 1) (many row (a_var ∷ [])) (leaf (rest rests.Wild)) ∷ []) (only (sent (num 2) (the_var 0 ∷ []))))) (codes "for (@v0, ...@_ <- @1) { @2!(v0) }")

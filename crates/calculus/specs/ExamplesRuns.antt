@@ -57,7 +57,7 @@ pub record RunExamples : Type 0 where
   -- `@1!(1) | @2!(2) | for (@a <- @1; @b <- @2) { @3!(a + b) }`
   pub join : Comes 1000 (process (sent (num 1) (num 1 ∷ []) ∷ sent (num 2) (num 2 ∷ []) ∷ heard (on (num 1) (a_var ∷ []) ∷ on (num 2) (a_var ∷ []) ∷ []) (only (sent (num 3) (op_on op.Add (the_var 1) (the_var 0) ∷ []))) ∷ [])) (hex (codes "78be52fb015d1131f3d96be88d03e5880c024223d8f72a2ca222daabfdae2490")) (step (hex (codes "00b84fcb07799e29d0c83767bca4ab46c84d2189c42dc978c0597f289ea9c036")) (hex (codes "42ab2d600ed4f5d3c6da1f33a5e670c5bec8eabdec0a981b26ecd582b2738b9b") ∷ hex (codes "520bb31937b6b9f777a2eef095ddad493df5ccbe74119a0aff12c9a56857f5ab") ∷ []) 0 ∷ []) done 24 (hex (codes "02fe87d79090141c021dd111d97608ed86b43789b1b14083956552bf5f23da69"))
   -- `@{1 | 2}!(9) | for (@x <- @{2 | 1}) { Nil }`
-  pub congruent_channels : Comes 1000 (process (sent (process (whole 1 ∷ whole 2 ∷ [])) (num 9 ∷ []) ∷ heard (on (process (whole 1 ∷ whole 2 ∷ [])) (a_var ∷ []) ∷ []) nil ∷ [])) (hex (codes "e1af0c0fac88a889fa4f7109acaf95812e6db7c9ecbfd27b46803ac9faf4d976")) (step (hex (codes "5aee775c9b2f91c42797de59720b2134f0a43f856f174e603bfd88e696d75945")) (hex (codes "ec7c637739ddaa0879910c163da6ce5bc34e1a40496bdc11589fa4ec7d9a5a15") ∷ []) 0 ∷ []) done 17 zeros
+  pub congruent_channels : Comes 1000 (process (sent (process (whole 1 ∷ whole 2 ∷ [])) (num 9 ∷ []) ∷ heard (on (process (whole 2 ∷ whole 1 ∷ [])) (a_var ∷ []) ∷ []) nil ∷ [])) (hex (codes "e1af0c0fac88a889fa4f7109acaf95812e6db7c9ecbfd27b46803ac9faf4d976")) (step (hex (codes "5aee775c9b2f91c42797de59720b2134f0a43f856f174e603bfd88e696d75945")) (hex (codes "ec7c637739ddaa0879910c163da6ce5bc34e1a40496bdc11589fa4ec7d9a5a15") ∷ []) 0 ∷ []) done 17 zeros
   -- `@1!(7) | for (@x <<- @1) { @2!(x) }` leaves the datum
   pub peek : Comes 1000 (process (sent (num 1) (num 7 ∷ []) ∷ two (receive kinds.Peek) (many row (on (num 1) (a_var ∷ []) ∷ [])) (only (sent (num 2) (the_var 0 ∷ []))) ∷ [])) (hex (codes "98645435006b910129450d942232d6f03f3445f5abd515bc23dc23c23695cd79")) (step (hex (codes "96777cd5ef0740566f42d7716b91fc57565d8488ccbffb9b24789824d855a0b1")) (hex (codes "da821afabd223d0d388857bf95d9bf37e2b55584b75e41fc615decf05b269ff8") ∷ []) 0 ∷ []) done 20 (hex (codes "1de793d647c43770f9023d1a1f20018ed5a7c2d4e7b0049169221653b774311b"))
   -- ``new out(`rho:io:stdoutAck`), ack in { out!("a", *ack) | for (_ <- ack) { @2!(1) } }``

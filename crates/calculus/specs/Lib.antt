@@ -10,6 +10,7 @@ pub mod Meaning
 pub mod Bare
 pub mod Variables
 pub mod Form
+pub mod Formed
 pub mod Size
 pub mod Order
 pub mod Congruence
@@ -17,6 +18,7 @@ pub mod Code
 pub mod Normal
 pub mod Substitution
 pub mod Outcome
+pub mod Limits
 pub mod Texts
 pub mod Operators
 pub mod Methods

@@ -24,7 +24,7 @@ pub record Member : Type 0 where
   pub wide : Bool
   pub tries : Matcher
 
--- a constituent of a pattern as that, beside its own constituents as that
+-- how a constituent of a pattern is tried, beside how each of its own constituents is
 pub record Piece : Type 0 where
   pub whole : Member
   pub inner : List Member
@@ -126,7 +126,7 @@ whole_at i [] t = []
 whole_at zero (m ∷ ms) t = m.whole.tries t
 whole_at (suc i) (m ∷ ms) t = whole_at i ms t
 
--- what stands in the first constituents that is a row
+-- the constituents of constituent number i as they are tried
 abbrev pub inner_at : ℕ → List Piece → List Member
 inner_at i [] = []
 inner_at zero (m ∷ ms) = m.inner
@@ -156,7 +156,7 @@ form_matches (send p) ts ms t = where_form (send p) t (λ us. both_of (whole_at 
 form_matches (bundle r) ts ms t = where_form (bundle r) t (λ us. whole_at 0 ms (at 0 us))
 form_matches l ts ms t = one_if (congruent (node l ts) t)
 
--- a constituent of this form
+-- how a constituent of this form is tried, with these constituents of its own
 abbrev pub piece_of : Label → Trees → List Piece → Piece
 piece_of l ts ms = record { whole = record { wide = is_wide l; tries = form_matches l ts ms }; inner = wholes ms }
 
@@ -165,7 +165,7 @@ abbrev mutual
   pub piece : Tree → Piece
   piece (node l ts) = piece_of l ts (pieces ts)
 
-  -- constituents so
+  -- each of these as it is tried
   pub pieces : Trees → List Piece
   pieces none = []
   pieces (also t ts) = piece t ∷ pieces ts

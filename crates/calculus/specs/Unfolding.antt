@@ -226,3 +226,7 @@ unfold_in p (suc room) t s = parts_unfolded p (unfold_in p room) s 0 (ascending 
 -- a closed process with this seed comes to this under the cap, where there is room enough
 abbrev pub Unfolds : Prices → ℕ → Tree → List ℕ → Capped (List Thing) → Type 0
 Unfolds p cap t s w = (room : ℕ) × capped cap (unfold_in p room t s) ≡ Some w
+
+-- a body under these values, with this seed, comes to this under the cap, where there is room enough
+abbrev pub UnfoldsUnder : Prices → ℕ → List Tree → Tree → List ℕ → Capped (List Thing) → Type 0
+UnfoldsUnder p cap vs body s w = (room : ℕ) × capped cap (unfold_under (unfold_in p room) s vs body) ≡ Some w

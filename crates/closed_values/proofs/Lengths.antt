@@ -1,13 +1,13 @@
 -- What stands in a code is no longer than the code.
-use Rattle.std.proofs.Common.{◌≡◌, ℕ, ◌+◌, ◌<◌, ◌≤◌, ◌^◌, List, [], ◌∷◌, ◌++◌, length, arith, length-append}
-use Rattle.calculus.specs.Tree.{Label, par, str, bytes, list, tuple, set, dict, pair, Tree, node, Trees, none, also}
+use Rattle.std.proofs.Common.{ℕ, ◌<◌, ◌≤◌, ◌^◌, List, [], ◌∷◌, ◌++◌, length, arith, length-append}
+use Rattle.calculus.specs.Tree.{Label, par, str, bytes, pair, Tree, node, Trees, none, also}
 use Rattle.calculus.specs.Shape.{listed, count}
 use Rattle.calculus.specs.Bytes.{be32, joined}
 use Rattle.calculus.specs.Order.{sorted}
 use Rattle.calculus.specs.Code.{code, codes}
 use Rattle.calculus.specs.CodeLaws.{IsShort}
 use Rattle.calculus.specs.Form.{Sort, term, pair_of, all, Hold, Fits, IsClosed}
-use Rattle.calculus.proofs.Splitting.{AreShort, first-short, kids-short}
+use Rattle.calculus.proofs.Splitting.{first-short, kids-short}
 use Rattle.calculus.proofs.Tails.{length-be32}
 
 pub text-short : (x : List ℕ) → IsShort (node (str x) none) → length x < 2 ^ 32

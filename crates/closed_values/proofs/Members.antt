@@ -1,14 +1,13 @@
 -- Lists of closed trees of one sort, of which some are taken.
-use Rattle.std.proofs.Common.{◌≡◌, ℕ, zero, suc, Bool, true, false, cond, List, [], ◌∷◌, ◌++◌, take, drop, map as each, filter, refl, subst, arith}
+use Rattle.std.proofs.Common.{ℕ, zero, suc, Bool, true, false, cond, List, [], ◌∷◌, ◌++◌, take, drop, map as each, filter, arith}
 use Rattle.std.specs.Prelude.{flat_map}
-use Rattle.calculus.specs.Tree.{par, pair, tuple, list, set, dict, Tree, node, Trees, none, also, trees}
-use Rattle.calculus.specs.Shape.{listed, held, at, only, many, two}
+use Rattle.calculus.specs.Tree.{par, pair, Tree, node, Trees, none, also, trees}
+use Rattle.calculus.specs.Shape.{listed, held, two}
 use Rattle.calculus.specs.Congruence.{congruent}
-use Rattle.calculus.specs.Normal.{ascending}
 use Rattle.calculus.specs.Form.{Sort, term, part, pair_of, all, Fits, Hold, IsClosed}
-use Rattle.calculus.specs.Operators.{is_among, distinct, without, key_of, value_of, last_of_key, of_set, of_map, of_list, found}
-use Rattle.calculus.specs.Methods.{without_key, as_tuple}
-use Rattle.calculus.proofs.Placing.{trees-listed, ascending_hold, own_hold}
+use Rattle.calculus.specs.Operators.{is_among, distinct, key_of, value_of, last_of_key, of_set, of_map, of_list, found}
+use Rattle.calculus.specs.Methods.{as_tuple}
+use Rattle.calculus.proofs.Placing.{trees-listed, ascending_hold}
 
 -- these are closed and of this sort
 abbrev pub AllFit : Sort → List Tree → Type 0

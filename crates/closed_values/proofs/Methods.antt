@@ -1,5 +1,5 @@
 -- What methods answer.
-use Rattle.std.proofs.Common.{◌≡◌, ℕ, zero, suc, ◌<◌, ◌≤◌, Bool, cond, ◌&&◌, not, leb, eqb, List, [], ◌∷◌, ◌++◌, length, take, drop, map as each, Option, Some, None, pos, negsuc, bytes_eq, arith}
+use Rattle.std.proofs.Common.{ℕ, zero, suc, ◌<◌, ◌&&◌, not, leb, eqb, List, [], ◌∷◌, ◌++◌, length, take, drop, map as each, Option, Some, None, pos, negsuc, bytes_eq, arith}
 use Rattle.std.specs.Prelude.{⊤}
 use Rattle.std.proofs.lemmas.List.Elements.{All-head, All-tail}
 use Rattle.calculus.specs.Tree.{par, pair, Tree}
@@ -9,16 +9,16 @@ use Rattle.calculus.specs.Congruence.{congruent}
 use Rattle.calculus.specs.Normal.{ascending}
 use Rattle.calculus.specs.Form.{term, pair_of, IsBytes, IsClosed}
 use Rattle.calculus.specs.declared.fault.FaultKind.TheVariants as fault
-use Rattle.calculus.specs.Outcome.{Answer, gives, fails}
+use Rattle.calculus.specs.Outcome.{gives, fails}
 use Rattle.calculus.specs.Texts.{characters, from_hex, to_hex}
-use Rattle.calculus.specs.Operators.{Seen, a_bool, an_int, a_text, some_bytes, a_list, a_tuple, a_set, a_map, other, seen, of_int, of_text, of_bytes, of_list, of_set, of_map, is_among, key_of, found}
+use Rattle.calculus.specs.Operators.{Seen, an_int, a_text, some_bytes, a_list, a_tuple, a_set, a_map, seen, of_int, of_text, of_bytes, of_list, of_set, of_map, is_among, key_of}
 use Rattle.calculus.specs.Methods.{Method, nth, nth_at, slice, hex_answer, with_set, with_map, as_tuple, methods, among_methods, method_answer}
 use Rattle.calculus.proofs.Placing.{ascending_hold}
 use Rattle.closed_values.specs.Laws.{GivesClosed, AreClosed, MethodIsClosed}
 use Rattle.closed_values.proofs.Members.{AllFit, append-fit, take-fit, drop-fit, filter-fit, list-closed, set-closed, map-closed, pair-closed, keys-closed, found-closed, tuples-closed}
 use Rattle.closed_values.proofs.Texts.{slice-utf8, slice-text, slice-bytes, characters-no-more}
 use Rattle.closed_values.proofs.Hexes.{BytesIf, from-hex-bytes, to-hex-utf8, to-hex-bytes}
-use Rattle.closed_values.proofs.Numbers.{chosen, int-closed, count-closed, bool-closed}
+use Rattle.closed_values.proofs.Numbers.{chosen, count-closed, bool-closed}
 use Rattle.closed_values.proofs.Seen.{SeenFits, SeenShort, seen-fits, seen-short}
 use Rattle.closed_values.proofs.Operators.{text-closed, bytes-closed}
 

@@ -1,16 +1,15 @@
 -- Int values, and answers by cases.
-use Rattle.std.proofs.Common.{◌≡◌, ℕ, zero, suc, ◌+◌, ◌-◌, ◌*◌, ◌/◌, ◌%◌, ◌<◌, ◌≤◌, ◌^◌, Bool, true, false, cond, ◌&&◌, ℤ, pos, negsuc, neg_ℤ, ◌≤ℤ◌, ◌<ℤ◌, int_lt, int_le, int_div, int_rem, nat_abs, refl, subst, sym, arith, div-le_self, mul-le-mul}
-use Rattle.std.specs.Prelude.{◌⊎◌}
+use Rattle.std.proofs.Common.{◌≡◌, ℕ, zero, suc, ◌-◌, ◌/◌, ◌%◌, ◌<◌, ◌≤◌, ◌^◌, Bool, true, false, cond, ◌&&◌, ℤ, pos, negsuc, neg_ℤ, ◌≤ℤ◌, ◌<ℤ◌, int_lt, int_le, int_div, int_rem, nat_abs, refl, arith, div-le_self, mul-le-mul}
 use Rattle.std.proofs.Common.{inl, inr}
 use Rattle.std.proofs.lemmas.Bool.{and_parts, and_cases, eqb-false, true≢false}
 use Rattle.std.proofs.lemmas.Nat.{div-add-mod'}
 use Rattle.std.proofs.lemmas.Int.{ints}
-use Rattle.calculus.specs.Tree.{bool, Tree}
+use Rattle.calculus.specs.Tree.{Tree}
 use Rattle.calculus.specs.Form.{IsClosed}
 use Rattle.calculus.specs.Congruence.{same_int}
 use Rattle.calculus.specs.declared.fault.FaultKind.TheVariants as fault
 use Rattle.calculus.specs.Outcome.{Answer, gives, fails}
-use Rattle.calculus.specs.Operators.{of_bool, of_int, least_int, an_answer, divided, holds}
+use Rattle.calculus.specs.Operators.{of_bool, of_int, least_int, an_answer, divided}
 use Rattle.closed_values.specs.Laws.{GivesClosed}
 
 -- an answer by a test

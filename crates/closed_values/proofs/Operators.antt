@@ -1,5 +1,5 @@
 -- What operators answer.
-use Rattle.std.proofs.Common.{ℕ, Bool, ◌+ℤ◌, ◌-ℤ◌, ◌*ℤ◌, ℤ, neg_ℤ, List, [], ◌∷◌, ◌++◌, not, IsUtf8}
+use Rattle.std.proofs.Common.{ℕ, Bool, ◌+ℤ◌, ◌-ℤ◌, ◌*ℤ◌, ℤ, neg_ℤ, List, ◌++◌, not, IsUtf8}
 use Rattle.std.proofs.lemmas.Str.{IsUtf8-append}
 use Rattle.calculus.specs.declared.plain.UnaryOp.{UnaryOp}
 use Rattle.calculus.specs.declared.plain.UnaryOp.TheVariants as unary_op
@@ -7,7 +7,7 @@ use Rattle.calculus.specs.declared.plain.BinaryOp.{BinaryOp}
 use Rattle.calculus.specs.declared.plain.BinaryOp.TheVariants as op
 use Rattle.calculus.specs.Tree.{Tree}
 use Rattle.calculus.specs.Form.{term, pair_of, IsBytes, IsClosed}
-use Rattle.calculus.specs.Operators.{Seen, a_bool, an_int, a_text, some_bytes, a_list, a_tuple, a_set, a_map, other, seen, of_text, of_bytes, is_among, on_ints, on_bools, on_texts, on_bytes, on_lists, on_sets, on_maps, on_kinds, on_kind, binary_answer, unary_answer}
+use Rattle.calculus.specs.Operators.{Seen, a_bool, an_int, a_text, some_bytes, a_list, a_set, a_map, seen, of_text, of_bytes, is_among, on_ints, on_bools, on_texts, on_bytes, on_lists, on_sets, on_maps, on_kinds, on_kind, binary_answer, unary_answer}
 use Rattle.closed_values.specs.Laws.{GivesClosed, UnaryIsClosed, BinaryIsClosed}
 use Rattle.closed_values.proofs.Members.{AllFit, append-fit, filter-fit, list-closed, set-closed, map-closed}
 use Rattle.closed_values.proofs.Texts.{bytes-append}

@@ -1,11 +1,10 @@
 -- What a closed value is seen as.
-use Rattle.std.proofs.Common.{◌≡◌, ℕ, ◌<◌, ◌^◌, List, [], ◌∷◌, length, subst, sym, IsUtf8}
+use Rattle.std.proofs.Common.{ℕ, ◌<◌, ◌^◌, List, [], length, IsUtf8}
 use Rattle.std.specs.Prelude.{⊤}
 use Rattle.calculus.specs.Tree.{par, bool, int, str, bytes, list, tuple, set, dict, Tree, node, Trees, none, also}
-use Rattle.calculus.specs.Shape.{held, listed}
 use Rattle.calculus.specs.CodeLaws.{IsShort}
 use Rattle.calculus.specs.Form.{term, part, pair_of, Fits, IsBytes, IsClosed}
-use Rattle.calculus.specs.Operators.{Seen, a_bool, an_int, a_text, some_bytes, a_list, a_tuple, a_set, a_map, other, seen_part, seen_parts, seen}
+use Rattle.calculus.specs.Operators.{Seen, a_bool, an_int, a_text, some_bytes, a_list, a_tuple, a_set, a_map, other, seen_part, seen}
 use Rattle.closed_values.proofs.Members.{AllFit, held-fit}
 use Rattle.closed_values.proofs.Lengths.{text-short, bytes-short, members-short, pairs-short, part-short}
 use Rattle.closed_values.proofs.Numbers.{InRange}

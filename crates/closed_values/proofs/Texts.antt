@@ -1,12 +1,12 @@
 -- Texts and bytes that stay texts and bytes.
-use Rattle.std.proofs.Common.{◌≡◌, ℕ, zero, suc, ◌+◌, ◌-◌, ◌*◌, ◌/◌, ◌%◌, ◌<◌, ◌≤◌, Bool, true, false, cond, leb, ◌&&◌, List, [], ◌∷◌, ◌++◌, length, take, drop, get_or, slice_index, IsUtf8, IsAscii, IsCharBoundary, inl, inr, take_at, drop_at, get_or-append-add, Option, Some, None, All, refl, sym, ap, ◌∙◌, subst, arith, append_assoc, length-append, take-append-drop}
+use Rattle.std.proofs.Common.{◌≡◌, ℕ, zero, suc, ◌+◌, ◌<◌, ◌≤◌, Bool, true, false, cond, leb, List, [], ◌∷◌, ◌++◌, length, take, drop, get_or, IsUtf8, IsCharBoundary, inl, inr, take_at, drop_at, get_or-append-add, refl, sym, ap, ◌∙◌, subst, arith, append_assoc, length-append, take-append-drop}
 use Rattle.std.specs.Prelude.{⊤}
-use Rattle.std.proofs.lemmas.Bool.{and_parts, and_cases, leb-true, leb-false}
+use Rattle.std.proofs.lemmas.Bool.{and_cases, leb-false}
 use Rattle.std.proofs.lemmas.List.Elements.{All-cons, All-nil, All-head, All-tail}
-use Rattle.std.proofs.lemmas.Str.{IsUtf8-append, IsUtf8-take, IsUtf8-drop, IsUtf8-from_ascii}
+use Rattle.std.proofs.lemmas.Str.{IsUtf8-take, IsUtf8-drop}
 use Rattle.calculus.specs.Bytes.{joined}
 use Rattle.calculus.specs.Form.{IsBytes}
-use Rattle.calculus.specs.Texts.{goes_on, with_byte, characters, digit, with_digits, from_hex, hex_digit, to_hex}
+use Rattle.calculus.specs.Texts.{goes_on, with_byte, characters}
 
 -- a character begins here
 abbrev pub Begins : List ℕ → Type 0

@@ -9,7 +9,7 @@ use Rattle.std.proofs.lemmas.Cmp.{nat_list_cmp_total}
 use Rattle.std.specs.Ordering.{is_ge, is_le, ordering_reverse}
 use Rattle.calculus.specs.Order.{up_to, byte_cmp}
 use Rattle.calculus.proofs.Ordered.{up_to_both, up_to_trans}
-use Rattle.term_sort.proofs.Keys.{Up}
+use Rattle.code_order.proofs.Keys.{Up}
 use Rattle.coll_ops.specs.Keys.{same, has_key}
 use Rattle.coll_ops.specs.Merging.{low, high, starts, ends, put_last, put_all}
 use Rattle.coll_ops.proofs.Merging.{same-self, same-turned, one, apart}

@@ -22,8 +22,8 @@ use Rattle.std.specs.Prelude.{Result, Some, None}
 use Rattle.calculus.specs.Outcome.{gives}
 use Rattle.rho_term.specs.Normal.{IsOrdered}
 use Rattle.rho_term.specs.Parts.{pair_tree}
-use Rattle.term_sort.proofs.Keys.{sort_in, Up, arranged-sort}
-use Rattle.term_sort.proofs.Made.{ascending-sort, map-arranged, ordered-made}
+use Rattle.code_order.proofs.Keys.{sort_in, Up, arranged-sort}
+use Rattle.code_order.proofs.Made.{ascending-sort, map-arranged, ordered-made}
 use Rattle.value_ops.specs.declared.stop.OpStop.{OpStop}
 use Rattle.value_ops.specs.Answers.{Answers, IsOperand}
 use Rattle.coll_ops.specs.Keys.{same, has_key, last_each, once_each}

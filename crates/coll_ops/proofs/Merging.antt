@@ -9,7 +9,7 @@ use Rattle.std.specs.declared.cmp.Ordering.{Ordering}
 use Rattle.std.specs.declared.cmp.Ordering.TheVariants.{Less, Equal, Greater}
 use Rattle.calculus.specs.Order.{up_to, byte_cmp}
 use Rattle.calculus.proofs.Ordered.{equal, up_to_total, up_to_both, up_to_trans}
-use Rattle.term_sort.proofs.Keys.{put_in, sort_in, Below, Up, put-none, put-front, put-further, sort-none, sort-cons, up-sort, arranged-sort}
+use Rattle.code_order.proofs.Keys.{put_in, sort_in, Below, Up, put-none, put-front, put-further, sort-none, sort-cons, up-sort, arranged-sort}
 use Rattle.coll_ops.specs.Keys.{same, has_key, last_each, once_each}
 use Rattle.coll_ops.specs.Merging.{low as lower, high as higher, put_last as puts_last, put_all as puts_all}
 

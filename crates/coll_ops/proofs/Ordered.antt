@@ -9,8 +9,8 @@ use Rattle.calculus.specs.Normal.{ascending, arranged_by, made_node}
 use Rattle.calculus.specs.Operators.{of_set, of_map}
 use Rattle.calculus.proofs.Placing.{listed-trees}
 use Rattle.rho_term.specs.Parts.{pair_tree}
-use Rattle.term_sort.proofs.Keys.{sort_in, Up, up-sort, arranged-sort}
-use Rattle.term_sort.proofs.Made.{ascending-sort, map-arranged}
+use Rattle.code_order.proofs.Keys.{sort_in, Up, up-sort, arranged-sort}
+use Rattle.code_order.proofs.Made.{ascending-sort, map-arranged}
 use Rattle.value_ops.specs.Answers.{IsOperand}
 use Rattle.coll_ops.specs.Keys.{last_each, once_each}
 use Rattle.coll_ops.proofs.Merging.{kept-sort, sorted-up}

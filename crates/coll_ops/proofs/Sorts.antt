@@ -3,7 +3,7 @@ use Rattle.std.proofs.Common.{◌≡◌, ℕ, Bool, true, false, cond, ◌||◌,
 use Rattle.std.specs.Prelude.{⊤}
 use Rattle.std.proofs.lemmas.Bool.{cases_Bool, or_parts, or_left}
 use Rattle.calculus.specs.Order.{up_to}
-use Rattle.term_sort.proofs.Keys.{put_in, sort_in, put-none, put-front, put-further, sort-none, sort-cons}
+use Rattle.code_order.proofs.Keys.{put_in, sort_in, put-none, put-front, put-further, sort-none, sort-cons}
 use Rattle.coll_ops.specs.Keys.{same, has_key, last_each}
 use Rattle.coll_ops.proofs.Merging.{same-turned, one, has-sort, kept-kept, kept-dropped}
 

@@ -4,7 +4,7 @@ use Rattle.std.specs.Prelude.{⊤}
 use Rattle.std.proofs.lemmas.List.{at_drop_all}
 use Rattle.std.proofs.lemmas.Bool.{cases_Bool, cond-true, cond-false}
 use Rattle.calculus.specs.Order.{up_to}
-use Rattle.term_sort.proofs.Keys.{Below, Up}
+use Rattle.code_order.proofs.Keys.{Below, Up}
 use Rattle.coll_ops.specs.Keys.{same, has_key, once_each}
 use Rattle.coll_ops.specs.Merging.{low, high, starts, put_last, put_all}
 use Rattle.coll_ops.proofs.Merging.{merge, put-joined, merged-once, up-once, Over, over-up, Steady}

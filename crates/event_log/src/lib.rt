@@ -11,6 +11,3 @@ pub use fault::LogFault;
 pub use log::{Log, LogHeader, LogStep, MOST_DATA, MOST_STEPS};
 pub use read::read_log;
 pub use write::write_log;
-
-#[cfg(test)]
-mod tests;

@@ -9,7 +9,7 @@ use Rattle.calculus.specs.Log.{Step}
 use Rattle.calculus.specs.Rows.{Row}
 use Rattle.calculus.specs.Steps.{meeting}
 use Rattle.events.specs.Events.{with_operation, takes_part, Event}
-use Rattle.events.specs.Examples.{no_prices, core, the_step, no_work, EventExamples}
+use Rattle.events.specs.Examples.{no_prices, core, the_step, no_work, EventExamples, SpendingExamples}
 
 no-longer : (before after : List Row) (q : Row) → [] ≡ before ++ q ∷ after → ⊥
 no-longer [] after q e = cc e
@@ -47,3 +47,7 @@ event_examples =
       lonely_datum = inl (record { operation = datum (1 ∷ []) 5; before = []; after = []; pending = refl; alone = λ s k. candidates_suffice (with_operation [] (datum (1 ∷ []) 5)) [] refl s; is = refl });
       not_lonely = never;
     }
+
+pub spending_examples : SpendingExamples
+unfolding hashing
+spending_examples = record { both = refl; datum_alone = refl; receiver_alone = refl; persistent_datum = refl; nothing = refl }

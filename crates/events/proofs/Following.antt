@@ -10,14 +10,14 @@ use Rattle.calculus.specs.Rows.{Row, stdout, stdout_ack}
 use Rattle.calculus.specs.Steps.{Bag, Meeting, standing, stored_rows, is_one_of, same_meeting, stays, all_persistent, right_repeat, meeting, but_places, bag_after}
 use Rattle.calculus.specs.Runs.{State, Leads}
 use Rattle.calculus.proofs.Candidates.{Member}
-use Rattle.events.specs.Events.{Core, stored, with_operation, takes_part, first_ids, AreFresh}
+use Rattle.events.specs.Events.{Core, stored, with_operation, takes_part, first_ids, AreFresh, digests}
 use Rattle.events.proofs.Counts.{ids, times, AreDistinct, differ-distinct, member-times, times-one_of}
 use Rattle.events.proofs.Meetings.{Joined, place_in, meeting_at, MadeBy, made_by, makes}
 use Rattle.events.specs.Found.{without, leaving_rows}
 use Rattle.events.proofs.Leaving.{places-leave}
 use Rattle.events.specs.Orders.{Moved}
 use Rattle.events.proofs.Orders.{moved_so, member-moved, times-moved}
-use Rattle.events.proofs.Standing.{built_ins, digests, ids-times, standing-times, member-split, member-left, member-right, no-more, each-there, left-there}
+use Rattle.events.proofs.Standing.{built_ins, ids-times, standing-times, member-split, member-left, member-right, no-more, each-there, left-there}
 
 pub append_nothing : {A : Type 0} (l : List A) → l ++ [] ≡ l
 append_nothing [] = refl

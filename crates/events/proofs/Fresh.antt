@@ -1,13 +1,15 @@
 -- Ids under fresh digests.
-use Rattle.std.proofs.Common.{◌≤◌, ℕ, List, [], ◌∷◌, ◌++◌, sym, arith}
+use Rattle.std.proofs.Common.{◌≡◌, ◌≤◌, ℕ, true, List, [], ◌∷◌, ◌++◌, sym, arith}
 use Rattle.std.specs.Prelude.{map as each, flat_map}
 use Rattle.calculus.specs.Rows.{Row}
 use Rattle.calculus.specs.Unfolding.{rows_of, digest}
 use Rattle.calculus.specs.Runs.{Work, work_things}
-use Rattle.events.specs.Events.{first_ids}
-use Rattle.events.specs.Laws.{IdsAreOfferedOnce}
+use Rattle.calculus.specs.Steps.{differ}
+use Rattle.calculus.specs.Runs.{made_digests}
+use Rattle.events.specs.Events.{first_ids, digests, built_in_names, built_in_digests}
+use Rattle.events.specs.Laws.{IdsAreOfferedOnce, FreshDigestsAreFresh}
 use Rattle.events.proofs.Counts.{ids, times, differ-distinct, distinct-differ, times-append}
-use Rattle.events.proofs.Standing.{digests, ids-times, rows-times}
+use Rattle.events.proofs.Standing.{ids-times, rows-times}
 use Rattle.events.proofs.Following.{append_nothing}
 
 -- the rows that these works offer
@@ -27,3 +29,13 @@ ids_are_offered_once p cap rows t source ss a l f =
       times-append x (first_ids rows) (digests a.works),
       offered-times x a.works,
     ))
+
+-- fewer digests, none of which stands oftener, differ where more do
+pub fewer-differ : (xs ys : List (List ℕ)) → ((x : List ℕ) → times x xs ≤ times x ys) → differ ys ≡ true → differ xs ≡ true
+fewer-differ xs ys h e = distinct-differ xs (λ x. omega (arith, h x, differ-distinct ys e x))
+
+pub fresh_digests_are_fresh : FreshDigestsAreFresh
+fresh_digests_are_fresh p cap t source ss f first rest e a l =
+    fewer-differ (first_ids [] ++ made_digests a) (built_in_digests ++ made_digests a)
+    (λ x. omega (arith, times-append x (first_ids []) (made_digests a), times-append x built_in_digests (made_digests a), times-append x (first_ids []) built_in_names))
+    (f first rest e a l)

@@ -9,7 +9,7 @@ use Rattle.calculus.specs.Unfolding.{rows_of, digest}
 use Rattle.calculus.specs.Steps.{Bag, Meeting, standing, stored_rows, is_one_of, meeting, bag_after, right_repeat}
 use Rattle.calculus.specs.Runs.{Work, work_things, moved, begun, body_work}
 use Rattle.calculus.proofs.Candidates.{Member}
-use Rattle.events.specs.Events.{Core, started, stored, with_operation, Puts, Meets, Events, no_event, one_more, first_ids, AreFresh}
+use Rattle.events.specs.Events.{Core, started, stored, with_operation, Puts, Meets, Events, no_event, one_more, first_ids, AreFresh, digests}
 use Rattle.events.specs.Laws.{Begins, EventsAreLegal}
 use Rattle.events.proofs.Counts.{ids, times, AreDistinct, member-times, one_of-times, times-append}
 use Rattle.events.proofs.Meetings.{Joined, meeting_at, MadeBy, made_by, makes}
@@ -19,7 +19,7 @@ use Rattle.events.specs.Orders.{Moved, join}
 use Rattle.events.proofs.Orders.{unmoved, moved_after, moved_before, over, times-moved, without-moved}
 use Rattle.events.proofs.Legal.{leads-none, leads-more}
 use Rattle.events.proofs.Changed.{all-leaving-times, among-times, rest-moved}
-use Rattle.events.proofs.Standing.{built_ins, digests, ids-times, standing-times, each-there, left-times, none-leaves, rows-times, digests-more}
+use Rattle.events.proofs.Standing.{built_ins, ids-times, standing-times, each-there, left-times, none-leaves, rows-times, digests-more}
 use Rattle.events.proofs.Following.{Kept, all-distinct, bag-distinct, state-distinct, store-distinct, operation-distinct, operation-there, quiet-put, quiet-step, bag-left}
 
 module _ (p : Prices) (cap : ℕ) (rows : List Row) (t : Tree) (source : List ℕ) where
@@ -43,8 +43,8 @@ module _ (p : Prices) (cap : ℕ) (rows : List Row) (t : Tree) (source : List �
   }
 
   -- first steps of fresh steps are fresh
-  pub fresh-first : (ss : List Step) (s : Step) → AreFresh p cap rows t source (ss ++ s ∷ []) → AreFresh p cap rows t source ss
-  fresh-first ss s f first rest e a l = f first (rest ++ s ∷ []) (ap (λ us. us ++ s ∷ []) e ∙ append_assoc first rest (s ∷ [])) a l
+  pub fresh-first : (ss us : List Step) → AreFresh p cap rows t source (ss ++ us) → AreFresh p cap rows t source ss
+  fresh-first ss us f first rest e a l = f first (rest ++ us) (ap (λ x. x ++ us) e ∙ append_assoc first rest us) a l
 
   -- a put changes the order of the rows alone
   pub put-moved : (c d : Core) (e : Puts c d) → Moved (c.store ++ c.pending) ((c.store ++ e.operation ∷ []) ++ (e.before ++ e.after))
@@ -187,7 +187,7 @@ module _ (p : Prices) (cap : ℕ) (rows : List Row) (t : Tree) (source : List �
       kept-put d e g (kept-all w d b es g) put
   kept-all w e b (one_more {d} es (inr step)) f =
       let same : e.made ≡ d.made ++ step.step ∷ [] = ap (λ x. x.made) step.is in
-      let g : AreFresh p cap rows t source d.made = fresh-first d.made step.step (subst (AreFresh p cap rows t source) same f) in
+      let g : AreFresh p cap rows t source d.made = fresh-first d.made (step.step ∷ []) (subst (AreFresh p cap rows t source) same f) in
       kept-step d e g (kept-all w d b es g) step
 
 -- the steps of events are a legal list

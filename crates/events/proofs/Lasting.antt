@@ -1,5 +1,5 @@
 -- Rows that last, and which rows a meeting takes away.
-use Rattle.std.proofs.Common.{◌≡◌, Bool, true, false, ◌&&◌, ◌||◌, cond, List, [], ◌∷◌, ◌++◌, refl, ap, sym, ◌∙◌, subst, inl}
+use Rattle.std.proofs.Common.{◌≡◌, Bool, true, false, ◌&&◌, ◌||◌, cond, List, [], ◌∷◌, ◌++◌, refl, ap, sym, ◌∙◌, subst, inl, inr}
 use Rattle.std.specs.Prelude.{Option, Some, None, option_and_then}
 use Rattle.calculus.specs.declared.plain.Kind.{Kind}
 use Rattle.calculus.specs.declared.plain.Kind.TheVariants.{Linear, Persistent, Peek}
@@ -9,6 +9,7 @@ use Rattle.calculus.specs.Matching.{Bindings}
 use Rattle.calculus.specs.Steps.{Receiver, Datum, as_receiver, as_datum, all_taken, stays, peeks, all_persistent}
 use Rattle.calculus.proofs.Candidates.{Member, Every}
 use Rattle.events.specs.Found.{leaving_rows, leaving_facts}
+use Rattle.events.proofs.Standing.{built_ins}
 use Rattle.events.proofs.Meetings.{Joined, as_facts, join}
 
 -- whether a part is a receiver that stays, or none
@@ -24,6 +25,12 @@ persistent_if (Some d) = d.persistent
 -- a row lasts that no meeting takes away
 abbrev pub lasts : Row → Bool
 lasts r = stays_if (as_receiver r.part) && persistent_if (as_datum r.part)
+
+-- the built-in receivers last
+pub built-lasts : (z : Row) → Member z built_ins → lasts z ≡ true
+built-lasts z (inl g) = ap lasts g
+built-lasts z (inr (inl g)) = ap lasts g
+built-lasts z (inr (inr m)) = absurd m
 
 -- a meeting takes nothing away
 abbrev pub takes_none : Joined → Bool
@@ -48,7 +55,7 @@ datum-lasts : (r : Row) (d : Datum) → as_datum r.part ≡ Some d → lasts r �
 datum-lasts r d e = ap (λ o. stays_if o && persistent_if (as_datum r.part)) (datum-no-receiver r.part d e) ∙ ap persistent_if e
 
 -- the data of rows, one by one
-facts-cons : (r : Row) (rs : List Row) (ds : List Datum) → as_facts (r ∷ rs) ≡ Some ds → (d : Datum) × (es : List Datum) × (as_datum r.part ≡ Some d) × (as_facts rs ≡ Some es) × (ds ≡ d ∷ es)
+pub facts-cons : (r : Row) (rs : List Row) (ds : List Datum) → as_facts (r ∷ rs) ≡ Some ds → (d : Datum) × (es : List Datum) × (as_datum r.part ≡ Some d) × (as_facts rs ≡ Some es) × (ds ≡ d ∷ es)
 facts-cons r rs ds e = go (as_datum r.part) refl (as_facts rs) refl e
   where
     go : (o : Option Datum) → as_datum r.part ≡ o → (os : Option (List Datum)) → as_facts rs ≡ os

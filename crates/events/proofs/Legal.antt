@@ -1,22 +1,17 @@
--- A list of steps with one more at its end.
-use Rattle.std.proofs.Common.{◌≡◌, ◌≤◌, ℕ, ◌+◌, List, [], ◌∷◌, ◌++◌, refl, ap, sym, ◌∙◌, arith}
+-- Lists of steps with one more at their end, or cut in two.
+use Rattle.std.proofs.Common.{◌≡◌, ℕ, ◌+◌, List, [], ◌∷◌, ◌++◌, refl, ap, sym, ◌∙◌, subst, arith}
 use Rattle.std.specs.Prelude.{Option, Some, None, option_map, option_and_then}
 use Rattle.calculus.specs.Tree.{Tree}
 use Rattle.calculus.specs.Outcome.{Prices}
-use Rattle.calculus.specs.Seeds.{digest_of, Start, Comm}
+use Rattle.calculus.specs.Seeds.{digest_of, Start}
 use Rattle.calculus.specs.Log.{Step}
 use Rattle.calculus.specs.Rows.{Row}
 use Rattle.calculus.specs.Root.{root}
-use Rattle.calculus.specs.Unfolding.{unfold_in, Unfolds}
+use Rattle.calculus.specs.Unfolding.{Unfolds}
 use Rattle.calculus.specs.Steps.{Meeting, meeting}
 use Rattle.calculus.specs.Runs.{Work, State, body_work, moved, step_from, steps_from, begun, first_state, state_after, Leads}
-use Rattle.calculus.proofs.Room.{capped_more, under_more, unfold_more}
-use Rattle.calculus.proofs.States.{room_keeps_state}
-
--- more room leaves the work of a step's body as it is
-pub body_keeps : (p : Prices) (cap n m : ℕ) → n ≤ m → (s : Step) (f : Meeting) (w : Work) → body_work p cap n s f ≡ Some w → body_work p cap m s f ≡ Some w
-body_keeps p cap n m h s f w k =
-    capped_more cap _ _ w (under_more (unfold_in p n) (unfold_in p m) (unfold_more p n m h) (digest_of (Comm s.receiver s.data_ids s.repeat)) f.bindings f.receiver.body) k
+use Rattle.calculus.proofs.Candidates.{and_then-inv}
+use Rattle.calculus.proofs.States.{body_keeps, room_keeps_state}
 
 steps-append : (p : Prices) (cap room : ℕ) (a b : State) (ss : List Step) (s : Step) → steps_from p cap room a ss ≡ Some b → steps_from p cap room a (ss ++ s ∷ []) ≡ steps_from p cap room b (s ∷ [])
 steps-append p cap room a b [] s e =
@@ -50,3 +45,23 @@ leads-more p cap rows t source ss a s f room w h e k = (h.0 + room, go (first_st
     go : (o : Option State) → first_state p cap (h.0 + room) rows t source ≡ o → option_and_then (λ b. steps_from p cap (h.0 + room) b (ss ++ s ∷ [])) o ≡ Some (moved a s f w)
     go None d = cc (before, ap (λ o. option_and_then (λ b. steps_from p cap (h.0 + room) b ss) o) d)
     go (Some b) d = steps-append p cap (h.0 + room) b a ss s (sym (ap (λ o. option_and_then (λ x. steps_from p cap (h.0 + room) x ss) o) d) ∙ before) ∙ last
+
+steps-split : (p : Prices) (cap room : ℕ) (xs ys : List Step) (a b c : State) → steps_from p cap room a xs ≡ Some b → steps_from p cap room a (xs ++ ys) ≡ Some c → steps_from p cap room b ys ≡ Some c
+steps-split p cap room [] ys a b c e f = let same : a ≡ b = cc e in subst (λ z. steps_from p cap room z ys ≡ Some c) same f
+steps-split p cap room (x ∷ xs) ys a b c e f =
+    let i = and_then-inv (step_from p cap room a x) (λ d. steps_from p cap room d xs) b e in
+    let j = and_then-inv (step_from p cap room a x) (λ d. steps_from p cap room d (xs ++ ys)) c f in
+    let same : j.0 ≡ i.0 = cc (i.1, j.1) in
+    steps-split p cap room xs ys i.0 b c i.2 (subst (λ z. steps_from p cap room z (xs ++ ys) ≡ Some c) same j.2)
+
+-- from where the first steps lead, the others lead to where all do
+pub leads-rest : (p : Prices) (cap : ℕ) (rows : List Row) (t : Tree) (source : List ℕ) (xs ys : List Step) (b c : State) → Leads p cap rows t source xs b → Leads p cap rows t source (xs ++ ys) c
+    → (room : ℕ) × (steps_from p cap room b ys ≡ Some c)
+leads-rest p cap rows t source xs ys b c k l =
+    let room : ℕ = l.0 + k.0 in
+    let whole : state_after p cap room rows t source (xs ++ ys) ≡ Some c = room_keeps_state p cap l.0 room rows t source (xs ++ ys) c (omega arith) l.1 in
+    let part : state_after p cap room rows t source xs ≡ Some b = room_keeps_state p cap k.0 room rows t source xs b (omega arith) k.1 in
+    let i = and_then-inv (first_state p cap room rows t source) (λ d. steps_from p cap room d (xs ++ ys)) c whole in
+    let j = and_then-inv (first_state p cap room rows t source) (λ d. steps_from p cap room d xs) b part in
+    let same : i.0 ≡ j.0 = cc (i.1, j.1) in
+    (room, steps-split p cap room xs ys j.0 b c j.2 (subst (λ d. steps_from p cap room d (xs ++ ys) ≡ Some c) same i.2))

@@ -14,3 +14,6 @@ pub mod Making
 pub mod Fresh
 pub mod Computed
 pub mod Ending
+pub mod Accounts
+pub mod Spending
+pub mod Taking

@@ -12,15 +12,15 @@ use Rattle.calculus.specs.Runs.{Work, work_things}
 use Rattle.calculus.specs.Unfolding.{digest}
 use Rattle.calculus.specs.Steps.{Datum, is_one_of, standing, stored_rows, stays, peeks, same_ids, same_meeting}
 use Rattle.calculus.proofs.Candidates.{Member, Every}
-use Rattle.events.specs.Events.{Core, started, with_operation, Puts, Meets, Events, no_event, one_more, first_ids, AreFresh}
+use Rattle.events.specs.Events.{Core, started, with_operation, Puts, Meets, Events, no_event, one_more, first_ids, AreFresh, digests}
 use Rattle.events.specs.Laws.{Begins}
 use Rattle.events.specs.Found.{without, leaving_rows, leaving_facts}
 use Rattle.events.proofs.Counts.{ids, times, one_if, bytes_same, member-times, times-one_of, times-append}
 use Rattle.events.proofs.Lookups.{row_with, rows_with, row_with-there, rows_with-there}
 use Rattle.events.proofs.Meetings.{Joined, MadeBy, join}
-use Rattle.events.proofs.Lasting.{lasts, takes_none, all-last, leaving-fade, one-leaves}
+use Rattle.events.proofs.Lasting.{lasts, built-lasts, takes_none, all-last, leaving-fade, one-leaves}
 use Rattle.events.proofs.Orders.{member-moved, moved_so, times-moved}
-use Rattle.events.proofs.Standing.{built_ins, digests, ids-times, standing-times, from-standing, in-standing, member-split, member-left, member-right, each-there, left-times, rows-times, digests-more}
+use Rattle.events.proofs.Standing.{built_ins, ids-times, standing-times, from-standing, in-standing, member-split, member-left, member-right, each-there, left-times, rows-times, digests-more}
 use Rattle.events.proofs.Following.{Kept, all-distinct, state-distinct, operation-there}
 use Rattle.events.proofs.Keeping.{kept-all, fresh-first, put-moved, how, is_after, after_it, ns, new, after_moved}
 
@@ -49,7 +49,7 @@ facts-met k (r ∷ rs) (d ∷ ds) z m = go (facts-met k rs ds z) (peeks k || d.p
     go next false (inl e) = inl e
     go next false (inr m) = inr (next m)
 
-leaving-met : (k : Kind) (ds : List Datum) (rs : List Row) (z : Row) → Member z (leaving_rows k ds rs) → Member z rs
+pub leaving-met : (k : Kind) (ds : List Datum) (rs : List Row) (z : Row) → Member z (leaving_rows k ds rs) → Member z rs
 leaving-met k ds [] z m = m
 leaving-met k ds (r ∷ rs) z m = go (stays k) m
   where
@@ -67,7 +67,7 @@ still-there ms (r ∷ rs) z e (inr m) = go (is_one_of r.id ms) (still-there ms r
     go true k = k
     go false k = inr k
 
-none-left : (ms : List (List ℕ)) (rs : List Row) (x : List ℕ) → is_one_of x ms ≡ true → times x (ids (without ms rs)) ≡ 0
+pub none-left : (ms : List (List ℕ)) (rs : List Row) (x : List ℕ) → is_one_of x ms ≡ true → times x (ids (without ms rs)) ≡ 0
 none-left ms [] x e = refl
 none-left ms (r ∷ rs) x e = go (is_one_of r.id ms) refl (none-left ms rs x e)
   where
@@ -194,11 +194,6 @@ module _ (p : Prices) (cap : ℕ) (rows : List Row) (t : Tree) (source : List �
       none = l.none;
     })
 
-    built-lasts : (z : Row) → Member z built_ins → lasts z ≡ true
-    built-lasts z (inl g) = ap lasts g
-    built-lasts z (inr (inl g)) = ap lasts g
-    built-lasts z (inr (inr m)) = absurd m
-
     -- the row stands in the core
     in-core : (z : Row) → Member z (standing k.state.bag) → Member z ((c.store ++ c.pending) ++ built_ins)
     in-core z m = go (from-standing k.state.bag z m)
@@ -253,7 +248,7 @@ module _ (p : Prices) (cap : ℕ) (rows : List Row) (t : Tree) (source : List �
       let g : AreFresh p cap rows t source d.made = subst (AreFresh p cap rows t source) (ap (λ x. x.made) put.is) f in
       past-put d e put (all-past w d b es g)
   all-past w e b (one_more {d} es (inr step)) f =
-      let g : AreFresh p cap rows t source d.made = fresh-first p cap rows t source d.made step.step (subst (AreFresh p cap rows t source) (ap (λ x. x.made) step.is) f) in
+      let g : AreFresh p cap rows t source d.made = fresh-first p cap rows t source d.made (step.step ∷ []) (subst (AreFresh p cap rows t source) (ap (λ x. x.made) step.is) f) in
       past-step d e g (kept-all p cap rows t source w d b es g) step (all-past w d b es g)
 
   -- a step of rows that are there, which takes one away, was not made before

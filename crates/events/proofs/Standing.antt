@@ -1,6 +1,6 @@
 -- What stands in a bag: its stored rows and the built-in receivers.
 use Rattle.std.proofs.Common.{◌≡◌, ◌≤◌, ℕ, ◌+◌, Bool, true, false, cond, List, [], ◌∷◌, ◌++◌, map as each, refl, ap, ◌∙◌, arith, inl, inr}
-use Rattle.std.specs.Prelude.{◌⊎◌, flat_map}
+use Rattle.std.specs.Prelude.{◌⊎◌}
 use Rattle.std.specs.Str.{bytes_eq}
 use Rattle.calculus.specs.Rows.{Row, stdout, stdout_ack}
 use Rattle.calculus.specs.Steps.{Bag, is_one_of, standing, stored_rows}
@@ -8,15 +8,12 @@ use Rattle.calculus.specs.Unfolding.{Thing, a_row, a_fresh, rows_of, digest}
 use Rattle.calculus.specs.Runs.{Work, work_things}
 use Rattle.calculus.proofs.Candidates.{Member, Every}
 use Rattle.events.proofs.Counts.{ids, times, one_if, times-append, ids-append}
+use Rattle.events.specs.Events.{digests}
 use Rattle.events.specs.Found.{without}
 
 -- the built-in receivers
 abbrev pub built_ins : List Row
 built_ins = stdout ∷ stdout_ack ∷ []
-
--- the ids and names that these works make
-abbrev pub digests : List Work → List (List ℕ)
-digests ws = flat_map (λ w. each digest (work_things w)) ws
 
 pub ids-times : (x : List ℕ) (rs qs : List Row) → times x (ids (rs ++ qs)) ≡ times x (ids rs) + times x (ids qs)
 ids-times x rs qs = ap (times x) (ids-append rs qs) ∙ times-append x (ids rs) (ids qs)

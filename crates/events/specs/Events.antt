@@ -1,10 +1,11 @@
 -- Events of the core: a worker takes one pending operation, and either stores it or makes a step with it.
-use Rattle.std.specs.Prelude.{◌≡◌, ℕ, Bool, true, List, [], ◌∷◌, ◌++◌, map as each, Some, None, ◌⊎◌}
+use Rattle.std.specs.Prelude.{◌≡◌, ℕ, Bool, true, List, [], ◌∷◌, ◌++◌, map as each, flat_map, Some, None, ◌⊎◌}
 use Rattle.calculus.specs.Tree.{Tree}
 use Rattle.calculus.specs.Outcome.{Prices}
 use Rattle.calculus.specs.Log.{Step}
+use Rattle.calculus.specs.Seeds.{digest_of, System}
 use Rattle.calculus.specs.Rows.{Row, stdout, stdout_ack}
-use Rattle.calculus.specs.Unfolding.{rows_of}
+use Rattle.calculus.specs.Unfolding.{rows_of, digest}
 use Rattle.calculus.specs.Steps.{Bag, Meeting, is_one_of, differ, meeting, bag_after}
 use Rattle.calculus.specs.Runs.{Work, work_things, body_work, Leads, made_digests}
 
@@ -82,3 +83,20 @@ first_ids rows = each (λ r. r.id) (rows ++ (stdout ∷ stdout_ack ∷ []))
 abbrev pub AreFresh : Prices → ℕ → List Row → Tree → List ℕ → List Step → Type 0
 AreFresh p cap rows t source ss = (first rest : List Step) → ss ≡ first ++ rest
     → (a : _) → Leads p cap rows t source first a → differ (first_ids rows ++ made_digests a) ≡ true
+
+-- the ids and fresh names that these works made
+abbrev pub digests : List Work → List (List ℕ)
+digests ws = flat_map (λ w. each digest (work_things w)) ws
+
+-- the fresh names of the built-in receivers' channels
+abbrev pub built_in_names : List (List ℕ)
+built_in_names = digest_of (System 0) ∷ digest_of (System 1) ∷ []
+
+-- the ids of the built-in receivers, and the names of their channels
+abbrev pub built_in_digests : List (List ℕ)
+built_in_digests = first_ids [] ++ built_in_names
+
+-- the digests that a deploy from the empty state makes are fresh: wherever its first steps lead, no two of these are equal: the built-in receivers' ids and their channels' names, and the ids and names made so far
+abbrev pub FreshDigests : Prices → ℕ → Tree → List ℕ → List Step → Type 0
+FreshDigests p cap t source ss = (first rest : List Step) → ss ≡ first ++ rest
+    → (a : _) → Leads p cap [] t source first a → differ (built_in_digests ++ made_digests a) ≡ true

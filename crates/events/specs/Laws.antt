@@ -1,5 +1,5 @@
 -- What a list of events comes to.
-use Rattle.std.specs.Prelude.{◌≡◌, ◌≢◌, ◌⊎◌, ℕ, true, false, List, [], ◌∷◌, ◌++◌, map, flat_map, Some, None}
+use Rattle.std.specs.Prelude.{◌≡◌, ◌≢◌, ◌⊎◌, ℕ, true, false, List, [], ◌∷◌, ◌++◌, map, flat_map, Some, None, All}
 use Rattle.calculus.specs.Tree.{Tree}
 use Rattle.calculus.specs.Outcome.{Prices}
 use Rattle.calculus.specs.Log.{Step}
@@ -7,11 +7,12 @@ use Rattle.calculus.specs.Seeds.{digest_of, Start}
 use Rattle.calculus.specs.Rows.{Row}
 use Rattle.calculus.specs.Root.{root}
 use Rattle.calculus.specs.Unfolding.{rows_of, Unfolds}
-use Rattle.calculus.specs.Steps.{Meeting, differ, meeting, stored_rows}
-use Rattle.calculus.specs.Runs.{Work, work_things, State, body_work, Leads, done, verdict, IsRun}
+use Rattle.calculus.specs.Steps.{Receiver, Datum, Meeting, is_one_of, differ, meeting, standing, stored_rows, as_receiver, as_datum, stays, peeks}
+use Rattle.calculus.specs.Runs.{Work, work_things, State, body_work, Leads, IsLegal, done, verdict, IsRun}
 use Rattle.events.specs.Orders.{Moved}
-use Rattle.events.specs.Events.{Core, started, stored, after_put, Event, Events, first_ids, AreFresh}
+use Rattle.events.specs.Events.{Core, started, stored, after_put, Event, Events, first_ids, AreFresh, FreshDigests}
 use Rattle.events.specs.Found.{met, Among, AreAtHand, is_lasting, after_meeting, step_of}
+use Rattle.events.specs.Spending.{spent_ids, IsSpentBy}
 
 -- the steps of a core lead to a state whose rows are those stored and pending, and no step is allowed among the stored ones
 pub record Follows (p : Prices) (cap : ℕ) (rows : List Row) (t : Tree) (source : List ℕ) (c : Core) : Type 0 where
@@ -59,3 +60,27 @@ abbrev pub IdsAreOfferedOnce : Type 0
 IdsAreOfferedOnce = (p : Prices) (cap : ℕ) (rows : List Row) (t : Tree) (source : List ℕ) (ss : List Step) (a : State)
     → Leads p cap rows t source ss a → AreFresh p cap rows t source ss
     → differ (first_ids rows ++ map (λ r. r.id) (flat_map (λ w. rows_of (work_things w)) a.works)) ≡ true
+
+-- where ids, names and those of what is built in are fresh, the ids and names alone are
+abbrev pub FreshDigestsAreFresh : Type 0
+FreshDigestsAreFresh = (p : Prices) (cap : ℕ) (t : Tree) (source : List ℕ) (ss : List Step) → FreshDigests p cap t source ss → AreFresh p cap [] t source ss
+
+-- what a step of a legal list spends is named by no later step, under fresh digests
+abbrev pub SpentIdsAreGone : Type 0
+SpentIdsAreGone = (p : Prices) (cap : ℕ) (rows : List Row) (t : Tree) (source : List ℕ) (before after : List Step) (s : Step) (id : List ℕ)
+    → IsLegal p cap rows t source (before ++ s ∷ after) → AreFresh p cap rows t source (before ++ s ∷ after)
+    → IsSpentBy p cap rows t source before s id → All (λ u. is_one_of id (u.receiver ∷ u.data_ids) ≡ false) after
+
+-- so no id is spent by two steps of a legal list, under fresh digests
+abbrev pub IdsAreSpentOnce : Type 0
+IdsAreSpentOnce = (p : Prices) (cap : ℕ) (rows : List Row) (t : Tree) (source : List ℕ) (before between after : List Step) (s u : Step) (id : List ℕ)
+    → IsLegal p cap rows t source (before ++ s ∷ (between ++ u ∷ after)) → AreFresh p cap rows t source (before ++ s ∷ (between ++ u ∷ after))
+    → IsSpentBy p cap rows t source before s id → IsSpentBy p cap rows t source (before ++ s ∷ between) u id → ⊥
+
+-- which rows these are, under fresh digests: a step spends the id of a row at hand that is its receiver, linear or peeking, and of one that is a linear datum, where its receiver does not peek
+abbrev pub TakenRowsAreSpent : Type 0
+TakenRowsAreSpent = (p : Prices) (cap : ℕ) (rows : List Row) (t : Tree) (source : List ℕ) (ss : List Step) (a : State)
+    → Leads p cap rows t source ss a → AreFresh p cap rows t source ss
+    → (s : Step) (m : Meeting) → meeting a.bag a.made s ≡ Some m → (r : Row) → Among r (standing a.bag)
+    → ((c : Receiver) → as_receiver r.part ≡ Some c → stays c.kind ≡ false → s.receiver ≡ r.id → is_one_of r.id (spent_ids s m) ≡ true)
+    × ((d : Datum) → as_datum r.part ≡ Some d → d.persistent ≡ false → is_one_of r.id s.data_ids ≡ true → peeks m.receiver.kind ≡ false → is_one_of r.id (spent_ids s m) ≡ true)

@@ -1,5 +1,6 @@
 pub mod Orders
 pub mod Events
 pub mod Found
+pub mod Spending
 pub mod Laws
 pub mod Examples

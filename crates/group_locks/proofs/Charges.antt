@@ -14,7 +14,7 @@ use Rattle.group_locks.specs.declared.view.Tally.{Tally}
 use Rattle.group_locks.specs.declared.terms.Terms.{Terms}
 use Rattle.group_locks.specs.Counts.{one_if, things_of, Each}
 use Rattle.group_locks.specs.Meaning.{Meaning}
-use Rattle.group_locks.specs.Rule.{with_tally, cost, ChargeRule, StopRule, FaultIn, HubRule, pays, saw_over, saw_low, saw_stop, Paid, ReadCharged, ReadStop, Stopped}
+use Rattle.group_locks.specs.Rule.{with_tally, cost, ChargeRule, StopRule, FaultIn, HubRule, pays, saw_over, saw_low, saw_stopped, Paid, ReadCharged, ReadStop, Stopped}
 use Rattle.group_locks.proofs.Sums.{total_le, total_times, total_both}
 use Rattle.group_locks.proofs.Ends.{empty_list}
 use Rattle.group_locks.proofs.Tallies.{charges_set, charges_stay, stops_set, stops_stay, tally_step}
@@ -99,11 +99,11 @@ module _ {Store E X W : Type 0} (m : Meaning Store E X W) where
   found a n k before some_found = dite (ℕ_discrete n k) (λ e. e) (λ ne. let z : one_if (eqb n k) ≡ 0 = ap one_if (ne_eqb n k ne) in before (omega arith))
 
   -- a tally that says what the stop word is now
-  stop_told : (opened : List X × List W) (terms : Terms) (s : State (Slot X W) (View E X W)) (n id : ℕ) (v : View E X W) (c : List (ℕ × Slot X W)) → get_elem? s.views id ≡ some v → (b : HubRule m opened terms s)
+  stop_told : (opened : List X × List W) (terms : Terms) (s : State (Slot X W) (View E X W)) (r n id : ℕ) (v : View E X W) (c : List (ℕ × Slot X W)) → get_elem? s.views id ≡ some v → (b : HubRule m opened terms s)
       → ((n ≡ 0) ⊎ ((n ≡ 1) ⊎ ((n ≡ 2) × FaultIn m.faults (things_of b.log)))) → (0 < get_or s.words 66 0 → n ≡ get_or s.words 66 0)
-      → HubRule m opened terms (stepped s 66 n id c (with_tally v (saw_stop v.tally n)) keeps)
-  stop_told opened terms s n id v c at b cause once =
-      let t : Tally E = saw_stop v.tally n in
+      → HubRule m opened terms (stepped s 66 n id c (with_tally v (saw_stopped v.tally r n)) keeps)
+  stop_told opened terms s r n id v c at b cause once =
+      let t : Tally E = saw_stopped v.tally r n in
       let w : View E X W = with_tally v t in
       let here : get_or (set s.words 66 n) 66 0 ≡ n = get_or-set_same s.words 66 n 0 (let q = b.wide in omega arith) in
       let Q : ℕ → Type 0 = λ j. StopRule m.faults (things_of b.log) j (set s.views id w) in
@@ -116,7 +116,7 @@ module _ {Store E X W : Type 0} (m : Meaning Store E X W) where
   pub read_stop : (opened : List X × List W) (terms : Terms) (slots id : ℕ) (v : View E X W) (c : List (ℕ × Slot X W)) → Allows (HubRule m opened terms) slots id (v, c) 66 (λ k. k) (ReadStop (step slots 66 0 0 none) (v, c))
   read_stop opened terms slots id v c s b len at fits =
       let k : ℕ = get_or s.words 66 0 in
-      (with_tally v (saw_stop v.tally k), keeps, tt, stop_told opened terms s k id v c at b b.stops.cause (λ _. refl), (at_most_two m.faults (things_of b.log) k b.stops.cause, refl))
+      (with_tally v (saw_stopped v.tally k k), keeps, tt, stop_told opened terms s k k id v c at b b.stops.cause (λ _. refl), (at_most_two m.faults (things_of b.log) k b.stops.cause, refl))
 
   each_at : (P : ℕ → E → Type 0) (es : List (ℕ × E)) (k : ℕ) (p : ℕ × E) → Each P es → slice_get es k ≡ Some p → P p.0 p.1
   each_at P [] k p h e = absurd (let q : None ≡ Some p = e in cc)
@@ -134,11 +134,11 @@ module _ {Store E X W : Type 0} (m : Meaning Store E X W) where
       let cause : (n ≡ 0) ⊎ ((n ≡ 1) ⊎ ((n ≡ 2) × FaultIn m.faults (things_of b.log))) = ⊎_elim (λ o. inr (inl o))
       (λ t. inr (inr (t.0, (t.1.1.0, t.1.1.1, each_at (λ i e. get_elem? (things_of b.log) i ≡ some e) v.entries t.1.0 t.1.1 (b.draws.numbers id v at) t.1.2, t.1.3)))) why in
       exchanged k 0 n F
-      (λ free. let here : Me (Slot X W) (View E X W) = (with_tally v (saw_stop v.tally n), c) in
-      let After : Bool → Me (Slot X W) (View E X W) = λ q. (with_tally v (saw_stop v.tally (cond q n k)), c) in
+      (λ free. let here : Me (Slot X W) (View E X W) = (with_tally v (saw_stopped v.tally k n), c) in
+      let After : Bool → Me (Slot X W) (View E X W) = λ q. (with_tally v (saw_stopped v.tally k (cond q n k)), c) in
       let G : Bool → Type 0 = λ q. (k ≤ 2) × (here ≡ After q) in
-      (with_tally v (saw_stop v.tally n), keeps, tt, stop_told opened terms s n id v c at b cause (λ o. absurd (omega arith)), subst G (sym (eq-eqb k 0 free)) (le, refl)))
-      (λ taken. let here : Me (Slot X W) (View E X W) = (with_tally v (saw_stop v.tally k), c) in
-      let After : Bool → Me (Slot X W) (View E X W) = λ q. (with_tally v (saw_stop v.tally (cond q n k)), c) in
+      (with_tally v (saw_stopped v.tally k n), keeps, tt, stop_told opened terms s k n id v c at b cause (λ o. absurd (omega arith)), subst G (sym (eq-eqb k 0 free)) (le, refl)))
+      (λ taken. let here : Me (Slot X W) (View E X W) = (with_tally v (saw_stopped v.tally k k), c) in
+      let After : Bool → Me (Slot X W) (View E X W) = λ q. (with_tally v (saw_stopped v.tally k (cond q n k)), c) in
       let G : Bool → Type 0 = λ q. (k ≤ 2) × (here ≡ After q) in
-      (with_tally v (saw_stop v.tally k), keeps, tt, stop_told opened terms s k id v c at b b.stops.cause (λ _. refl), subst G (sym (ne_eqb k 0 taken)) (le, refl)))
+      (with_tally v (saw_stopped v.tally k k), keeps, tt, stop_told opened terms s k k id v c at b b.stops.cause (λ _. refl), subst G (sym (ne_eqb k 0 taken)) (le, refl)))

@@ -16,4 +16,3 @@ pub mod Draws
 pub mod Seats
 pub mod Opens
 pub mod Ends
-pub mod Numbers

@@ -4,4 +4,3 @@ pub mod Works
 pub mod Rule
 pub mod Stops
 pub mod Seats
-pub mod Numbers

@@ -257,17 +257,21 @@ saw_low t = tally (t.settled ++ t.fresh) [] t.due true (t.low + 1) t.over t.unse
 abbrev pub ReadCharged : {E X W : Type 0} → ℕ → Step (Slot X W) → Me (Slot X W) (View E X W) → ℕ → Me (Slot X W) (View E X W) → Type 0
 ReadCharged limit st a r b = (limit < r → b ≡ (with_tally a.0 (saw_over a.0.tally), a.1)) × (r ≤ limit → b ≡ (with_tally a.0 (saw_low a.0.tally), a.1))
 
+-- this was found in the stop word, which then says that
+abbrev pub saw_stopped : {E : Type 0} → Tally E → ℕ → ℕ → Tally E
+saw_stopped t r n = tally t.settled t.fresh t.due t.leave t.low t.over (t.unset + one_if (r == 0)) (t.no_memory + one_if (n == 1)) (t.fault + one_if (n == 2))
+
 -- this was found in the stop word
 abbrev pub saw_stop : {E : Type 0} → Tally E → ℕ → Tally E
-saw_stop t n = tally t.settled t.fresh t.due t.leave t.low t.over (t.unset + one_if (n == 0)) (t.no_memory + one_if (n == 1)) (t.fault + one_if (n == 2))
+saw_stop t n = saw_stopped t n n
 
 -- the stop word is read
 abbrev pub ReadStop : {E X W : Type 0} → Step (Slot X W) → Me (Slot X W) (View E X W) → ℕ → Me (Slot X W) (View E X W) → Type 0
 ReadStop st a r b = (r ≤ 2) × (b ≡ (with_tally a.0 (saw_stop a.0.tally r), a.1))
 
--- the stop word is set where it was 0, and else stays; what it then is, is known
+-- the stop word is set where it was 0, and else stays; whether it was 0, and what it then is, is known
 abbrev pub Stopped : {E X W : Type 0} → Step (Slot X W) → Me (Slot X W) (View E X W) → ℕ → Me (Slot X W) (View E X W) → Type 0
-Stopped st a r b = (r ≤ 2) × (b ≡ (with_tally a.0 (saw_stop a.0.tally (cond (r == 0) st.second r)), a.1))
+Stopped st a r b = (r ≤ 2) × (b ≡ (with_tally a.0 (saw_stopped a.0.tally r (cond (r == 0) st.second r)), a.1))
 
 -- the words were read some times, and nothing was charged or drawn
 pub record Goes {E : Type 0} (t u : Tally E) : Type 0 where

@@ -2,6 +2,8 @@
 use Rattle.std.specs.Prelude.{◌≡◌, ℕ, ◌+◌, ◌%◌, ◌<◌, ◌≤◌, ◌^◌, true, false, List, [], ◌++◌, vec_len, vec_capacity}
 use Rattle.atomic_table.specs.Seated.{TableId}
 use Rattle.group_locks.specs.declared.state.SeatState.{SeatState}
+use Rattle.group_locks.specs.declared.terms.StopCause.{StopCause}
+use Rattle.group_locks.specs.declared.terms.StopCause.TheVariants.{Fault, NoMemory}
 use Rattle.group_locks.specs.declared.rule.Opened.{Opened}
 use Rattle.group_locks.specs.Counts.{total, all_of}
 use Rattle.group_locks.specs.Rule.{tally}
@@ -93,6 +95,11 @@ module _ {E X W : Type 0} where
   -- how often the seat found the hub to stop for a fault
   abbrev pub faults_of : SeatState E X W → ℕ
   faults_of s = (tally_of s).fault
+
+  -- how often the seat found the hub to stop for this cause
+  abbrev pub found_of : StopCause → SeatState E X W → ℕ
+  found_of NoMemory s = memory_of s
+  found_of Fault s = faults_of s
 
   -- how often the seat found the hub to stop
   abbrev pub stops_of : SeatState E X W → ℕ

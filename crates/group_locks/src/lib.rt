@@ -12,8 +12,6 @@ mod slot;
 mod state;
 mod steps;
 mod terms;
-#[cfg(test)]
-mod tests;
 mod view;
 
 pub use crate::close::Closed;

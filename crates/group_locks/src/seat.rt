@@ -6,7 +6,7 @@ ghost use Rattle.group_locks.specs.Rule.{after_commit, since_after, with_tally, 
 ghost use Rattle.group_locks.specs.Stops.{HasFault};
 ghost use Rattle.group_locks.specs.Meaning.{AllFollow};
 ghost use Rattle.group_locks.specs.Works.{hand};
-ghost use Rattle.group_locks.specs.Seats.{home_of, pile_of, hand_of, taken_by, offered_by, took_by, empty_of, drawn_by, held_by, since_of, tally_of, charged_by, due_of, low_of, over_of, unset_of, stops_of, HasLeave, HasRoom, SameRoom};
+ghost use Rattle.group_locks.specs.Seats.{home_of, pile_of, hand_of, taken_by, offered_by, took_by, empty_of, drawn_by, held_by, since_of, tally_of, charged_by, due_of, low_of, over_of, unset_of, found_of, stops_of, HasLeave, HasRoom, SameRoom};
 
 use crate::desks::{leave_works, look_round, read_pending, ring, tell};
 use crate::hub::Hub;
@@ -198,7 +198,8 @@ impl<S: Scene> Seat<S> {
         pay(&hub.table.shared, &mut self.state.token, n, hub.terms.limit);
     }
 
-    /// Stops the hub, for want of memory or for a faulting entry that this seat drew. The first cause stays.
+    /// Stops the hub, for want of memory or for a faulting entry that this seat drew. The first cause stays: where this call found the stop unset, its own
+    /// cause stands from then on, and else the one that it found.
     pub fn stop(&mut self, hub: &Hub<S>, cause: StopCause)
         requires hub { home_of self.old.state ≡ hub.now.table.shared.table_id }
         requires fault { cause ≡ StopCause.Fault → HasFault S.meaning.faults (drawn_by self.old.state) }
@@ -212,8 +213,16 @@ impl<S: Scene> Seat<S> {
         ensures leave { HasLeave self.old.state → HasLeave self.new.state }
         ensures over { over_of self.new.state ≡ over_of self.old.state }
         ensures stops { stops_of self.new.state ≡ stops_of self.old.state + 1 }
+        ensures cause { ((unset_of self.new.state ≡ unset_of self.old.state + 1) × (found_of cause self.new.state ≡ found_of cause self.old.state + 1)) ⊎ (unset_of self.new.state ≡ unset_of self.old.state) }
     {
         halt(&hub.table.shared, &mut self.state.token, cause);
+    }
+
+    /// The entries that the seat drew, each with its number, in the order in which it drew them.
+    pub fn drawn(&self) -> &[(u64, S::Entry)]
+        ensures { result.now ≡ drawn_by self.now.state }
+    {
+        self.state.entries.as_slice()
     }
 }
 

@@ -2,7 +2,7 @@
 ghost use Rattle.std.specs.Prelude.{◌≡◌, ℕ, true, ◌+◌, ◌<◌, ◌≤◌, ◌^◌, ◌==◌, cond, [], ◌∷◌, ◌++◌, length, None, Some};
 ghost use Rattle.std.specs.Int.{bit_at};
 ghost use Rattle.group_locks.specs.Counts.{count};
-ghost use Rattle.group_locks.specs.Rule.{view, emptied, below, descends, given_back, after_draw, with_tally, pays, saw_low, saw_over, saw_stop, cost, Carries, MayDraw};
+ghost use Rattle.group_locks.specs.Rule.{view, emptied, below, descends, given_back, after_draw, with_tally, pays, saw_low, saw_over, saw_stop, saw_stopped, cost, Carries, MayDraw};
 ghost use Rattle.group_locks.specs.Meaning.{Follows};
 ghost use Rattle.group_locks.specs.Stops.{code_of, HasFault};
 ghost use Rattle.atomic_table.specs.Table.{rest};
@@ -221,7 +221,7 @@ pub fn halt<S: Scene>(board: &Board<S>, token: &mut Token<S>, cause: StopCause) 
     requires fault { cause ≡ StopCause.Fault → HasFault S.meaning.faults token.old.me.0.entries }
     ensures same { (token.new.table_id ≡ token.old.table_id) × (token.new.id ≡ token.old.id) }
     ensures low { result ≤ 2 }
-    ensures found { token.new.me ≡ (with_tally token.old.me.0 (saw_stop token.old.me.0.tally (cond (result == 0) (code_of cause) result)), token.old.me.1) }
+    ensures found { token.new.me ≡ (with_tally token.old.me.0 (saw_stopped token.old.me.0.tally result (cond (result == 0) (code_of cause) result)), token.old.me.1) }
 {
     let found = board.compare_exchange::<Halt>(token, STOP, 0, cause.code());
     ring(board, token, found == 0);

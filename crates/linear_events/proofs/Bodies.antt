@@ -9,10 +9,10 @@ use Rattle.calculus.specs.Form.{term, Scope, Fits, IsClosed}
 use Rattle.calculus.specs.Substitution.{put}
 use Rattle.calculus.specs.Rows.{Row}
 use Rattle.calculus.proofs.Closing.{put_is_closed}
-use Rattle.unfold.specs.Linear.{is_linear}
-use Rattle.unfold.specs.Offers.{IsLinearRow}
-use Rattle.unfold.proofs.Sizes.{one_bind}
-use Rattle.unfold.proofs.Receiving.{received, one-variable}
+use Rattle.linear_unfold.specs.Linear.{is_linear}
+use Rattle.linear_unfold.specs.Offers.{IsLinearRow}
+use Rattle.linear_unfold.proofs.Sizes.{one_bind}
+use Rattle.linear_unfold.proofs.Receiving.{received, one-variable}
 use Rattle.linear_events.specs.Partners.{receives, sends, are_partners, sent, body_of}
 use Rattle.linear_events.specs.Laws.{LinearBodies}
 use Rattle.linear_events.proofs.Parts.{sent_on, Receive, receive-parts, send-parts}

@@ -13,10 +13,10 @@ use Rattle.calculus.specs.Rows.{Row, channels, row_length, system_name, stdout}
 use Rattle.calculus.proofs.CodesAgree.{code_is_congruence}
 use Rattle.events.proofs.Counts.{same_bytes, bytes_same}
 use Rattle.term_encoder.proofs.Lengths.{size-code}
-use Rattle.unfold.specs.Offers.{IsLinearRow}
-use Rattle.unfold.proofs.Names.{digest-fits}
-use Rattle.unfold.proofs.Sizes.{send-length, receive-length}
-use Rattle.unfold.proofs.Receiving.{received, scopes-of}
+use Rattle.linear_unfold.specs.Offers.{IsLinearRow}
+use Rattle.calculus.proofs.Digests.{digest-fits}
+use Rattle.linear_unfold.proofs.Sizes.{send-length, receive-length}
+use Rattle.linear_unfold.proofs.Receiving.{received, scopes-of}
 use Rattle.linear_events.specs.Partners.{receives, sends, channel_of, are_partners, are_coded_partners, prints}
 use Rattle.linear_events.specs.Laws.{ChannelsByCodes}
 use Rattle.linear_events.proofs.Parts.{sent_on, Receive, Send, receive-parts, send-parts}

@@ -11,8 +11,8 @@ use Rattle.calculus.specs.Matching.{Bindings, bind_matches, first_of_all}
 use Rattle.calculus.specs.Rows.{Row, channels, built_bind, system_name, stdout}
 use Rattle.calculus.specs.Steps.{Receiver, Datum, as_datum, taken, all_taken}
 use Rattle.events.proofs.Meetings.{Joined, as_facts, join}
-use Rattle.unfold.specs.Linear.{is_variable}
-use Rattle.unfold.proofs.Receiving.{received}
+use Rattle.linear_unfold.specs.Linear.{is_variable}
+use Rattle.linear_unfold.proofs.Receiving.{received}
 use Rattle.linear_events.specs.Partners.{sends, is_partner, body_of, fact_of, bound_of}
 use Rattle.linear_events.proofs.Parts.{sent_on}
 

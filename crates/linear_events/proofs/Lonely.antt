@@ -10,8 +10,8 @@ use Rattle.calculus.proofs.Candidates.{Member}
 use Rattle.events.specs.Found.{met, Among, AreAtHand}
 use Rattle.events.proofs.Standing.{member-split}
 use Rattle.events.proofs.Making.{among, member, lonely_operations_are_stored}
-use Rattle.unfold.specs.Linear.{is_linear_part}
-use Rattle.unfold.specs.Offers.{IsLinearRow}
+use Rattle.linear_unfold.specs.Linear.{is_linear_part}
+use Rattle.linear_unfold.specs.Offers.{IsLinearRow}
 use Rattle.linear_events.specs.Partners.{receives, sends, channel_of, are_partners, is_partner, prints, IsLinearOrBuilt, IsApart}
 use Rattle.linear_events.specs.Laws.{LonelyLinearOperations}
 use Rattle.linear_events.proofs.Meeting.{lonely-unmet, printed-unmet, unacknowledged-one}

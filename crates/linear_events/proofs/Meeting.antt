@@ -12,10 +12,10 @@ use Rattle.calculus.specs.Steps.{Receiver, Datum, as_receiver, as_datum, all_tak
 use Rattle.events.specs.Found.{met, Among}
 use Rattle.events.proofs.Meetings.{Joined, as_facts, join, meeting_with, meet_rows-of}
 use Rattle.rho_term.specs.Normal.{IsNormal}
-use Rattle.unfold.specs.Linear.{is_linear}
-use Rattle.unfold.specs.Offers.{IsLinearRow}
-use Rattle.unfold.proofs.Sizes.{one_bind}
-use Rattle.unfold.proofs.Receiving.{received}
+use Rattle.linear_unfold.specs.Linear.{is_linear}
+use Rattle.linear_unfold.specs.Offers.{IsLinearRow}
+use Rattle.linear_unfold.proofs.Sizes.{one_bind}
+use Rattle.linear_unfold.proofs.Receiving.{received}
 use Rattle.linear_events.specs.Partners.{receives, sends, channel_of, are_partners, is_partner, prints, sent, body_of, one_meeting, print_meeting, IsLinearOrBuilt}
 use Rattle.linear_events.specs.Laws.{LinearMeetings}
 use Rattle.linear_events.proofs.Parts.{Receive, Send, receive-parts, send-parts, no-receiver, no-datum, bound-itself}

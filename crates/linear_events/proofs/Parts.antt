@@ -9,9 +9,9 @@ use Rattle.calculus.specs.Shape.{two, many, held, label_of, process}
 use Rattle.calculus.specs.Normal.{ascending}
 use Rattle.calculus.specs.Steps.{as_receiver, as_datum}
 use Rattle.rho_term.specs.Normal.{IsNormal}
-use Rattle.unfold.specs.Linear.{is_variable, is_linear, is_linear_part}
-use Rattle.unfold.proofs.Same.{made-same}
-use Rattle.unfold.proofs.Receiving.{received}
+use Rattle.linear_unfold.specs.Linear.{is_variable, is_linear, is_linear_part}
+use Rattle.linear_unfold.proofs.Same.{made-same}
+use Rattle.linear_unfold.proofs.Receiving.{received}
 use Rattle.linear_events.specs.Partners.{receives, sends}
 
 -- a send of one process on this channel

@@ -12,7 +12,7 @@ use Rattle.events.proofs.Following.{Kept, operation-there}
 use Rattle.events.proofs.Keeping.{kept-all}
 use Rattle.events.proofs.Spent.{all-past, not-made}
 use Rattle.events.proofs.Making.{among, member, meetings_are_steps}
-use Rattle.unfold.specs.Offers.{IsLinearRow}
+use Rattle.linear_unfold.specs.Offers.{IsLinearRow}
 use Rattle.linear_events.specs.Partners.{one_meeting, one_step, AreThese}
 use Rattle.linear_events.specs.Laws.{LinearStepsAreEvents}
 use Rattle.linear_events.proofs.Joining.{joined_of}

@@ -4,7 +4,7 @@ use Rattle.calculus.specs.declared.plain.Kind.TheVariants as kinds
 use Rattle.calculus.specs.Rows.{Row, system_name}
 use Rattle.calculus.specs.Examples.{num, sent}
 use Rattle.calculus.specs.ExamplesSteps.{datum, receiver, row_of}
-use Rattle.unfold.specs.Linear.{is_linear_part}
+use Rattle.linear_unfold.specs.Linear.{is_linear_part}
 use Rattle.linear_events.specs.Partners.{are_partners, are_coded_partners, prints}
 
 -- the receive that the examples speak of, on the channel 1

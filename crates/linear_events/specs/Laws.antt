@@ -12,8 +12,9 @@ use Rattle.calculus.specs.Rows.{Row, row_length, stdout, stdout_ack}
 use Rattle.calculus.specs.CodeLaws.{IsShort}
 use Rattle.calculus.specs.Runs.{Work, body_work}
 use Rattle.rho_term.specs.Normal.{IsNormal}
-use Rattle.unfold.specs.Linear.{is_linear}
-use Rattle.unfold.specs.Offers.{IsLinearRow, UnfoldsUnder}
+use Rattle.linear_unfold.specs.Linear.{is_linear}
+use Rattle.linear_unfold.specs.Offers.{IsLinearRow}
+use Rattle.calculus.specs.Unfolding.{UnfoldsUnder}
 use Rattle.events.specs.Events.{Core, started, after_put, Event, Events, AreFresh}
 use Rattle.events.specs.Found.{met, Among, is_lasting, after_meeting}
 use Rattle.events.specs.Laws.{Begins}

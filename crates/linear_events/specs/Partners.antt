@@ -14,7 +14,7 @@ use Rattle.calculus.specs.Steps.{Datum, Meeting}
 use Rattle.calculus.specs.Unfolding.{rows_of}
 use Rattle.calculus.specs.Runs.{Work, work_things}
 use Rattle.events.specs.Events.{Core}
-use Rattle.unfold.specs.Offers.{IsLinearRow}
+use Rattle.linear_unfold.specs.Offers.{IsLinearRow}
 
 -- whether a form is a receive
 abbrev pub receives : Label → Bool

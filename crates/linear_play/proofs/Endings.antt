@@ -9,7 +9,7 @@ use Rattle.calculus.specs.Outcome.{Prices}
 use Rattle.calculus.specs.Steps.{stored_rows}
 use Rattle.calculus.specs.Runs.{Verdict, done, exhausted, faulted}
 use Rattle.rho_term.specs.declared.op.Op.{Op}
-use Rattle.unfold.specs.Offers.{row_of_op}
+use Rattle.rho_term.specs.Rows.{row_of_op}
 use Rattle.events.specs.Orders.{Moved}
 use Rattle.linear_runs.specs.Premises.{IsCalm}
 use Rattle.linear_store.specs.Channels.{IsOnOneChannel}

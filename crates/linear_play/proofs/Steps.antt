@@ -8,7 +8,8 @@ use Rattle.calculus.specs.Seeds.{digest_of, Comm}
 use Rattle.calculus.specs.Runs.{Verdict, done, at_fault, work_fault, work_price}
 use Rattle.rho_term.specs.declared.op.Op.{Op}
 use Rattle.rho_term.specs.Normal.{IsNormal}
-use Rattle.unfold.specs.Offers.{row_of_op, UnfoldsUnder}
+use Rattle.calculus.specs.Unfolding.{UnfoldsUnder}
+use Rattle.rho_term.specs.Rows.{row_of_op}
 use Rattle.events.proofs.Orders.{unmoved}
 use Rattle.linear_events.specs.Partners.{body_of, sent, one_step}
 use Rattle.linear_runs.specs.Premises.{IsCalm}

@@ -4,8 +4,8 @@ ghost use Rattle.std.specs.Prelude.{◌≡◌, ◌≢◌, ◌≤◌, ◌<◌, �
 ghost use Rattle.calculus.specs.Form.{IsClosed};
 ghost use Rattle.calculus.specs.Outcome.{Prices as PriceTable};
 ghost use Rattle.calculus.specs.Tree.{Tree};
-ghost use Rattle.replays.specs.Replays.{most_limit};
-ghost use Rattle.unfold.specs.Linear.{is_linear};
+ghost use Rattle.calculus.specs.Limits.{most_limit};
+ghost use Rattle.linear_unfold.specs.Linear.{is_linear};
 ghost use Rattle.linear_store.specs.Channels.{IsOnOneChannel};
 ghost use Rattle.linear_runs.specs.Courses.{charge_at, IsRunOf, verdict_at};
 ghost use Rattle.linear_runs.specs.Premises.{IsCalm};

@@ -1,7 +1,7 @@
 ghost use Rattle.std.specs.Prelude.{◌≡◌, ◌≢◌, ◌≤◌, ◌+◌, ◌/◌, [], true, length, All, IfOk};
 ghost use Rattle.calculus.specs.Form.{IsClosed};
-ghost use Rattle.replays.specs.Replays.{most_limit};
-ghost use Rattle.unfold.specs.Linear.{is_linear};
+ghost use Rattle.calculus.specs.Limits.{most_limit};
+ghost use Rattle.linear_unfold.specs.Linear.{is_linear};
 ghost use Rattle.linear_store.specs.Channels.{IsOnOneChannel};
 ghost use Rattle.linear_runs.specs.Courses.{IsRunOf};
 ghost use Rattle.linear_runs.specs.Premises.{IsCalm};

@@ -13,7 +13,8 @@ use Rattle.calculus.specs.Steps.{Meeting, standing, stored_rows, same_meeting, r
 use Rattle.calculus.specs.Runs.{Verdict}
 use Rattle.calculus.proofs.Candidates.{Member, Every}
 use Rattle.rho_term.specs.declared.op.Op.{Op}
-use Rattle.unfold.specs.Offers.{row_of_op, IsLinearRow}
+use Rattle.linear_unfold.specs.Offers.{IsLinearRow}
+use Rattle.rho_term.specs.Rows.{row_of_op}
 use Rattle.events.specs.Orders.{Moved, keep, exchange, join}
 use Rattle.events.proofs.Counts.{ids, bytes_same}
 use Rattle.events.proofs.Meetings.{Joined, join as joins_to, meeting_at, MadeBy, made_by}

@@ -7,7 +7,7 @@ use Rattle.calculus.specs.Log.{Step, Header}
 use Rattle.calculus.specs.Steps.{Bag}
 use Rattle.calculus.specs.Runs.{Verdict, done, exhausted, faulted, fault_verdict, verdict, cost, next_rows, IsEnd}
 use Rattle.rho_term.specs.declared.op.Op.{Op}
-use Rattle.unfold.specs.Offers.{row_of_op}
+use Rattle.rho_term.specs.Rows.{row_of_op}
 use Rattle.events.specs.Orders.{Moved}
 use Rattle.linear_runs.specs.Premises.{IsCalm}
 use Rattle.linear_runs.specs.Courses.{IsSound, verdict_at, charge_at}

@@ -6,7 +6,7 @@ use Rattle.calculus.specs.Shape.{label_of}
 use Rattle.calculus.specs.Rows.{Row, stdout}
 use Rattle.calculus.specs.Steps.{Bag, standing, stored_rows}
 use Rattle.calculus.proofs.Candidates.{Member, Every}
-use Rattle.unfold.specs.Offers.{IsLinearRow}
+use Rattle.linear_unfold.specs.Offers.{IsLinearRow}
 use Rattle.events.specs.Found.{met}
 use Rattle.events.proofs.Meetings.{Joined, join as joins_to, meeting_with, meet_rows-of}
 use Rattle.events.proofs.Standing.{built_ins, from-standing}

@@ -6,7 +6,7 @@ use Rattle.calculus.specs.Root.{root}
 use Rattle.calculus.specs.Rows.{Row}
 use Rattle.calculus.specs.Unfolding.{Unfolds}
 use Rattle.calculus.specs.Runs.{begun}
-use Rattle.unfold.specs.Offers.{row_of_op}
+use Rattle.rho_term.specs.Rows.{row_of_op}
 use Rattle.events.specs.Orders.{Moved}
 use Rattle.events.proofs.Orders.{unmoved}
 use Rattle.events.proofs.Legal.{leads-none}

@@ -7,7 +7,7 @@ use Rattle.calculus.specs.Log.{Step}
 use Rattle.calculus.specs.Steps.{Meeting, meeting}
 use Rattle.calculus.specs.Runs.{Verdict}
 use Rattle.rho_term.specs.declared.op.Op.{Op}
-use Rattle.unfold.specs.Offers.{row_of_op}
+use Rattle.rho_term.specs.Rows.{row_of_op}
 use Rattle.linear_events.specs.Partners.{one_step}
 use Rattle.linear_runs.specs.Premises.{IsCalm}
 use Rattle.linear_runs.specs.Courses.{IsSound}

@@ -1,5 +1,4 @@
 pub mod Beginning
-pub mod Accounts
 pub mod Pairs
 pub mod Printing
 pub mod Stepping

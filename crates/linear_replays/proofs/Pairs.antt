@@ -12,7 +12,7 @@ use Rattle.calculus.specs.Steps.{standing, stored_rows, as_receiver, same_ids, s
 use Rattle.calculus.specs.Runs.{Verdict}
 use Rattle.calculus.proofs.Candidates.{Member, Every}
 use Rattle.rho_term.specs.declared.op.Op.{Op}
-use Rattle.unfold.specs.Offers.{row_of_op}
+use Rattle.rho_term.specs.Rows.{row_of_op}
 use Rattle.events.specs.Orders.{Moved, join}
 use Rattle.events.proofs.Counts.{ids, AreDistinct, bytes_same}
 use Rattle.events.proofs.Meetings.{meeting_at, makes}
@@ -29,7 +29,7 @@ use Rattle.linear_runs.specs.Premises.{IsCalm}
 use Rattle.linear_runs.specs.Courses.{IsSound}
 use Rattle.linear_runs.proofs.Stepping.{pair-partners}
 use Rattle.linear_replays.specs.Replayed.{IsReplayedTo, ArePairIn}
-use Rattle.linear_replays.proofs.Accounts.{remains, accounted, distinct}
+use Rattle.events.proofs.Accounts.{remains, accounted, distinct}
 
 count-none : (s : Step) (made : List Step) → ((u : Step) → Member u made → same_meeting s u ≡ false) → count_by (same_meeting s) made ≡ 0
 count-none s [] h = refl

@@ -2,7 +2,7 @@
 use Rattle.std.proofs.Common.{◌≡◌, List, [], ◌∷◌, map as each, refl, ap, sym, ◌∙◌, arith}
 use Rattle.calculus.specs.Steps.{differ}
 use Rattle.rho_term.specs.declared.op.Op.{Op}
-use Rattle.unfold.specs.Offers.{row_of_op}
+use Rattle.rho_term.specs.Rows.{row_of_op}
 use Rattle.events.specs.Orders.{join}
 use Rattle.events.proofs.Counts.{ids, distinct-differ}
 use Rattle.events.proofs.Orders.{moved_so, times-moved}

@@ -11,7 +11,7 @@ use Rattle.calculus.specs.Unfolding.{unfold_in}
 use Rattle.calculus.specs.Steps.{Bag, Meeting, standing, stored_rows, meeting}
 use Rattle.calculus.specs.Runs.{Work, State, body_work, moved, steps_from, begun, Leads}
 use Rattle.calculus.proofs.Candidates.{Member, Every}
-use Rattle.unfold.specs.Offers.{IsLinearRow}
+use Rattle.linear_unfold.specs.Offers.{IsLinearRow}
 use Rattle.events.specs.Events.{AreFresh}
 use Rattle.events.proofs.Counts.{ids, AreDistinct}
 use Rattle.events.proofs.Meetings.{join as joins_to, MadeBy, made_by}
@@ -22,7 +22,7 @@ use Rattle.linear_runs.specs.Premises.{IsCalm}
 use Rattle.linear_runs.proofs.Lists.{all_member}
 use Rattle.replays.specs.Replays.{chosen, printed, output_from}
 use Rattle.linear_replays.specs.Laws.{ReplaysPrintNothing}
-use Rattle.linear_replays.proofs.Accounts.{offered_by, offered-still, accounted, distinct}
+use Rattle.events.proofs.Accounts.{offered_by, offered-still, accounted, distinct}
 use Rattle.linear_replays.proofs.AtHand.{Two, two-of}
 use Rattle.linear_replays.proofs.Calm.{calm_first}
 use Rattle.linear_replays.proofs.Printing.{stored-prints-nothing}

@@ -9,13 +9,13 @@ use Rattle.calculus.specs.Seeds.{digest_of, Comm}
 use Rattle.calculus.specs.Log.{Step}
 use Rattle.calculus.specs.Rows.{Row}
 use Rattle.calculus.specs.Matching.{Bindings}
-use Rattle.calculus.specs.Unfolding.{rows_of}
+use Rattle.calculus.specs.Unfolding.{rows_of, UnfoldsUnder}
 use Rattle.calculus.specs.Steps.{Meeting, is_one_of, standing, stored_rows, bag_after}
 use Rattle.calculus.specs.Runs.{Work, work_things, work_price, work_fault, Verdict, at_fault, fault_verdict, moved as moved_to, body_work, Leads}
 use Rattle.calculus.proofs.Candidates.{Member}
 use Rattle.rho_term.specs.declared.op.Op.{Op}
 use Rattle.rho_term.specs.Normal.{IsNormal}
-use Rattle.unfold.specs.Offers.{row_of_op, UnfoldsUnder}
+use Rattle.rho_term.specs.Rows.{row_of_op}
 use Rattle.events.specs.Orders.{Moved}
 use Rattle.events.specs.Found.{without}
 use Rattle.events.proofs.Counts.{ids, times, one_of-times, member-times}

@@ -4,12 +4,13 @@ use Rattle.calculus.specs.Tree.{Tree}
 use Rattle.calculus.specs.Outcome.{Prices}
 use Rattle.calculus.specs.Log.{Step, Header}
 use Rattle.calculus.specs.Seeds.{digest_of, Start, Comm}
-use Rattle.calculus.specs.Unfolding.{rows_of, Unfolds}
+use Rattle.calculus.specs.Unfolding.{rows_of, Unfolds, UnfoldsUnder}
 use Rattle.calculus.specs.Steps.{differ, meeting}
 use Rattle.calculus.specs.Runs.{Work, work_things, work_price, work_fault, State, Leads, Verdict, done, at_fault}
 use Rattle.rho_term.specs.declared.op.Op.{Op}
 use Rattle.rho_term.specs.Normal.{IsNormal}
-use Rattle.unfold.specs.Offers.{row_of_op, IsLinearRow, UnfoldsUnder}
+use Rattle.linear_unfold.specs.Offers.{IsLinearRow}
+use Rattle.rho_term.specs.Rows.{row_of_op}
 use Rattle.events.specs.Orders.{Moved}
 use Rattle.linear_events.specs.Partners.{sent, body_of, one_step}
 use Rattle.linear_runs.specs.Premises.{IsCalm}

@@ -6,7 +6,7 @@ use Rattle.calculus.specs.Log.{Step}
 use Rattle.calculus.specs.Steps.{stored_rows}
 use Rattle.calculus.specs.Runs.{Work, work_fault, State, Leads, total, Verdict, done, at_fault, fault_verdict}
 use Rattle.rho_term.specs.declared.op.Op.{Op}
-use Rattle.unfold.specs.Offers.{row_of_op}
+use Rattle.rho_term.specs.Rows.{row_of_op}
 use Rattle.events.specs.Orders.{Moved}
 use Rattle.linear_store.specs.Channels.{is_send, channel_code}
 use Rattle.linear_events.specs.Partners.{one_step}

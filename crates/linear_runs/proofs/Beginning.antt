@@ -9,7 +9,7 @@ use Rattle.calculus.specs.Unfolding.{Unfolds}
 use Rattle.calculus.specs.Steps.{meeting}
 use Rattle.calculus.proofs.Opened.{hashing}
 use Rattle.calculus.proofs.Candidates.{candidates_suffice}
-use Rattle.unfold.specs.Offers.{row_of_op}
+use Rattle.rho_term.specs.Rows.{row_of_op}
 use Rattle.events.specs.Orders.{Moved, empty}
 use Rattle.events.specs.Events.{stored, started, no_event}
 use Rattle.events.proofs.Orders.{unmoved}

@@ -7,7 +7,7 @@ use Rattle.calculus.specs.Log.{Step}
 use Rattle.calculus.specs.Steps.{stored_rows}
 use Rattle.calculus.specs.Runs.{Verdict, done, exhausted, fault_verdict, work_price, verdict, cost, total, IsRun}
 use Rattle.rho_term.specs.declared.op.Op.{Op}
-use Rattle.unfold.specs.Offers.{row_of_op}
+use Rattle.rho_term.specs.Rows.{row_of_op}
 use Rattle.events.specs.Orders.{Moved, join}
 use Rattle.events.specs.Laws.{Follows}
 use Rattle.events.proofs.Orders.{moved_so}

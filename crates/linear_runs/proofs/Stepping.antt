@@ -11,7 +11,7 @@ use Rattle.calculus.specs.Rows.{Row}
 use Rattle.calculus.specs.Unfolding.{rows_of}
 use Rattle.calculus.specs.Runs.{Work, work_things, work_price, work_fault, Verdict, done, faulted, step_of_work, at_fault, fault_verdict}
 use Rattle.rho_term.specs.declared.op.Op.{Op}
-use Rattle.unfold.specs.Offers.{row_of_op}
+use Rattle.rho_term.specs.Rows.{row_of_op}
 use Rattle.events.specs.Orders.{Moved, join}
 use Rattle.events.specs.Events.{Event, one_more}
 use Rattle.events.proofs.Counts.{same_bytes}

@@ -15,7 +15,7 @@ use Rattle.calculus.specs.Runs.{Verdict}
 use Rattle.calculus.proofs.Candidates.{Member}
 use Rattle.rho_term.specs.declared.op.Op.{Op}
 use Rattle.rho_term.specs.declared.op.Op.TheVariants as op
-use Rattle.unfold.specs.Offers.{row_of_op}
+use Rattle.rho_term.specs.Rows.{row_of_op}
 use Rattle.events.specs.Orders.{Moved, keep, join}
 use Rattle.events.specs.Events.{after_put, Event, one_more}
 use Rattle.events.specs.Found.{Among}

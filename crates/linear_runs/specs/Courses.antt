@@ -7,7 +7,8 @@ use Rattle.calculus.specs.Rows.{Row, row_length}
 use Rattle.calculus.specs.Steps.{stored_rows}
 use Rattle.calculus.specs.Runs.{Work, work_price, State, IsRun, Verdict, done, exhausted, fault_verdict, verdict, cost}
 use Rattle.rho_term.specs.declared.op.Op.{Op}
-use Rattle.unfold.specs.Offers.{row_of_op, IsLinearRow}
+use Rattle.linear_unfold.specs.Offers.{IsLinearRow}
+use Rattle.rho_term.specs.Rows.{row_of_op}
 use Rattle.events.specs.Orders.{Moved}
 use Rattle.events.specs.Events.{Core, started, Events}
 use Rattle.events.specs.Laws.{Begins}

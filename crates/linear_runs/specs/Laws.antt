@@ -4,11 +4,11 @@ use Rattle.calculus.specs.Tree.{Tree}
 use Rattle.calculus.specs.Outcome.{Prices, gives, within}
 use Rattle.calculus.specs.Log.{Step}
 use Rattle.calculus.specs.Seeds.{digest_of, Start, Comm}
-use Rattle.calculus.specs.Unfolding.{Thing, rows_of, Unfolds}
+use Rattle.calculus.specs.Unfolding.{Thing, rows_of, Unfolds, UnfoldsUnder}
 use Rattle.calculus.specs.Runs.{Work, work_things, work_price, work_fault, Verdict, done, at_fault}
 use Rattle.rho_term.specs.declared.op.Op.{Op}
 use Rattle.rho_term.specs.Normal.{IsNormal}
-use Rattle.unfold.specs.Offers.{row_of_op, UnfoldsUnder}
+use Rattle.rho_term.specs.Rows.{row_of_op}
 use Rattle.events.specs.Orders.{Moved}
 use Rattle.linear_store.specs.Meetings.{Adds, Pairs}
 use Rattle.linear_events.specs.Partners.{sent, body_of, one_step}

@@ -11,9 +11,9 @@ use Rattle.rho_term.specs.declared.op.Op.TheVariants as op
 use Rattle.rho_term.specs.declared.term.TermBind.{TermBind}
 use Rattle.rho_term.specs.Parts.{bind_tree}
 use Rattle.events.specs.Orders.{Moved, empty, keep, exchange, join}
-use Rattle.unfold.specs.Linear.{is_linear_part}
-use Rattle.unfold.specs.Offers.{row_of_op}
-use Rattle.unfold.proofs.Shapes.{receive-of}
+use Rattle.linear_unfold.specs.Linear.{is_linear_part}
+use Rattle.rho_term.specs.Rows.{row_of_op}
+use Rattle.linear_unfold.proofs.Shapes.{receive-of}
 use Rattle.linear_store.specs.Channels.{first_channel}
 use Rattle.linear_store.specs.Laws.{ChannelIsOfRow, LinearIsOnOneChannel, RowsMoveAlike}
 

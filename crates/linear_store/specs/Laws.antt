@@ -3,8 +3,8 @@ use Rattle.std.specs.Prelude.{◌≡◌, true, List, [], ◌∷◌, map as each}
 use Rattle.calculus.specs.Rows.{channels}
 use Rattle.rho_term.specs.declared.op.Op.{Op}
 use Rattle.events.specs.Orders.{Moved}
-use Rattle.unfold.specs.Linear.{is_linear_part}
-use Rattle.unfold.specs.Offers.{row_of_op}
+use Rattle.linear_unfold.specs.Linear.{is_linear_part}
+use Rattle.rho_term.specs.Rows.{row_of_op}
 use Rattle.linear_store.specs.Channels.{channel_of, IsOnOneChannel}
 
 -- the channel of an operation on one channel is the one channel of its row

@@ -4,7 +4,5 @@
 pub mod laws;
 mod queues;
 pub mod store;
-#[cfg(test)]
-mod tests;
 
 pub use store::{Met, Store};

@@ -5,8 +5,8 @@ use Rattle.calculus.specs.Shape.{label_of}
 use Rattle.calculus.specs.Form.{IsClosed}
 use Rattle.calculus.specs.Substitution.{put}
 use Rattle.rho_term.specs.declared.op.Op.{Op}
-use Rattle.unfold.specs.Linear.{is_linear}
-use Rattle.unfold.specs.Offers.{row_of_op}
+use Rattle.linear_unfold.specs.Linear.{is_linear}
+use Rattle.rho_term.specs.Rows.{row_of_op}
 use Rattle.linear_events.specs.Partners.{receives, sends, body_of, sent}
 use Rattle.linear_events.proofs.Bodies.{linear_bodies}
 use Rattle.linear_runs.proofs.Storing.{row-receives, row-sends}

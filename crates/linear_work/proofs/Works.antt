@@ -8,10 +8,11 @@ use Rattle.calculus.specs.Outcome.{Answer, gives, fails, unknown, Outcome, Cappe
 use Rattle.calculus.specs.Unfolding.{Thing, rows_of}
 use Rattle.calculus.specs.Runs.{Work}
 use Rattle.rho_term.specs.declared.op.Op.{Op}
-use Rattle.unfold.specs.declared.stop.EvalStop.{EvalStop}
-use Rattle.unfold.specs.declared.stop.Priced.{Priced}
-use Rattle.unfold.specs.declared.stop.EvalStop.TheVariants.{Fault, Over, NoMemory}
-use Rattle.unfold.specs.Offers.{row_of_op, IsLinearRow, Comes, EndsWith}
+use Rattle.linear_unfold.specs.declared.stop.EvalStop.{EvalStop}
+use Rattle.linear_unfold.specs.declared.stop.Priced.{Priced}
+use Rattle.linear_unfold.specs.declared.stop.EvalStop.TheVariants.{Fault, Over, NoMemory}
+use Rattle.linear_unfold.specs.Offers.{IsLinearRow, Comes, EndsWith}
+use Rattle.rho_term.specs.Rows.{row_of_op}
 use Rattle.linear_runs.specs.Courses.{IsShortRow, IsSound}
 use Rattle.linear_work.specs.declared.work.Worked.{Worked}
 use Rattle.linear_work.specs.Works.{HasStopped, IsWork}

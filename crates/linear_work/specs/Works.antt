@@ -2,9 +2,9 @@
 use Rattle.std.specs.Prelude.{◌≡◌, ◌≤◌, ℕ, ◌+◌, [], map as each, Some, None, All}
 use Rattle.calculus.specs.Unfolding.{rows_of}
 use Rattle.calculus.specs.Runs.{Work, work_things, work_price, work_fault}
-use Rattle.unfold.specs.Offers.{row_of_op}
-use Rattle.unfold.specs.declared.stop.EvalStop.{EvalStop}
-use Rattle.unfold.specs.declared.stop.EvalStop.TheVariants.{Fault, Over, NoMemory}
+use Rattle.rho_term.specs.Rows.{row_of_op}
+use Rattle.linear_unfold.specs.declared.stop.EvalStop.{EvalStop}
+use Rattle.linear_unfold.specs.declared.stop.EvalStop.TheVariants.{Fault, Over, NoMemory}
 use Rattle.linear_runs.specs.Courses.{IsSound}
 use Rattle.linear_work.specs.declared.work.Worked.{Worked}
 

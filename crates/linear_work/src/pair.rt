@@ -2,8 +2,8 @@
 
 ghost use Rattle.std.specs.Prelude.{◌≡◌, false, true};
 ghost use Rattle.rho_term.specs.Normal.{IsNormal};
-ghost use Rattle.unfold.specs.Linear.{is_linear_part};
-ghost use Rattle.unfold.specs.Offers.{row_of_op};
+ghost use Rattle.linear_unfold.specs.Linear.{is_linear_part};
+ghost use Rattle.rho_term.specs.Rows.{row_of_op};
 ghost use Rattle.linear_events.specs.Partners.{body_of, sent};
 ghost use Rattle.linear_store.specs.Channels.{is_send};
 

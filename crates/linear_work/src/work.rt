@@ -3,17 +3,16 @@
 ghost use Rattle.std.specs.Prelude.{◌≡◌, ◌<◌, ◌-◌, ◌^◌, [], None, true, All, IfOk, MatchResult};
 ghost use Rattle.calculus.specs.Form.{IsClosed};
 ghost use Rattle.calculus.specs.Substitution.{put};
-ghost use Rattle.calculus.specs.Unfolding.{Unfolds};
-ghost use Rattle.unfold.specs.Linear.{is_linear};
-ghost use Rattle.unfold.specs.Offers.{UnfoldsUnder};
+ghost use Rattle.calculus.specs.Unfolding.{Unfolds, UnfoldsUnder};
+ghost use Rattle.linear_unfold.specs.Linear.{is_linear};
 ghost use Rattle.linear_work.specs.Works.{HasStopped, IsWork};
 
 use calculus::FaultKind;
+use linear_unfold::{EvalStop, Priced, unfold, unfold_body};
 use name_seed::Seed;
 use price_table::Prices;
 use rho_term::{Op, Term};
 use std::alloc::{AllocError, Global};
-use unfold::{EvalStop, Priced, unfold, unfold_body};
 
 /// What an unfolding came to.
 #[derive(Drop)]

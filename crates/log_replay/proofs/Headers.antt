@@ -8,7 +8,8 @@ use Rattle.calculus.specs.Outcome.{Prices}
 use Rattle.calculus.specs.Log.{Header}
 use Rattle.calculus.specs.Root.{root}
 use Rattle.events.proofs.Counts.{same_bytes, bytes_same}
-use Rattle.replays.specs.Replays.{Refusal, wrong_base, wrong_source, wrong_prices, wrong_limit, price_digest, most_limit, unless_equal, header_refusal}
+use Rattle.replays.specs.Replays.{Refusal, wrong_base, wrong_source, wrong_prices, wrong_limit, unless_equal, header_refusal}
+use Rattle.calculus.specs.Limits.{price_digest, most_limit}
 use Rattle.linear_replays.specs.Replayed.{from_nothing}
 
 -- the root of no rows

@@ -5,11 +5,11 @@ use Rattle.calculus.specs.Outcome.{Prices}
 use Rattle.calculus.specs.Log.{Step}
 use Rattle.calculus.specs.Seeds.{digest_of, Start, Comm}
 use Rattle.calculus.specs.Steps.{differ}
-use Rattle.calculus.specs.Unfolding.{Unfolds}
+use Rattle.calculus.specs.Unfolding.{Unfolds, UnfoldsUnder}
 use Rattle.calculus.specs.Runs.{Verdict, done, at_fault}
 use Rattle.rho_term.specs.declared.op.Op.{Op}
 use Rattle.rho_term.specs.Normal.{IsNormal}
-use Rattle.unfold.specs.Offers.{row_of_op, UnfoldsUnder}
+use Rattle.rho_term.specs.Rows.{row_of_op}
 use Rattle.events.specs.Orders.{Moved}
 use Rattle.linear_events.specs.Partners.{body_of, sent, one_step}
 use Rattle.linear_runs.specs.Courses.{IsSound}

@@ -5,7 +5,7 @@ use Rattle.std.specs.declared.cmp.Ordering.TheVariants.{Less}
 use Rattle.calculus.specs.Order.{byte_cmp}
 use Rattle.calculus.specs.Log.{Step}
 use Rattle.rho_term.specs.declared.op.Op.{Op}
-use Rattle.unfold.specs.Offers.{row_of_op}
+use Rattle.rho_term.specs.Rows.{row_of_op}
 use Rattle.events.specs.Orders.{Moved}
 use Rattle.linear_events.specs.Partners.{one_step}
 use Rattle.linear_store.specs.Channels.{channel_code, is_send}

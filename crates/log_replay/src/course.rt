@@ -8,8 +8,8 @@ ghost use Rattle.calculus.specs.Runs.{Work, at_fault, done, step_of_work, work_f
 ghost use Rattle.calculus.specs.Tree.{Tree};
 ghost use Rattle.rho_term.specs.declared.op.Op.{Op};
 ghost use Rattle.event_log.specs.View.{step_of};
-ghost use Rattle.unfold.specs.Linear.{is_linear};
-ghost use Rattle.unfold.specs.Offers.{row_of_op};
+ghost use Rattle.linear_unfold.specs.Linear.{is_linear};
+ghost use Rattle.rho_term.specs.Rows.{row_of_op};
 ghost use Rattle.linear_events.specs.Partners.{one_step};
 ghost use Rattle.linear_store.specs.Channels.{IsOnOneChannel};
 ghost use Rattle.linear_runs.specs.Courses.{charge_at, verdict_at, IsSound};

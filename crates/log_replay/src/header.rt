@@ -3,7 +3,8 @@
 ghost use Rattle.std.specs.Prelude.{◌≡◌, ◌≤◌, true, None, IfOk, MatchResult};
 ghost use Rattle.calculus.specs.Tree.{Tree};
 ghost use Rattle.event_log.specs.View.{header_of};
-ghost use Rattle.replays.specs.Replays.{header_refusal, most_limit as greatest_limit};
+ghost use Rattle.replays.specs.Replays.{header_refusal};
+ghost use Rattle.calculus.specs.Limits.{most_limit as greatest_limit};
 ghost use Rattle.linear_replays.specs.Replayed.{from_nothing};
 ghost use Rattle.log_replay.specs.Refusals.{is_of_header, refusal_of};
 

@@ -2,8 +2,9 @@ ghost use Rattle.std.specs.Prelude.{◌≡◌, ◌≢◌, ◌≤◌, [], false, 
 ghost use Rattle.calculus.specs.Form.{IsClosed};
 ghost use Rattle.event_log.specs.View.{header_of};
 ghost use Rattle.event_log.specs.declared.log.TheConstants.{MOST_STEPS};
-ghost use Rattle.replays.specs.Replays.{header_refusal, most_limit, Refusal};
-ghost use Rattle.unfold.specs.Linear.{is_linear};
+ghost use Rattle.replays.specs.Replays.{header_refusal, Refusal};
+ghost use Rattle.calculus.specs.Limits.{most_limit};
+ghost use Rattle.linear_unfold.specs.Linear.{is_linear};
 ghost use Rattle.linear_store.specs.Channels.{IsOnOneChannel};
 ghost use Rattle.linear_runs.specs.Premises.{IsCalm};
 ghost use Rattle.linear_play.specs.Courses.{steps_of};

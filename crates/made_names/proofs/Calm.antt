@@ -17,12 +17,10 @@ use Rattle.calculus.specs.Log.{Step}
 use Rattle.calculus.specs.Steps.{differ, stored_rows}
 use Rattle.calculus.specs.Runs.{Work, work_things, State, Leads, made_digests}
 use Rattle.calculus.proofs.Reflexive.{congruent_self}
-use Rattle.events.specs.Events.{first_ids}
+use Rattle.events.specs.Events.{first_ids, digests, built_in_names}
 use Rattle.events.proofs.Counts.{one_if, times, times-append, same_bytes, differ-distinct, distinct-differ}
-use Rattle.events.proofs.Standing.{digests}
-use Rattle.unfold.specs.Linear.{all_plain, is_variable, is_linear, are_linear, is_linear_part}
+use Rattle.linear_unfold.specs.Linear.{all_plain, is_variable, is_linear, are_linear, is_linear_part}
 use Rattle.linear_events.specs.Partners.{sends, channel_of, prints}
-use Rattle.linear_runs.specs.Premises.{built_in_names}
 use Rattle.made_names.specs.Names.{names_in, names_in_all}
 use Rattle.made_names.specs.Laws.{FreshIsCalm}
 use Rattle.made_names.proofs.Clear.{every-append, every-each, IsClear, Clear, AllClear, Clears, held-clear, listed-clear, at-clear}

@@ -9,7 +9,7 @@ use Rattle.calculus.specs.Congruence.{is_bag}
 use Rattle.calculus.specs.Code.{code}
 use Rattle.calculus.specs.Normal.{placed_by, by_code, arranged_by, ascending, made_node}
 use Rattle.calculus.proofs.Candidates.{Every}
-use Rattle.unfold.specs.Linear.{all_plain}
+use Rattle.linear_unfold.specs.Linear.{all_plain}
 
 pub every-append : {A : Type 0} (P : A → Type 0) (xs ys : List A) → Every P xs → Every P ys → Every P (xs ++ ys)
 every-append P [] ys h k = k

@@ -21,7 +21,7 @@ use Rattle.calculus.specs.Seeds.{digest_of, Split, Body}
 use Rattle.calculus.specs.Values.{value, values}
 use Rattle.calculus.specs.Unfolding.{Thing, a_row, a_fresh, rows_of, Channel, bundled, opened, row_limits, send_offered, has_twins, all_readable, on_channels, Placed, placed_from, sorted_binds, all_places, new_index, sorted_receive, receive_offered, names_made, fresh_names, Unfolder, unfold_within, unfold_under, part_unfolded, unfold_part, parts_unfolded, unfold_in}
 use Rattle.calculus.proofs.Candidates.{Every}
-use Rattle.unfold.specs.Linear.{all_plain}
+use Rattle.linear_unfold.specs.Linear.{all_plain}
 use Rattle.made_names.proofs.Clear.{every-each, arranged-every, Clear, Clears, listed-clear, trees-clear, held-clear, at-clear, ascending-clear}
 use Rattle.made_names.proofs.Putting.{put-clear, renumber-clear}
 use Rattle.made_names.proofs.Values.{Gives, Comes, after-comes, in_order-comes, within-gives, value-clear, values-clear}

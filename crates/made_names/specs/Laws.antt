@@ -9,8 +9,9 @@ use Rattle.tokens.specs.Token.{source, Token}
 use Rattle.grammar.specs.declared.dialect.Dialect.{Dialect}
 use Rattle.grammar.specs.Spells.{Spells}
 use Rattle.scope.specs.NormalForm.{normal_form}
-use Rattle.unfold.specs.Linear.{is_linear}
-use Rattle.linear_runs.specs.Premises.{FreshDigests, IsCalm}
+use Rattle.linear_unfold.specs.Linear.{is_linear}
+use Rattle.events.specs.Events.{FreshDigests}
+use Rattle.linear_runs.specs.Premises.{IsCalm}
 use Rattle.made_names.specs.Names.{names_in}
 
 -- a run from the empty state of a linear process without fresh names in it is calm where the digests that it makes are fresh: then none of them is the name of a built-in receiver's channel

@@ -11,7 +11,7 @@ use Rattle.rho_term.specs.Normal.{IsOrdered}
 use Rattle.rho_term.specs.Parts.{part_tree, pat_part_tree}
 use Rattle.rho_term.specs.declared.term.Part.{Part}
 use Rattle.rho_term.specs.declared.term.PatPart.{PatPart}
-use Rattle.term_sort.specs.Made.{reordered, made_process}
+use Rattle.code_order.specs.Made.{reordered, made_process}
 use Rattle.normalizer.specs.Made.{normal_in, all_in, parts_in, pattern_parts_in}
 use Rattle.normalizer.proofs.FromParts.{process-made, pattern-made, closed-made, pattern-ordered}
 use Rattle.normalizer.proofs.Flat.{parts-closed}

@@ -9,8 +9,8 @@ use Rattle.rho_term.specs.Normal.{IsOrdered}
 use Rattle.rho_term.specs.Parts.{pat_part_tree}
 use Rattle.rho_term.specs.declared.term.PatPart.{PatPart}
 use Rattle.scope.specs.NormalForm.{normal_form, normal_forms}
-use Rattle.term_sort.specs.Made.{reordered, made_process}
-use Rattle.term_sort.proofs.Made.{ordered-made}
+use Rattle.code_order.specs.Made.{reordered, made_process}
+use Rattle.code_order.proofs.Made.{ordered-made}
 use Rattle.normalizer.specs.Made.{inner_normal}
 
 -- a tree whose insides are in normal order has its normal form once it is in order itself

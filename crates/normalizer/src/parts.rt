@@ -2,7 +2,7 @@
 
 ghost use Rattle.std.specs.Prelude.{◌≡◌, ◌∷◌, [], map, IfOk};
 ghost use Rattle.rho_term.specs.Parts.{part_tree, pat_part_tree};
-ghost use Rattle.term_sort.specs.Made.{reordered};
+ghost use Rattle.code_order.specs.Made.{reordered};
 
 use rho_term::{Part, PatPart};
 use std::alloc::{AllocError, Global};

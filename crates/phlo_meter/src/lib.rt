@@ -4,8 +4,6 @@
 pub mod fault;
 pub mod read;
 mod table;
-#[cfg(test)]
-mod tests;
 
 pub use fault::PriceFault;
 pub use price_table::{Prices, most_limit};

@@ -3,14 +3,11 @@
 
 ghost use Rattle.std.specs.Prelude.{◌≡◌, ◌≤◌, ◌<◌, ◌^◌};
 ghost use Rattle.calculus.specs.Bytes.{be64};
-ghost use Rattle.replays.specs.Replays.{price_digest, most_limit as greatest_limit};
+ghost use Rattle.calculus.specs.Limits.{price_digest, most_limit as greatest_limit};
 
 use calculus::Digest;
 use sha2::{Digest as _, Sha256};
 use std::marker::Model;
-
-#[cfg(test)]
-mod tests;
 
 /// What work costs: a step, an offered send or receive, a declared name, a case, an operator or method,
 /// and each byte of what is offered or worked on. Each price is at most 1,000,000, and that of a step at

@@ -16,10 +16,10 @@ use Rattle.replays.specs.Replays.{Refusal, no_run, reducible, Outcome, refused, 
 use Rattle.replays.specs.Laws.{OneAnswer, RunsAreReplayed, RefusedLogsAreNoRuns}
 use Rattle.replays.proofs.Prefixes.{passed, prints-there, one-output}
 
-same : (x y : List ℕ) → bytes_eq x y ≡ true → x ≡ y
+pub same : (x y : List ℕ) → bytes_eq x y ≡ true → x ≡ y
 same x y e = (bytes_eq-Decides x y).0 e
 
-equal : (x y : List ℕ) → x ≡ y → bytes_eq x y ≡ true
+pub equal : (x y : List ℕ) → x ≡ y → bytes_eq x y ≡ true
 equal x y e = (bytes_eq-Decides x y).1 e
 
 -- lists of ids that are no greater than one another are equal
@@ -52,7 +52,7 @@ places (v ∷ vs) (w ∷ ws) s u xs ys e = go (places vs ws s u xs ys (cc e)) (c
     go (first_before mid f) h = first_before mid (cc (f, h))
     go (first_after mid f) h = first_after mid (cc (f, h))
 
-is-none : {A : Type 0} (o : Option A) → IsSome o → o ≡ None → ⊥
+pub is-none : {A : Type 0} (o : Option A) → IsSome o → o ≡ None → ⊥
 is-none None h e = cc
 is-none (Some x) h e = cc
 
@@ -64,7 +64,7 @@ module _ (p : Prices) (cap : ℕ) (rows : List Row) (t : Tree) (source : List �
       let one : k.state ≡ h.state = one_state p cap rows t source h.before k.state h.state k.leads h.leads in
       is-none (meeting h.state.bag h.state.made h.step) (subst (λ a. IsSome (meeting a.bag a.made h.step)) one k.allowed) h.stops
 
-  one-stop : (i j : ℕ) → StopsAt p cap rows t source ss i → StopsAt p cap rows t source ss j → i ≡ j
+  pub one-stop : (i j : ℕ) → StopsAt p cap rows t source ss i → StopsAt p cap rows t source ss j → i ≡ j
   one-stop i j h k = go (places h.before k.before h.step k.step h.after k.after (sym h.is ∙ k.is))
     where
       go : Places h.before k.before h.step k.step → i ≡ j
@@ -72,7 +72,7 @@ module _ (p : Prices) (cap : ℕ) (rows : List Row) (t : Tree) (source : List �
       go (first_before mid e) = absurd (stops-there i h mid k.before e k.state k.leads)
       go (first_after mid e) = absurd (stops-there j k mid h.before e h.state h.leads)
 
-  no-stop : (i : ℕ) → StopsAt p cap rows t source ss i → (b : State) → Leads p cap rows t source ss b → ⊥
+  pub no-stop : (i : ℕ) → StopsAt p cap rows t source ss i → (b : State) → Leads p cap rows t source ss b → ⊥
   no-stop i h b l = stops-there i h h.after ss h.is b l
 
   one-least : (a : State) (s u : Step) → IsLeastAllowed a s → IsLeastAllowed a u → reducible s.receiver s.data_ids ≡ reducible u.receiver u.data_ids

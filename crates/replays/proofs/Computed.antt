@@ -1,9 +1,12 @@
 -- Proofs of the examples of answers to replays.
 use Rattle.std.specs.Prelude.{[], ◌∷◌, refl}
+use Rattle.calculus.specs.Outcome.{within, pure}
+use Rattle.calculus.specs.Runs.{begun}
 use Rattle.calculus.proofs.Opened.{hashing}
 use Rattle.calculus.proofs.Candidates.{candidates_suffice}
-use Rattle.replays.specs.Replays.{by_header, by_step, by_end}
-use Rattle.replays.specs.Examples.{speaks, ReplayExamples}
+use Rattle.replays.specs.Replays.{by_header, by_step, by_rest, by_end}
+use Rattle.replays.proofs.LeastSteps.{least-among}
+use Rattle.replays.specs.Examples.{printed_datum, second_datum, printing_step, answering_step, answer_row, ReplayExamples}
 
 pub replay_examples : ReplayExamples
 unfolding hashing
@@ -16,8 +19,13 @@ replay_examples =
       other_prices = by_header refl;
       no_limit = by_header refl;
       above_the_greatest = by_header refl;
-      not_allowed = by_step refl (record { before = []; step = speaks; after = []; is = refl; place = refl; state = _; leads = (1, refl); stops = refl });
-      made_twice = by_step refl (record { before = speaks ∷ []; step = speaks; after = []; is = refl; place = refl; state = _; leads = (1, refl); stops = refl });
-      five_is_printed = by_end refl (1, refl) (λ d s. candidates_suffice (record { kept = []; offered = [] }) (speaks ∷ []) refl s) (1, refl);
+      not_allowed = by_step refl (record { before = []; step = printing_step; after = []; is = refl; place = refl; state = _; leads = (1, refl); stops = refl });
+      made_twice = by_step refl (record { before = printing_step ∷ []; step = printing_step; after = []; is = refl; place = refl; state = _; leads = (1, refl); stops = refl });
+      five_is_printed = by_end refl (1, refl) (λ d s. candidates_suffice (record { kept = []; offered = [] }) (printing_step ∷ []) refl s) (1, refl);
       past_the_limit = by_end refl (1, refl) (λ d s. cc d) (1, refl);
+      five_is_printed_and_answered = by_end refl (1, refl) (λ d s. candidates_suffice (record { kept = []; offered = answer_row ∷ [] }) (answering_step ∷ []) refl s) (1, refl);
+      step_is_left = by_rest refl (1, refl) refl (least-among (begun (printed_datum ∷ []) (within (pure []))) printing_step refl refl);
+      least_step_is_named = by_rest refl (1, refl) refl (least-among (begun (second_datum ∷ printed_datum ∷ []) (within (pure []))) printing_step refl refl);
+      source_faults = by_end refl (1, refl) (λ d s. cc d) (1, refl);
+      second_step_faults = by_end refl (1, refl) (λ d s. cc d) (1, refl);
     }

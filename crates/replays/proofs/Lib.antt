@@ -1,3 +1,4 @@
 pub mod Prefixes
 pub mod Answering
+pub mod LeastSteps
 pub mod Computed

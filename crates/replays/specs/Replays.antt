@@ -1,12 +1,11 @@
 -- The answer to a replay of a log: what its run came to, or why it is no run of this deploy.
-use Rattle.std.specs.Prelude.{◌≡◌, ℕ, suc, ◌*◌, Bool, true, false, cond, leb, eqb, ◌&&◌, ◌||◌, List, [], ◌∷◌, ◌++◌, length, map as each, Option, Some, None, option_map, option_and_then, IsSome}
+use Rattle.std.specs.Prelude.{◌≡◌, ℕ, suc, Bool, true, false, cond, leb, eqb, ◌&&◌, ◌||◌, List, [], ◌∷◌, ◌++◌, length, map as each, Option, Some, None, option_map, option_and_then, IsSome}
 use Rattle.std.specs.Str.{bytes_eq}
-use Rattle.sha2.specs.Sha256.{sha256}
-use Rattle.calculus.specs.Bytes.{be64}
 use Rattle.calculus.specs.Order.{up_to}
 use Rattle.calculus.specs.Tree.{Tree}
 use Rattle.calculus.specs.Shape.{at}
 use Rattle.calculus.specs.Outcome.{Prices}
+use Rattle.calculus.specs.Limits.{price_digest, most_limit}
 use Rattle.calculus.specs.Log.{Step, Header}
 use Rattle.calculus.specs.Rows.{Row}
 use Rattle.calculus.specs.Root.{root}
@@ -41,14 +40,6 @@ pub record Outcome : Type 0 where
 pub data Answer : Type 0 where
   refused : Refusal → Answer
   replayed : Outcome → Answer
-
--- the digest of prices: of the seven numbers in order, as eight bytes each
-abbrev pub price_digest : Prices → List ℕ
-price_digest p = sha256 (be64 p.comm ++ (be64 p.send ++ (be64 p.receive ++ (be64 p.name ++ (be64 p.case ++ (be64 p.op ++ be64 p.byte))))))
-
--- the greatest limit that prices allow
-abbrev pub most_limit : Prices → ℕ
-most_limit p = p.comm * 1048576
 
 -- this refusal where two digests differ, and else the next one
 abbrev pub unless_equal : List ℕ → List ℕ → Refusal → Option Refusal → Option Refusal

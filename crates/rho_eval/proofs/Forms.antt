@@ -25,7 +25,7 @@ by_code-same (x ∷ []) h = refl
 by_code-same (x ∷ y ∷ ys) h =
     ap (placed_by x) (by_code-same (y ∷ ys) h.1) ∙ ap (λ b. cond b (x ∷ y ∷ ys) (y ∷ placed_by x ys)) h.0
 
-values-each : (p : Prices) (ts : List Tree) → values p (trees ts) ≡ each (value p) ts
+pub values-each : (p : Prices) (ts : List Tree) → values p (trees ts) ≡ each (value p) ts
 unfolding values
 values-each p [] = refl
 values-each p (t ∷ ts) = ap (λ os. value p t ∷ os) (values-each p ts)
@@ -99,7 +99,7 @@ without-codes [] = refl
 without-codes (t ∷ ts) = ap (λ us. t ∷ us) (without-codes ts)
 
 -- trees whose codes ascend are in order
-ascending-same : (ts : Trees) → IsAscending (codes ts) → ascending (listed ts) ≡ listed ts
+pub ascending-same : (ts : Trees) → IsAscending (codes ts) → ascending (listed ts) ≡ listed ts
 unfolding ascending
 ascending-same ts h =
     ap (each (λ (q : List ℕ × Tree). q.1)) (by_code-same (each (λ t. (code t, t)) (listed ts)) (subst IsAscending (sym (codes-beside ts)) h)) ∙ without-codes (listed ts)

@@ -33,7 +33,7 @@ use Rattle.value_ops.specs.Answers.{IsOperand}
 use Rattle.closed_values.specs.Laws.{GivesClosed}
 use Rattle.closed_values.proofs.Values.{value_is_closed, value_is_within}
 use Rattle.rho_eval.specs.Outcomes.{Came, Stopped}
-use Rattle.term_sort.specs.Made.{reordered}
+use Rattle.code_order.specs.Made.{reordered}
 use Rattle.rho_eval.proofs.Forms.{value-pair, value-process, value-map, made-same}
 
 pub ordered-part : (t : Tree) → IsNormal t → IsOrdered t

@@ -29,8 +29,8 @@ Stopped cap from o NoMemory = ⊤
 abbrev pub Evaluates : Prices → ℕ → Tree → Capped Tree → Type 0
 Evaluates p cap t w = capped cap (value p t) ≡ Some w
 
--- why it has no result: its first fault with its price, or that its price passed the cap; where memory ran out nothing is said
-abbrev pub EndsWith : Prices → ℕ → Tree → EvalStop → Type 0
-EndsWith p cap t (Fault kind price) = Evaluates p cap t (within (record { price = price; answer = fails kind }))
-EndsWith p cap t Over = Evaluates p cap t over
-EndsWith p cap t NoMemory = ⊤
+-- why work has no result: its first fault with its price, or that its price passed the cap; where memory ran out nothing is said
+abbrev pub EndsWith : {A : Type 0} → (Capped A → Type 0) → EvalStop → Type 0
+EndsWith says (Fault kind price) = says (within (record { price = price; answer = fails kind }))
+EndsWith says Over = says over
+EndsWith says NoMemory = ⊤

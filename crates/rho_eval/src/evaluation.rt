@@ -36,14 +36,15 @@ pub fn evaluate(
     requires cap { cap < 2 ^ 64 - 1 }
     requires closed { IsClosed term.now }
     ensures value { IfOk result (λ p. Evaluates prices.now cap term.now (within (record { price = p.price; answer = gives p.value }))) }
-    ensures stop { IfErr result (λ e. EndsWith prices.now cap term.now e) }
+    ensures stop { IfErr result (λ e. EndsWith (Evaluates prices.now cap term.now) e) }
 {
     let price = 0;
     eval_term(alloc, term, prices, cap, price)
 }
 
+/// The value of a closed process as `evaluate` has it, from a price so far.
 #[cycle(evaluate)]
-fn eval_term(
+pub fn eval_term(
     alloc: Global,
     term: &Term,
     prices: &Prices,
@@ -90,9 +91,9 @@ fn eval_parts(
     })
 }
 
-// The values of these processes in turn.
+/// The values of these closed processes in turn, from a price so far.
 #[cycle(evaluate)]
-fn eval_terms(
+pub fn eval_terms(
     alloc: Global,
     terms: &Vec<Term>,
     prices: &Prices,
@@ -146,9 +147,9 @@ fn eval_pairs(
     })
 }
 
-// The value of a part, as a process.
+/// The value of a closed part, as a process, from a price so far.
 #[cycle(evaluate)]
-fn eval_part(
+pub fn eval_part(
     alloc: Global,
     part: &Part,
     prices: &Prices,

@@ -6,5 +6,5 @@ mod limits;
 mod operation;
 pub mod stop;
 
-pub use evaluation::evaluate;
+pub use evaluation::{eval_part, eval_term, eval_terms, evaluate};
 pub use stop::{EvalStop, Priced};

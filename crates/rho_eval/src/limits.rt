@@ -7,14 +7,8 @@ ghost use Rattle.rho_eval.specs.Outcomes.{Came, Stopped};
 use crate::stop::{EvalStop, Priced};
 use calculus::FaultKind;
 use price_table::Prices;
-use rho_term::Term;
+use rho_term::{MOST_BYTES, MOST_HEIGHT, Term};
 use term_encoder::code_len;
-
-/// The greatest height of a process.
-const MOST_HEIGHT: u32 = 400;
-
-/// The greatest number of bytes of a code.
-const MOST_BYTES: u64 = 1_048_576;
 
 /// The process at this price so far, or its fault where it is beyond the limits.
 pub(crate) fn limited(term: Term, price: u64, cap: u64) -> Result<Priced<Term>, EvalStop>

@@ -5,8 +5,6 @@ mod bytes;
 mod gap;
 mod number;
 mod quoted;
-#[cfg(test)]
-mod tests;
 mod token;
 mod word;
 

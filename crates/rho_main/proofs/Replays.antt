@@ -10,13 +10,14 @@ use Rattle.calculus.specs.Runs.{Verdict, done, exhausted, faulted}
 use Rattle.event_log.specs.View.{header_of, step_of}
 use Rattle.replays.specs.Replays.{Refusal, header_refusal, refused, Answers}
 use Rattle.rho_term.specs.declared.op.Op.{Op}
-use Rattle.unfold.specs.Offers.{row_of_op}
-use Rattle.unfold.specs.Linear.{is_linear}
+use Rattle.rho_term.specs.Rows.{row_of_op}
+use Rattle.linear_unfold.specs.Linear.{is_linear}
 use Rattle.events.specs.Orders.{Moved, empty}
 use Rattle.states.specs.States.{state_text}
 use Rattle.states.proofs.Groups.{root_ignores_order, text_ignores_order}
 use Rattle.sources.specs.Sources.{IsSourceOf}
-use Rattle.linear_runs.specs.Premises.{FreshDigests, IsCalm}
+use Rattle.events.specs.Events.{FreshDigests}
+use Rattle.linear_runs.specs.Premises.{IsCalm}
 use Rattle.linear_replays.specs.Laws.{Replays}
 use Rattle.linear_replays.specs.Replayed.{from_nothing}
 use Rattle.linear_play.specs.declared.played.Verdict.TheVariants as ending

@@ -7,16 +7,17 @@ use Rattle.calculus.specs.Root.{root}
 use Rattle.calculus.specs.Steps.{Bag, stored_rows}
 use Rattle.calculus.specs.Runs.{Verdict, done, exhausted, faulted, verdict, next_rows}
 use Rattle.rho_term.specs.declared.op.Op.{Op}
-use Rattle.unfold.specs.Offers.{row_of_op}
+use Rattle.rho_term.specs.Rows.{row_of_op}
 use Rattle.events.specs.Orders.{Moved, empty}
 use Rattle.states.specs.States.{state_text}
 use Rattle.states.proofs.Computed.{state_examples}
 use Rattle.states.proofs.Groups.{root_ignores_order, text_ignores_order}
 use Rattle.sources.specs.Sources.{IsSourceOf}
 use Rattle.sources.proofs.Answering.{one_term}
-use Rattle.unfold.specs.Linear.{is_linear}
+use Rattle.linear_unfold.specs.Linear.{is_linear}
 use Rattle.linear_runs.specs.Courses.{IsRunOf}
-use Rattle.linear_runs.specs.Premises.{FreshDigests, IsCalm}
+use Rattle.events.specs.Events.{FreshDigests}
+use Rattle.linear_runs.specs.Premises.{IsCalm}
 use Rattle.made_names.specs.Names.{names_in}
 use Rattle.made_names.proofs.Calm.{fresh_is_calm}
 use Rattle.made_names.proofs.Sources.{sources_have_no_names}

@@ -9,7 +9,7 @@ use Rattle.sources.specs.Sources as sources
 use Rattle.sources.specs.Sources.{IsSourceOf, IsRefused}
 use Rattle.sources.specs.declared.fault.SourceFault.{SourceFault}
 use Rattle.sources.proofs.Answering.{one_term, one_refusal, not_both}
-use Rattle.unfold.specs.Linear.{is_linear}
+use Rattle.linear_unfold.specs.Linear.{is_linear}
 use Rattle.rho_main.specs.Words.{Names}
 use Rattle.rho_main.specs.Inputs.{Refusal, missing, too_large, unbuilt, bad_limit, name_of, size_limit, within, given, ◌>>=◌, only, empty_state, price_text, in_range, accepted_state, accepted_prices, accepted_limit, accepted}
 use Rattle.rho_main.specs.Runnable.{IsRunnable, IsUnbuilt}

@@ -7,7 +7,7 @@ use Rattle.rho_outside.specs.Put.{GrewBy, GrewByPart}
 use Rattle.rho_outside.specs.Told.{Told}
 use Rattle.rho_outside.specs.Kept.{with_files, PartSet}
 use Rattle.rho_main.specs.Words.{Names, names_in}
-use Rattle.replays.specs.Replays.{price_digest}
+use Rattle.calculus.specs.Limits.{price_digest}
 use Rattle.rho_main.specs.Inputs.{accepted, empty_state}
 use Rattle.rho_main.specs.Report.{report_line, status_of}
 use Rattle.rho_main.specs.Runs.{the_prices, Left, IsLeftBySource}

@@ -4,13 +4,13 @@ use Rattle.sha2.specs.Sha256.{sha256}
 use Rattle.calculus.specs.Log.{Header, Step}
 use Rattle.replays.specs.Replays.{Given, Refusal, refused, header_refusal, Answers}
 use Rattle.event_log.specs.View.{header_of, step_of}
-use Rattle.linear_runs.specs.Premises.{FreshDigests}
+use Rattle.events.specs.Events.{FreshDigests}
 use Rattle.linear_replays.specs.Replayed.{from_nothing}
 use Rattle.log_replay.specs.Refusals.{refusal_of}
 use Rattle.log_replay.specs.declared.fault.ReplayFault.{ReplayFault}
 use Rattle.calculus.specs.Root.{root}
 use Rattle.states.specs.States.{state_text}
-use Rattle.unfold.specs.Offers.{row_of_op}
+use Rattle.rho_term.specs.Rows.{row_of_op}
 use Rattle.log_replay.specs.declared.replayed.Replayed.{Replayed}
 use Rattle.rho_main.specs.Inputs.{empty_state}
 use Rattle.rho_main.specs.Report.{report_line}

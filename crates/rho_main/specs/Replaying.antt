@@ -9,7 +9,7 @@ use Rattle.replays.specs.Replays.{Outcome, refused, replayed, header_refusal, An
 use Rattle.event_log.specs.Reading.{log_of}
 use Rattle.event_log.specs.declared.fault.LogFault.{LogFault}
 use Rattle.sources.specs.Sources.{IsSourceOf}
-use Rattle.linear_runs.specs.Premises.{FreshDigests}
+use Rattle.events.specs.Events.{FreshDigests}
 use Rattle.linear_replays.specs.Replayed.{from_nothing}
 use Rattle.linear_play.specs.Courses.{verdict_of}
 use Rattle.log_replay.specs.Refusals.{refusal_of}

@@ -2,7 +2,7 @@
 use Rattle.std.specs.Prelude.{◌≡◌, List, ℕ, true, false}
 use Rattle.calculus.specs.Tree.{Tree}
 use Rattle.sources.specs.Sources.{IsSourceOf}
-use Rattle.unfold.specs.Linear.{is_linear}
+use Rattle.linear_unfold.specs.Linear.{is_linear}
 
 -- a source spells a process that breaks no rule and is of linear forms alone
 abbrev pub IsRunnable : List ℕ → Type 0

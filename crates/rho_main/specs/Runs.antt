@@ -8,7 +8,7 @@ use Rattle.calculus.specs.Root.{root}
 use Rattle.calculus.specs.Runs.{State, IsRun, verdict, cost, next_rows}
 use Rattle.states.specs.States.{state_text}
 use Rattle.sources.specs.Sources.{IsSourceOf}
-use Rattle.linear_runs.specs.Premises.{FreshDigests}
+use Rattle.events.specs.Events.{FreshDigests}
 use Rattle.linear_play.specs.Courses.{verdict_of}
 use Rattle.rho_main.specs.Report.{Report}
 

@@ -3,7 +3,7 @@ ghost use Rattle.event_log.specs.Reading.{log_of};
 ghost use Rattle.event_log.specs.View.{header_of, step_of};
 ghost use Rattle.sources.specs.Faults.{refusal_of};
 ghost use Rattle.calculus.specs.Form.{IsClosed};
-ghost use Rattle.unfold.specs.Linear.{is_linear};
+ghost use Rattle.linear_unfold.specs.Linear.{is_linear};
 ghost use Rattle.rho_outside.specs.Causes.{Rose};
 ghost use Rattle.rho_outside.specs.FileMap.{Gives};
 ghost use Rattle.rho_outside.specs.Told.{Told};
@@ -18,6 +18,7 @@ use crate::prices::PRICE_TEXT;
 use crate::status::{Input, Status};
 use crate::words::Command;
 use event_log::{Log, LogFault, read_log};
+use linear_unfold::is_linear;
 use price_table::{Prices, most_limit};
 use rho_lexer::LexFault;
 use rho_outside::{FetchFault, Shelf};
@@ -26,7 +27,6 @@ use rho_term::Term;
 use scope_check::ScopeFault;
 use sources::{SourceFault, read_source};
 use std::alloc::Global;
-use unfold::is_linear;
 
 /// The greatest number of bytes of a state, of a price text and of a source.
 const STATE_MAX: u64 = 268_435_456;

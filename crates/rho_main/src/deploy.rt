@@ -1,7 +1,7 @@
 ghost use Rattle.std.specs.Prelude.{◌≡◌, ◌≤◌, ◌⊎◌, ◌∷◌, [], None, Err, true, IsOkAnd, IfOk, OnOk, OnErr, IsErrOf, string_bytes};
 ghost use Rattle.calculus.specs.Form.{IsClosed};
 ghost use Rattle.sources.specs.Sources.{IsSourceOf};
-ghost use Rattle.unfold.specs.Linear.{is_linear};
+ghost use Rattle.linear_unfold.specs.Linear.{is_linear};
 ghost use Rattle.rho_outside.specs.Causes.{Rose};
 ghost use Rattle.rho_outside.specs.Put.{GrewBy, GrewByPart};
 ghost use Rattle.rho_outside.specs.Kept.{with_files, PartSet};

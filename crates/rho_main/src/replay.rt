@@ -4,7 +4,7 @@ ghost use Rattle.rho_outside.specs.Causes.{Rose};
 ghost use Rattle.rho_outside.specs.Put.{GrewBy, GrewByPart};
 ghost use Rattle.rho_outside.specs.Kept.{with_files, PartSet};
 ghost use Rattle.sources.specs.Sources.{IsSourceOf};
-ghost use Rattle.unfold.specs.Linear.{is_linear};
+ghost use Rattle.linear_unfold.specs.Linear.{is_linear};
 ghost use Rattle.log_replay.specs.Refusals.{refusal_of};
 ghost use Rattle.rho_main.specs.Words.{names_of};
 ghost use Rattle.rho_main.specs.Ends.{OnUsage, OnRefusal, OnFileRefusal, OnHalt, OnVerdict};

@@ -16,6 +16,3 @@ pub use memory::{CalmShelf, MemShelf, MemSink};
 pub use shelf::Shelf;
 pub use sink::Sink;
 pub use system::{FileShelf, StdSink};
-
-#[cfg(test)]
-mod tests;

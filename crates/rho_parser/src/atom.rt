@@ -153,9 +153,14 @@ impl<'a> Parser<'a> {
         ensures room { IfOk result (λ p. p.height ≤ free) }
         ensures shorter { length self.new.cursor.rest.now ≤ length self.old.cursor.rest.now }
     {
-        self.cursor.expect(Mark::Comma)?;
-        let row = self.row(Bracket::Round, free - 1)?;
-        process_forms::tuple(inner, row)
+        match self.cursor.expect(Mark::Comma) {
+            Ok(()) => {}
+            Err(fault) => return parts::give_up(inner, fault),
+        }
+        match self.row(Bracket::Round, free - 1) {
+            Ok(row) => process_forms::tuple(inner, row),
+            Err(fault) => parts::give_up(inner, fault),
+        }
     }
 
     /// A block or a map.
@@ -219,8 +224,14 @@ impl<'a> Parser<'a> {
         ensures room { IfOk result (λ p. p.height ≤ free) }
         ensures shorter { length self.new.cursor.rest.now ≤ length self.old.cursor.rest.now }
     {
-        self.cursor.expect(Mark::Colon)?;
-        let value = self.par(free - 1)?;
+        match self.cursor.expect(Mark::Colon) {
+            Ok(()) => {}
+            Err(fault) => return parts::give_up(inner, fault),
+        }
+        let value = match self.par(free - 1) {
+            Ok(value) => value,
+            Err(fault) => return parts::give_up(inner, fault),
+        };
         let first = parts::start(self.cursor.alloc, parts::pair(inner, value))?;
         self.pairs(first, free)
     }
@@ -254,9 +265,14 @@ impl<'a> Parser<'a> {
     {
         self.cursor.expect(Mark::Comma)?;
         let key = self.par(free - 1)?;
-        self.cursor.expect(Mark::Colon)?;
-        let value = self.par(free - 1)?;
-        parts::push(pairs, parts::pair(key, value))
+        match self.cursor.expect(Mark::Colon) {
+            Ok(()) => {}
+            Err(fault) => return parts::give_up(key, fault),
+        }
+        match self.par(free - 1) {
+            Ok(value) => parts::push(pairs, parts::pair(key, value)),
+            Err(fault) => parts::give_up(key, fault),
+        }
     }
 
     /// A list.

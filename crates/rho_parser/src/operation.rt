@@ -13,7 +13,7 @@ use crate::parser::Parser;
 use calculus::{BinaryOp, Proc, UnaryOp};
 use grammar::{Fault, Mark};
 use token_cursor::part::{Bracket, Part};
-use token_cursor::{Level, process_forms};
+use token_cursor::{Level, parts, process_forms};
 
 impl<'a> Parser<'a> {
     /// The operators of a level and their operands, which lean to the left.
@@ -58,9 +58,14 @@ impl<'a> Parser<'a> {
         ensures room { IfOk result (λ p. p.height ≤ free) }
         ensures shorter { MatchResult result (λ _. length self.new.cursor.rest.now < length self.old.cursor.rest.now) (λ _. length self.new.cursor.rest.now ≤ length self.old.cursor.rest.now) }
     {
-        self.cursor.opens(mark, left.height, free)?;
-        let right = self.operand(level.right(), free - 1)?;
-        process_forms::operation(self.cursor.alloc, op, left, right)
+        match self.cursor.opens(mark, left.height, free) {
+            Ok(()) => {}
+            Err(fault) => return parts::give_up(left, fault),
+        }
+        match self.operand(level.right(), free - 1) {
+            Ok(right) => process_forms::operation(self.cursor.alloc, op, left, right),
+            Err(fault) => parts::give_up(left, fault),
+        }
     }
 
     /// Pre ::= "not" Pre | "-" Pre | Meth, where a Pre after "-" doesn't begin with an Int
@@ -126,10 +131,21 @@ impl<'a> Parser<'a> {
         ensures room { IfOk result (λ p. p.height ≤ free) }
         ensures shorter { MatchResult result (λ _. length self.new.cursor.rest.now < length self.old.cursor.rest.now) (λ _. length self.new.cursor.rest.now ≤ length self.old.cursor.rest.now) }
     {
-        self.cursor.opens(Mark::Dot, target.height, free)?;
-        let name = self.cursor.word()?;
-        self.cursor.expect(Mark::Open)?;
-        let args = self.row(Bracket::Round, free - 1)?;
-        process_forms::method(self.cursor.alloc, name, target, args)
+        match self.cursor.opens(Mark::Dot, target.height, free) {
+            Ok(()) => {}
+            Err(fault) => return parts::give_up(target, fault),
+        }
+        let name = match self.cursor.word() {
+            Ok(name) => name,
+            Err(fault) => return parts::give_up(target, fault),
+        };
+        match self.cursor.expect(Mark::Open) {
+            Ok(()) => {}
+            Err(fault) => return parts::give_up(target, fault),
+        }
+        match self.row(Bracket::Round, free - 1) {
+            Ok(args) => process_forms::method(self.cursor.alloc, name, target, args),
+            Err(fault) => parts::give_up(target, fault),
+        }
     }
 }

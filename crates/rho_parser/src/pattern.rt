@@ -157,8 +157,10 @@ impl<'a> Parser<'a> {
         self.cursor.opens_bundle(rights, free)?;
         self.cursor.expect(Mark::OpenBrace)?;
         let body = self.pattern_par(free - 1)?;
-        self.cursor.expect(Mark::CloseBrace)?;
-        pattern_forms::bundle_pat(self.cursor.alloc, rights, body)
+        match self.cursor.expect(Mark::CloseBrace) {
+            Ok(()) => pattern_forms::bundle_pat(self.cursor.alloc, rights, body),
+            Err(fault) => parts::give_up(body, fault),
+        }
     }
 
     /// A send that begins with a word.
@@ -282,9 +284,14 @@ impl<'a> Parser<'a> {
         ensures room { IfOk result (λ p. p.height ≤ free) }
         ensures shorter { MatchResult result (λ _. length self.new.cursor.rest.now < length self.old.cursor.rest.now) (λ _. length self.new.cursor.rest.now ≤ length self.old.cursor.rest.now) }
     {
-        self.cursor.opens(Mark::Either, left.height, free)?;
-        let right = self.pattern_conjunction(free - 1)?;
-        pattern_forms::either(self.cursor.alloc, left, right)
+        match self.cursor.opens(Mark::Either, left.height, free) {
+            Ok(()) => {}
+            Err(fault) => return parts::give_up(left, fault),
+        }
+        match self.pattern_conjunction(free - 1) {
+            Ok(right) => pattern_forms::either(self.cursor.alloc, left, right),
+            Err(fault) => parts::give_up(left, fault),
+        }
     }
 
     /// PAnd ::= PNot { "/\" PNot }
@@ -309,9 +316,14 @@ impl<'a> Parser<'a> {
         ensures room { IfOk result (λ p. p.height ≤ free) }
         ensures shorter { MatchResult result (λ _. length self.new.cursor.rest.now < length self.old.cursor.rest.now) (λ _. length self.new.cursor.rest.now ≤ length self.old.cursor.rest.now) }
     {
-        self.cursor.opens(Mark::Both, left.height, free)?;
-        let right = self.pattern_not(free - 1)?;
-        pattern_forms::both(self.cursor.alloc, left, right)
+        match self.cursor.opens(Mark::Both, left.height, free) {
+            Ok(()) => {}
+            Err(fault) => return parts::give_up(left, fault),
+        }
+        match self.pattern_not(free - 1) {
+            Ok(right) => pattern_forms::both(self.cursor.alloc, left, right),
+            Err(fault) => parts::give_up(left, fault),
+        }
     }
 
     /// PNot ::= "~" PNot | PAtom

@@ -94,8 +94,10 @@ impl<'a> Parser<'a> {
     {
         self.cursor.expect(Mark::OpenBrace)?;
         let body = self.par(free - 1)?;
-        self.cursor.expect(Mark::CloseBrace)?;
-        pattern_forms::same(self.cursor.alloc, body)
+        match self.cursor.expect(Mark::CloseBrace) {
+            Ok(()) => pattern_forms::same(self.cursor.alloc, body),
+            Err(fault) => parts::give_up(body, fault),
+        }
     }
 
     /// A pattern in parentheses, or a tuple.
@@ -133,9 +135,14 @@ impl<'a> Parser<'a> {
         ensures room { IfOk result (λ p. p.height ≤ free) }
         ensures shorter { length self.new.cursor.rest.now ≤ length self.old.cursor.rest.now }
     {
-        self.cursor.expect(Mark::Comma)?;
-        let row = self.pattern_row(Bracket::Round, free - 1)?;
-        pattern_forms::tuple_pat(first, row)
+        match self.cursor.expect(Mark::Comma) {
+            Ok(()) => {}
+            Err(fault) => return parts::give_up(first, fault),
+        }
+        match self.pattern_row(Bracket::Round, free - 1) {
+            Ok(row) => pattern_forms::tuple_pat(first, row),
+            Err(fault) => parts::give_up(first, fault),
+        }
     }
 
     /// Row ::= [ PPar { "," PPar } ], and the sign that closes it
@@ -326,8 +333,14 @@ impl<'a> Parser<'a> {
         ensures room { IfOk result (λ p. p.height ≤ free) }
         ensures shorter { length self.new.cursor.rest.now ≤ length self.old.cursor.rest.now }
     {
-        self.cursor.expect(Mark::Colon)?;
-        let value = self.pattern_par(free - 1)?;
+        match self.cursor.expect(Mark::Colon) {
+            Ok(()) => {}
+            Err(fault) => return parts::give_up(first, fault),
+        }
+        let value = match self.pattern_par(free - 1) {
+            Ok(value) => value,
+            Err(fault) => return parts::give_up(first, fault),
+        };
         let pair = parts::pair(first, value);
         let mut pairs = parts::start(self.cursor.alloc, pair)?;
         while self.cursor.sees_member() {
@@ -351,8 +364,14 @@ impl<'a> Parser<'a> {
     {
         self.cursor.expect(Mark::Comma)?;
         let key = self.pattern_par(free - 1)?;
-        self.cursor.expect(Mark::Colon)?;
-        let value = self.pattern_par(free - 1)?;
+        match self.cursor.expect(Mark::Colon) {
+            Ok(()) => {}
+            Err(fault) => return parts::give_up(key, fault),
+        }
+        let value = match self.pattern_par(free - 1) {
+            Ok(value) => value,
+            Err(fault) => return parts::give_up(key, fault),
+        };
         let pair = parts::pair(key, value);
         parts::push(pairs, pair)
     }

@@ -86,9 +86,14 @@ impl<'a> Parser<'a> {
         self.cursor.opens(Mark::If, 0, free)?;
         self.cursor.expect(Mark::Open)?;
         let condition = self.par(free - 1)?;
-        self.cursor.expect(Mark::Close)?;
-        let yes = self.two(free - 1)?;
-        self.if_tail(condition, yes, free)
+        match self.cursor.expect(Mark::Close) {
+            Ok(()) => {}
+            Err(fault) => return parts::give_up(condition, fault),
+        }
+        match self.two(free - 1) {
+            Ok(yes) => self.if_tail(condition, yes, free),
+            Err(fault) => parts::give_up(condition, fault),
+        }
     }
 
     /// What follows the first branch of an `if`.
@@ -126,9 +131,14 @@ impl<'a> Parser<'a> {
         ensures room { IfOk result (λ p. p.height ≤ free) }
         ensures shorter { length self.new.cursor.rest.now ≤ length self.old.cursor.rest.now }
     {
-        self.cursor.expect(Mark::Else)?;
-        let no = self.one(free - 1)?;
-        process_forms::choice(self.cursor.alloc, condition, yes, no)
+        match self.cursor.expect(Mark::Else) {
+            Ok(()) => {}
+            Err(fault) => return parts::give_up((condition, yes), fault),
+        }
+        match self.one(free - 1) {
+            Ok(no) => process_forms::choice(self.cursor.alloc, condition, yes, no),
+            Err(fault) => parts::give_up((condition, yes), fault),
+        }
     }
 
     /// Contract ::= "contract" Name "(" Left ")" "=" One
@@ -267,7 +277,9 @@ impl<'a> Parser<'a> {
         self.cursor.opens_bundle(rights, free)?;
         self.cursor.expect(Mark::OpenBrace)?;
         let body = self.par(free - 1)?;
-        self.cursor.expect(Mark::CloseBrace)?;
-        process_forms::bundle(self.cursor.alloc, rights, body)
+        match self.cursor.expect(Mark::CloseBrace) {
+            Ok(()) => process_forms::bundle(self.cursor.alloc, rights, body),
+            Err(fault) => parts::give_up(body, fault),
+        }
     }
 }

@@ -189,8 +189,10 @@ impl<'a> Parser<'a> {
         self.cursor.expect(Mark::Close)?;
         self.cursor.expect(Mark::OpenBrace)?;
         let body = self.par(free - 1)?;
-        self.cursor.expect(Mark::CloseBrace)?;
-        process_forms::receive(self.cursor.alloc, kind, binds, body)
+        match self.cursor.expect(Mark::CloseBrace) {
+            Ok(()) => process_forms::receive(self.cursor.alloc, kind, binds, body),
+            Err(fault) => parts::give_up(body, fault),
+        }
     }
 
     /// Match ::= "match" Or "{" Case { Case } "}"
@@ -202,10 +204,18 @@ impl<'a> Parser<'a> {
     {
         self.cursor.opens(Mark::Match, 0, free)?;
         let target = self.level(Level::Or, free - 1)?;
-        self.cursor.expect(Mark::OpenBrace)?;
-        let cases = self.cases(target.height, free)?;
-        self.cursor.expect(Mark::CloseBrace)?;
-        process_forms::matches(self.cursor.alloc, target.value, cases)
+        match self.cursor.expect(Mark::OpenBrace) {
+            Ok(()) => {}
+            Err(fault) => return parts::give_up(target, fault),
+        }
+        let cases = match self.cases(target.height, free) {
+            Ok(cases) => cases,
+            Err(fault) => return parts::give_up(target, fault),
+        };
+        match self.cursor.expect(Mark::CloseBrace) {
+            Ok(()) => process_forms::matches(self.cursor.alloc, target.value, cases),
+            Err(fault) => parts::give_up(target, fault),
+        }
     }
 
     /// The cases of a `match` whose target has this height.
@@ -234,8 +244,13 @@ impl<'a> Parser<'a> {
     {
         self.cursor.refuse_minus()?;
         let pattern = self.pattern_one(free - 1)?;
-        self.cursor.expect(Mark::FatArrow)?;
-        let body = self.one(free - 1)?;
-        parts::push(cases, process_forms::case(pattern, body))
+        match self.cursor.expect(Mark::FatArrow) {
+            Ok(()) => {}
+            Err(fault) => return parts::give_up(pattern, fault),
+        }
+        match self.one(free - 1) {
+            Ok(body) => parts::push(cases, process_forms::case(pattern, body)),
+            Err(fault) => parts::give_up(pattern, fault),
+        }
     }
 }

@@ -8,8 +8,7 @@ use Rattle.calculus.specs.Shape.{held}
 use Rattle.calculus.specs.Variables.{bound, bound_all}
 use Rattle.calculus.specs.Form.{Sort, a_bind, pat, name_pat, all}
 use Rattle.calculus.specs.Printed.{first_text, separated, variable_text, bind_texts, rest_text, with_commas, with_rest, operand_text}
-use Rattle.calculus.proofs.Formed.{Formed, Holds}
-use Rattle.calculus.proofs.Tails.{IsFine}
+use Rattle.calculus.specs.Formed.{IsFine, Formed, Holds}
 use Rattle.rho_term.specs.declared.term.Part.{Part}
 use Rattle.rho_term.specs.declared.term.Part.TheVariants as parts
 use Rattle.calculus.specs.Printed.{printed}

@@ -5,8 +5,7 @@ ghost use Rattle.calculus.specs.Printed.{rest_text, with_commas, separated};
 ghost use Rattle.calculus.specs.Shape.{leaf};
 ghost use Rattle.calculus.specs.Tree.{rest, trees};
 ghost use Rattle.calculus.specs.Variables.{bound, bound_all};
-ghost use Rattle.calculus.proofs.Formed.{Formed, Holds};
-ghost use Rattle.calculus.proofs.Tails.{IsFine};
+ghost use Rattle.calculus.specs.Formed.{IsFine, Formed, Holds};
 ghost use Rattle.rho_term.specs.Parts.{bind_tree, case_tree};
 ghost use Rattle.rho_printer.specs.Texts.{HasRoom, Writes, WritesAll, bind_text_of, binds_texts, left_text};
 

@@ -5,8 +5,7 @@ ghost use Rattle.calculus.specs.Printed.{operand_text, name_pattern_text, separa
 ghost use Rattle.calculus.specs.Shape.{held};
 ghost use Rattle.calculus.specs.Tree.{trees};
 ghost use Rattle.calculus.specs.Variables.{bound, bound_all};
-ghost use Rattle.calculus.proofs.Formed.{Formed, Holds};
-ghost use Rattle.calculus.proofs.Tails.{IsFine};
+ghost use Rattle.calculus.specs.Formed.{IsFine, Formed, Holds};
 ghost use Rattle.rho_term.specs.Normal.{AreNormal};
 ghost use Rattle.rho_term.specs.Parts.{pat_part_tree, pair_tree};
 ghost use Rattle.rho_printer.specs.Texts.{HasRoom, text_of, texts_of};

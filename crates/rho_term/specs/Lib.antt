@@ -4,3 +4,4 @@ pub mod Measures
 pub mod Sizes
 pub mod Faults
 pub mod Falls
+pub mod Rows

@@ -1,12 +1,13 @@
-// Faults in parts and in what stands in them: forms that the types allow and that are of no sort. None is
-// overlooked. Beside it each call says that what it searched is in normal order.
+// Faults in parts and in what stands in them: forms that the types allow and that are of no sort. Some are
+// found exactly where there are some; how many is not said. Beside it each call says that what it searched
+// is in normal order.
 
 ghost use Rattle.std.specs.Prelude.{◌≡◌, ◌-◌, ◌+◌, ◌≤◌, map, length};
 ghost use Rattle.calculus.specs.Tree.{trees};
 ghost use Rattle.calculus.specs.Form.{term, part as of_part, a_bind, a_case, pat as process_pat, name_pat, pat_part, name_part, pair_of, all as any_of};
 ghost use Rattle.rho_term.specs.Parts.{part_tree, pat_part_tree, ground_tree, pair_tree, bind_tree, case_tree, term_tree};
 ghost use Rattle.rho_term.specs.Normal.{IsNormal, AreNormal, IsOrdered};
-ghost use Rattle.rho_term.specs.Measures.{in_u32};
+ghost use Rattle.rho_term.specs.Measures.{in_u32, sign};
 ghost use Rattle.rho_term.specs.Faults.{faults, all_faults};
 
 use crate::term::{Part, PatPart, Term, TermBind, TermCase, TermPat};
@@ -14,7 +15,7 @@ use calculus::Ground;
 
 /// The faults in a process of these parts.
 pub(crate) fn parts_faults(parts: &Vec<Part>) -> u32
-    ensures { in_u32 (faults term (term_tree parts.now.items)) ≤ result }
+    ensures { sign result ≡ sign (faults term (term_tree parts.now.items)) }
 {
     let mut total = 0;
     for part in parts {
@@ -25,7 +26,7 @@ pub(crate) fn parts_faults(parts: &Vec<Part>) -> u32
 
 #[cycle(faults)]
 pub(crate) fn part_faults(part: &Part) -> u32
-    ensures faults { in_u32 (faults of_part (part_tree part.now)) ≤ result }
+    ensures faults { sign result ≡ sign (faults of_part (part_tree part.now)) }
     ensures normal { IsOrdered (part_tree part.now) → IsNormal (part_tree part.now) }
 {
     match part {
@@ -50,7 +51,7 @@ pub(crate) fn part_faults(part: &Part) -> u32
 
 #[cycle(faults)]
 fn pat_faults(pat: &TermPat) -> u32
-    ensures faults { in_u32 (faults process_pat pat.now) ≤ result }
+    ensures faults { sign result ≡ sign (faults process_pat pat.now) }
     ensures normal { IsNormal pat.now }
 {
     let parts = pat.parts();
@@ -64,7 +65,7 @@ fn pat_faults(pat: &TermPat) -> u32
 // A pattern of names, which may have name variables.
 #[cycle(faults)]
 fn name_pat_faults(pat: &TermPat) -> u32
-    ensures faults { in_u32 (faults name_pat pat.now) ≤ result }
+    ensures faults { sign result ≡ sign (faults name_pat pat.now) }
     ensures normal { IsNormal pat.now }
 {
     let parts = pat.parts();
@@ -77,7 +78,7 @@ fn name_pat_faults(pat: &TermPat) -> u32
 
 #[cycle(faults)]
 fn name_part_faults(part: &PatPart) -> u32
-    ensures faults { in_u32 (faults name_part (pat_part_tree part.now)) ≤ result }
+    ensures faults { sign result ≡ sign (faults name_part (pat_part_tree part.now)) }
     ensures normal { IsOrdered (pat_part_tree part.now) → IsNormal (pat_part_tree part.now) }
 {
     match part {
@@ -88,13 +89,13 @@ fn name_part_faults(part: &PatPart) -> u32
 
 #[cycle(faults)]
 fn pat_part_faults(part: &PatPart) -> u32
-    ensures faults { in_u32 (faults pat_part (pat_part_tree part.now)) ≤ result }
+    ensures faults { sign result ≡ sign (faults pat_part (pat_part_tree part.now)) }
     ensures normal { IsOrdered (pat_part_tree part.now) → IsNormal (pat_part_tree part.now) }
 {
     match part {
         PatPart::Wild => 0,
         PatPart::Var => 0,
-        PatPart::NameVar => u32::MAX,
+        PatPart::NameVar => 1,
         PatPart::Simple(_) => 0,
         PatPart::Same(process) => process.faults(),
         PatPart::Ground(value) => ground_faults(value),
@@ -114,7 +115,7 @@ fn pat_part_faults(part: &PatPart) -> u32
 // A closed form in a pattern is a ground value, a receive, a `new` or a `match`.
 #[cycle(faults)]
 fn closed_faults(part: &Part) -> u32
-    ensures faults { in_u32 (faults pat_part (part_tree part.now)) ≤ result }
+    ensures faults { sign result ≡ sign (faults pat_part (part_tree part.now)) }
     ensures normal { IsOrdered (part_tree part.now) → IsNormal (part_tree part.now) }
 {
     let found = part_faults(part);
@@ -123,13 +124,37 @@ fn closed_faults(part: &Part) -> u32
         Part::Receive { .. } => found,
         Part::New { .. } => found,
         Part::Match { .. } => found,
-        _ => u32::MAX,
+        Part::Tuple(members) => members_in_pattern(members),
+        Part::Send { channel, .. } => in_pattern(channel),
+        Part::Bundle { body, .. } => in_pattern(body),
+        _ => 1,
+    }
+}
+
+// A process where a pattern is wanted is a fault.
+fn in_pattern(process: &Term) -> u32
+    ensures some { 1 ≤ result }
+    ensures pattern { 1 ≤ faults process_pat process.now }
+    ensures names { 1 ≤ faults name_pat process.now }
+{
+    let _parts = process.parts();
+    1
+}
+
+// And so are the members of a tuple there, or that it has none.
+fn members_in_pattern(members: &Vec<Term>) -> u32
+    ensures some { 1 ≤ result }
+    ensures faults { 1 ≤ (1 - length members.now.items) + all_faults (any_of process_pat) (trees members.now.items) }
+{
+    match members.first() {
+        Some(member) => in_pattern(member),
+        None => 1,
     }
 }
 
 fn ground_faults(value: &Ground) -> u32
-    ensures part { in_u32 (faults of_part (ground_tree value.now)) ≤ result }
-    ensures pattern { in_u32 (faults pat_part (ground_tree value.now)) ≤ result }
+    ensures part { sign result ≡ sign (faults of_part (ground_tree value.now)) }
+    ensures pattern { sign result ≡ sign (faults pat_part (ground_tree value.now)) }
 {
     match value {
         Ground::Bool(_) => 0,
@@ -141,7 +166,7 @@ fn ground_faults(value: &Ground) -> u32
 }
 
 fn terms_faults(terms: &Vec<Term>) -> u32
-    ensures faults { in_u32 (all_faults (any_of term) (trees terms.now.items)) ≤ result }
+    ensures faults { sign result ≡ sign (all_faults (any_of term) (trees terms.now.items)) }
     ensures normal { AreNormal (trees terms.now.items) }
 {
     let mut total = 0;
@@ -152,7 +177,7 @@ fn terms_faults(terms: &Vec<Term>) -> u32
 }
 
 fn pairs_faults(pairs: &Vec<(Term, Term)>) -> u32
-    ensures faults { in_u32 (all_faults (any_of (pair_of term)) (trees (map pair_tree pairs.now.items))) ≤ result }
+    ensures faults { sign result ≡ sign (all_faults (any_of (pair_of term)) (trees (map pair_tree pairs.now.items))) }
     ensures normal { AreNormal (trees (map pair_tree pairs.now.items)) }
 {
     let mut total = 0;
@@ -165,7 +190,7 @@ fn pairs_faults(pairs: &Vec<(Term, Term)>) -> u32
 
 #[cycle(faults)]
 fn binds_faults(binds: &Vec<TermBind>) -> u32
-    ensures faults { in_u32 (all_faults (any_of a_bind) (trees (map bind_tree binds.now.items))) ≤ result }
+    ensures faults { sign result ≡ sign (all_faults (any_of a_bind) (trees (map bind_tree binds.now.items))) }
     ensures normal { AreNormal (trees (map bind_tree binds.now.items)) }
 {
     let mut total = 0;
@@ -178,7 +203,7 @@ fn binds_faults(binds: &Vec<TermBind>) -> u32
 
 #[cycle(faults)]
 fn cases_faults(cases: &Vec<TermCase>) -> u32
-    ensures faults { in_u32 (all_faults (any_of a_case) (trees (map case_tree cases.now.items))) ≤ result }
+    ensures faults { sign result ≡ sign (all_faults (any_of a_case) (trees (map case_tree cases.now.items))) }
     ensures normal { AreNormal (trees (map case_tree cases.now.items)) }
 {
     let mut total = 0;
@@ -191,7 +216,7 @@ fn cases_faults(cases: &Vec<TermCase>) -> u32
 
 #[cycle(faults)]
 fn pats_faults(pats: &Vec<TermPat>) -> u32
-    ensures faults { in_u32 (all_faults (any_of process_pat) (trees pats.now.items)) ≤ result }
+    ensures faults { sign result ≡ sign (all_faults (any_of process_pat) (trees pats.now.items)) }
     ensures normal { AreNormal (trees pats.now.items) }
 {
     let mut total = 0;
@@ -203,7 +228,7 @@ fn pats_faults(pats: &Vec<TermPat>) -> u32
 
 #[cycle(faults)]
 fn name_pats_faults(pats: &Vec<TermPat>) -> u32
-    ensures faults { in_u32 (all_faults (any_of name_pat) (trees pats.now.items)) ≤ result }
+    ensures faults { sign result ≡ sign (all_faults (any_of name_pat) (trees pats.now.items)) }
     ensures normal { AreNormal (trees pats.now.items) }
 {
     let mut total = 0;
@@ -215,7 +240,7 @@ fn name_pats_faults(pats: &Vec<TermPat>) -> u32
 
 #[cycle(faults)]
 fn pat_pairs_faults(pairs: &Vec<(TermPat, TermPat)>) -> u32
-    ensures faults { in_u32 (all_faults (any_of (pair_of process_pat)) (trees (map pair_tree pairs.now.items))) ≤ result }
+    ensures faults { sign result ≡ sign (all_faults (any_of (pair_of process_pat)) (trees (map pair_tree pairs.now.items))) }
     ensures normal { AreNormal (trees (map pair_tree pairs.now.items)) }
 {
     let mut total = 0;
@@ -235,9 +260,9 @@ fn tuple_faults(members: usize) -> u32
 
 // A digest has 32 bytes.
 fn digest_faults(digest: &[u8]) -> u32
-    ensures { in_u32 ((length digest.now - 32) + (32 - length digest.now)) ≤ result }
+    ensures { sign result ≡ sign ((length digest.now - 32) + (32 - length digest.now)) }
 {
-    if digest.len() == 32 { 0 } else { u32::MAX }
+    if digest.len() == 32 { 0 } else { 1 }
 }
 
 // The sum, as far as a u32 goes.

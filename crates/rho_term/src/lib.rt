@@ -14,3 +14,9 @@ pub mod term;
 pub use calculus::{Origin, TermRest};
 pub use op::Op;
 pub use term::{Part, PatPart, Term, TermBind, TermCase, TermPat};
+
+/// The greatest height of a value, of a stored send or receive, and of a body with its values.
+pub const MOST_HEIGHT: u32 = 400;
+
+/// The greatest number of bytes of the code of a value, of a stored send or receive, and of a body with its values.
+pub const MOST_BYTES: u64 = 1_048_576;

@@ -5,7 +5,7 @@ ghost use Rattle.calculus.specs.Form.{term, part};
 ghost use Rattle.calculus.specs.Size.{height};
 ghost use Rattle.rho_term.specs.Parts.{part_tree, pat_part_tree, bind_tree, term_tree, pat_tree};
 ghost use Rattle.rho_term.specs.Normal.{IsNormal, IsOrdered};
-ghost use Rattle.rho_term.specs.Measures.{in_u32};
+ghost use Rattle.rho_term.specs.Measures.{in_u32, sign};
 ghost use Rattle.rho_term.specs.Sizes.{in_u64, size as code_size};
 ghost use Rattle.rho_term.specs.Faults.{faults};
 
@@ -160,7 +160,7 @@ impl Model for Term {
 
     ghost use Rattle.rho_term.specs.Parts.{term_tree};
     ghost use Rattle.rho_term.specs.Normal.{IsNormal};
-    ghost use Rattle.rho_term.specs.Measures.{in_u32};
+    ghost use Rattle.rho_term.specs.Measures.{in_u32, sign};
     ghost use Rattle.rho_term.specs.Sizes.{in_u64, size as code_size};
     ghost use Rattle.rho_term.specs.Faults.{faults};
     ghost use Rattle.calculus.specs.Form.{term};
@@ -168,7 +168,7 @@ impl Model for Term {
 
     ghost view = { λ a. term_tree a.parts.items };
 
-    ghost invariant = { λ a. IsNormal (term_tree a.parts.items) × (a.height ≡ in_u32 (height_of (term_tree a.parts.items))) × (a.code_length ≡ in_u64 (code_size (term_tree a.parts.items))) × (in_u32 (faults term (term_tree a.parts.items)) ≤ a.fault_count) };
+    ghost invariant = { λ a. IsNormal (term_tree a.parts.items) × (a.height ≡ in_u32 (height_of (term_tree a.parts.items))) × (a.code_length ≡ in_u64 (code_size (term_tree a.parts.items))) × (sign a.fault_count ≡ sign (faults term (term_tree a.parts.items))) };
 
     ghost size = { weight };
 
@@ -272,18 +272,19 @@ impl Term {
         self.code_length
     }
 
-    /// Whether it is known to be without a fault: without an empty tuple, and with forms of their
-    /// sorts alone in its patterns. It was seen when the process was made.
+    /// Whether it is without a fault: without an empty tuple, and with forms of their sorts alone in
+    /// its patterns. It was seen when the process was made.
     pub fn is_faultless(&self) -> bool
         ensures faults { result ≡ true → faults term self.now ≡ 0 }
+        ensures faultless { faults term self.now ≡ 0 → result ≡ true }
         ensures normal { IsNormal self.now }
     {
         self.fault_count == 0
     }
 
-    // How many faults it has at most, as far as a u32 goes.
+    // Its faults: some where it has some. How many is not said.
     pub(crate) fn faults(&self) -> u32
-        ensures faults { in_u32 (faults term self.now) ≤ result }
+        ensures faults { sign result ≡ sign (faults term self.now) }
         ensures normal { IsNormal self.now }
     {
         self.fault_count
@@ -352,9 +353,10 @@ impl Part {
         part_len(self)
     }
 
-    /// Whether it is known to be without a fault, as a process is.
+    /// Whether it is without a fault, as a process is.
     pub fn is_faultless(&self) -> bool
         ensures faults { result ≡ true → faults part (part_tree self.now) ≡ 0 }
+        ensures faultless { faults part (part_tree self.now) ≡ 0 → result ≡ true }
         ensures normal { IsOrdered (part_tree self.now) → IsNormal (part_tree self.now) }
     {
         part_faults(self) == 0

@@ -4,7 +4,8 @@ use Rattle.calculus.specs.Examples.{prices}
 use Rattle.calculus.specs.ExamplesRuns.{first_path_source, first_path_digest, first_path_step}
 use Rattle.calculus.specs.Steps.{differ}
 use Rattle.calculus.specs.Runs.{State, IsRun}
-use Rattle.linear_runs.specs.Premises.{FreshDigests, IsCalm}
+use Rattle.events.specs.Events.{FreshDigests}
+use Rattle.linear_runs.specs.Premises.{IsCalm}
 
 -- `new c in { c!(5) | for (@x <- c) { @"out"!(x) } }` from the empty state, with a limit of 22
 pub record PremiseExamples : Type 0 where

@@ -6,7 +6,7 @@ ghost use Rattle.calculus.specs.Root.{group_code};
 ghost use Rattle.rho_term.specs.Normal.{IsOrdered};
 ghost use Rattle.rho_term.specs.Parts.{part_tree};
 ghost use Rattle.linear_store.specs.Channels.{first_channel, IsOnOneChannel};
-ghost use Rattle.unfold.specs.Offers.{row_of_op};
+ghost use Rattle.rho_term.specs.Rows.{row_of_op};
 ghost use Rattle.state_writer.specs.Stored.{stored, keyed, AreStored};
 
 use calculus::{Digest, Kind};

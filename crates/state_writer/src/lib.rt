@@ -9,6 +9,3 @@ mod rows;
 mod text;
 
 pub use rows::{StoredRow, write_rows};
-
-#[cfg(test)]
-mod tests;

@@ -10,7 +10,7 @@ use Rattle.term_code.specs.declared.fault.CodeFault.TheVariants as fault
 use Rattle.term_code.specs.declared.fault.ReadFault.{ReadFault}
 use Rattle.term_code.specs.declared.fault.ReadFault.TheVariants as read
 use Rattle.term_code.specs.Reading.{Reads}
-use Rattle.term_code.specs.Readable.{IsReadable, IsCutCode, IsBegun, IsBegunTo, at_end}
+use Rattle.term_code.specs.Readable.{IsReadable, IsCutCode, IsBegun, IsBegunTo, IsCodeUpTo, at_end}
 use Rattle.term_code.specs.Beginning.{HasPlace, Goes, Begun}
 use Rattle.term_code.specs.Refusing.{IsRight, HasRoom, Refuses, MayFollow}
 use Rattle.term_code.specs.Blaming.{Wrong, InTree, IsNamelessAt}
@@ -139,6 +139,27 @@ begun-until bs (read.Unnamed k) len at l h f (inl q) =
 begun-until bs (read.Unnamed k) len at l h f (inr q) = absurd (cc)
 begun-until bs read.NoMemory len at l h f (inl q) = absurd (cc)
 begun-until bs read.NoMemory len at l h f (inr q) = absurd (cc)
+
+-- a form that is too deep stands behind the beginning of a code
+pub deep-begun : (bs : List ℕ) (e : ReadFault) (len at : ℕ) → len ≡ length bs → (HasPlace e → Goes e (Begun true term [] 400 bs)) → at_end e len ≡ fault.TooDeep at → IsCodeUpTo bs at
+deep-begun bs (read.Short k) len at l f q = absurd (cc)
+deep-begun bs (read.NotCanonical k) len at l f q = absurd (cc)
+deep-begun bs (read.TooDeep k) len at l f q =
+    let g = f tt in
+    let b = g.begun in
+    record {
+      process = b.tree;
+      closed = b.fits;
+      low = b.low;
+      before = b.cut.before;
+      more = b.cut.more;
+      goes = b.cut.goes;
+      after = g.after;
+      is = b.cut.is;
+      place = omega (arith, too-deep q, g.place, l, ap length b.cut.is, length-append b.cut.before g.after);
+    }
+deep-begun bs (read.Unnamed k) len at l f q = absurd (cc)
+deep-begun bs read.NoMemory len at l f q = absurd (cc)
 
 -- a further byte stands behind a whole code
 pub further : (u : Tree) (bs left : List ℕ) (k at : ℕ) → Reads term [] 400 u bs left → k ≡ length bs - length left → (fault.NotCanonical k ≡ fault.NotCanonical at) ⊎ (fault.NotCanonical k ≡ fault.TooDeep at) → IsBegunTo bs at

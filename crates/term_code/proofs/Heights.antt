@@ -21,11 +21,11 @@ use Rattle.term_code.proofs.BlamedTags.{raises, formed-tag}
 use Rattle.term_code.proofs.Spelling.{spelling-items}
 
 -- a constituent of some sort, which has a tag where a part stands
-record Kid (slot : Slot) (high : ℕ) (t : Tree) : Type 0 where
-  sort : Sort
-  formed : Formed IsFine sort t
-  tagged : (slot ≡ another → ⊥) → own_bytes sort ≡ 1
-  low : height t ≤ high
+pub record Kid (slot : Slot) (high : ℕ) (t : Tree) : Type 0 where
+  pub sort : Sort
+  pub formed : Formed IsFine sort t
+  pub tagged : (slot ≡ another → ⊥) → own_bytes sort ≡ 1
+  pub low : height t ≤ high
 
 -- each of these is one
 Kin : Slot → ℕ → List Tree → Type 0
@@ -99,7 +99,7 @@ kin-standing slot high true ts h = kin-sorted slot high ts h
 kin-standing slot high false ts h = h
 
 -- items of at most this height
-Below : ℕ → List Item → Type 0
+pub Below : ℕ → List Item → Type 0
 Below high [] = ⊤
 Below high (field f ∷ is) = Below high is
 Below high (name_length n ∷ is) = Below high is
@@ -120,20 +120,24 @@ unfolding Below Kin
 below-constituents high slot bag least [] h = tt
 below-constituents high slot bag least (t ∷ ts) h = (h.0, below-constituents high slot bag (cond bag (code t) []) ts h.1)
 
-below-items : (s : Sort) (t : Tree) → Formed IsFine s t → Below (height t - rise (label_of t)) (items t)
+pub below-items : (s : Sort) (t : Tree) → Formed IsFine s t → Below (height t - rise (label_of t)) (items t)
 below-items s (node l ts) h =
     let e : height (node l ts) - rise l ≡ heights ts = omega arith in
     subst (λ (n : ℕ). Below n (items (node l ts))) (sym e)
     (below-own (heights ts) l (count ts) (constituents (slot_of l) (is_bag l) [] (standing (is_bag l) ts)) (below-constituents (heights ts) (slot_of l) (is_bag l) [] (standing (is_bag l) ts) (kin-standing (slot_of l) (heights ts) (is_bag l) ts (kin-of s l ts h.1))))
 
-below-past : (high : ℕ) (i : Item) (is : List Item) → Below high (i ∷ is) → Below high is
+pub kid-first : (high : ℕ) (slot : Slot) (least : List ℕ) (t : Tree) (is : List Item) → Below high (inner slot least t ∷ is) → Kid slot high t
+unfolding Below
+kid-first high slot least t is b = b.0
+
+pub below-past : (high : ℕ) (i : Item) (is : List Item) → Below high (i ∷ is) → Below high is
 unfolding Below
 below-past high (field f) is h = h
 below-past high (name_length n) is h = h
 below-past high (inner slot least t) is h = h.1
 
 -- bytes that begin with the tag of a form
-form-first : (slot : Slot) (bs : List ℕ) → begins_form slot bs ≡ true → (raises (first bs) ≡ 1) × (slot ≡ another → ⊥) × (0 < length bs)
+pub form-first : (slot : Slot) (bs : List ℕ) → begins_form slot bs ≡ true → (raises (first bs) ≡ 1) × (slot ≡ another → ⊥) × (0 < length bs)
 form-first a_part (k ∷ bs) h = (ap (λ (b : Bool). cond (b || is_pat_form_tag k) 1 0) h, λ e. cc, omega arith)
 form-first a_pat_part (k ∷ bs) h = (ap (λ (b : Bool). cond b 1 0) (either (is_form_tag k) (is_pat_form_tag k) h), λ e. cc, omega arith)
   where

@@ -22,6 +22,7 @@ pub mod BlamedWhole
 pub mod Reaching
 pub mod Refuting
 pub mod Heights
+pub mod OneCause
 pub mod ExamplesPlaces
 pub mod Denying
 pub mod Exit

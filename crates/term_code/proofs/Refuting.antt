@@ -62,13 +62,13 @@ up-longer (x ∷ a) (y ∷ c) z h = ⊎_elim
     (λ (p : (nat_cmp x y ≡ Equal) × (is_le (byte_cmp a c) ≡ true)). then_equal (nat_cmp x y) (byte_cmp a (c ++ z)) p.0 (up-longer a c z p.1))
     (less_or_equal (nat_cmp x y) (byte_cmp a c) h)
 
-ascend-past : (i : Item) (is : List Item) → Ascend (i ∷ is) → Ascend is
+pub ascend-past : (i : Item) (is : List Item) → Ascend (i ∷ is) → Ascend is
 ascend-past (field f) is h = h
 ascend-past (name_length n) is h = h
 ascend-past (inner slot least t) is h = h.1
 
 -- bytes that are wrong at a place in a code do not begin with it
-refuted : {stop : Stop} {room : ℕ} {is : List Item} {before : List ℕ} → Breaks stop room is before → ((after : List ℕ) → stop ≡ form after → ⊥) → Ascend is → (x y : List ℕ) → before ++ (bytes_of stop ++ x) ≡ spelling is ++ y → ⊥
+pub refuted : {stop : Stop} {room : ℕ} {is : List Item} {before : List ℕ} → Breaks stop room is before → ((after : List ℕ) → stop ≡ form after → ⊥) → Ascend is → (x y : List ℕ) → before ++ (bytes_of stop ++ x) ≡ spelling is ++ y → ⊥
 refuted (deep after slot least t is h) s a x y q = s after refl
 refuted (misses after room n is h z) s a x y q = h x (spelling is ++ y) (q ∙ append_assoc (be32 n) (spelling is) y)
 refuted (unnamed after others room n is e h) s a x y q = h x (spelling is ++ y) (q ∙ append_assoc (be32 n) (spelling is) y)
@@ -77,7 +77,7 @@ refuted (falls _ room slot least t is h n) s a x y q = h x (subst (λ (z : List 
 refuted (within _ room slot least t is before r n h) s a x y q = refuted h s (ascend-items t) x (spelling is ++ y) (q ∙ append_assoc (code t) (spelling is) y ∙ ap (λ (z : List ℕ). z ++ (spelling is ++ y)) (sym (spelling-items t)))
 refuted {stop = stop} (past _ room i is before h) s a x y q = refuted h s (ascend-past i is a) x y ((cut (spelled i) (spelled i) (before ++ (bytes_of stop ++ x)) (spelling is ++ y) (Splits-length (spelled i) (spelled i) refl) (sym (append_assoc (spelled i) before (bytes_of stop ++ x)) ∙ q ∙ append_assoc (spelled i) (spelling is) y)).1)
 
-no-form : {a : List ℕ} (after : List ℕ) → these a ≡ form after → ⊥
+pub no-form : {a : List ℕ} (after : List ℕ) → these a ≡ form after → ⊥
 no-form after e = cc
 
 no-deep : {a : List ℕ} (after : List ℕ) → nameless a ≡ form after → ⊥

@@ -1,5 +1,5 @@
 -- Laws of places that are wrong. Each stands in the contract of a public function that does nothing.
-use Rattle.std.specs.Prelude.{◌≡◌, ℕ, ◌<◌, List, ◌++◌, take}
+use Rattle.std.specs.Prelude.{◌≡◌, ℕ, ◌<◌, List, ◌++◌, ◌⊎◌, take}
 use Rattle.calculus.specs.Tree.{Tree}
 use Rattle.calculus.specs.Size.{height}
 use Rattle.calculus.specs.Code.{code}
@@ -18,6 +18,10 @@ NamelessBytesAreNoCode = (at : ℕ) (bs : List ℕ) → IsNamelessAt at bs → (
 -- bytes are wrong at no later place, but where no such code begins with the bytes before that
 abbrev pub WrongAtOnePlace : Type 0
 WrongAtOnePlace = (i j : ℕ) (bs : List ℕ) → IsWrongAt i bs → IsWrongAt j bs → i < j → (t : Tree) → IsClosed t → IsShort t → (x : List ℕ) → take j bs ++ x ≡ code t → ⊥
+
+-- bytes that are wrong at a place, or have a method's name of no bytes there, are not too deep at it, but where no such code begins with the bytes before it
+abbrev pub OneCauseAtOnePlace : Type 0
+OneCauseAtOnePlace = (at : ℕ) (bs : List ℕ) → IsWrongAt at bs ⊎ IsNamelessAt at bs → IsDeepAt at bs → (t : Tree) → IsClosed t → IsShort t → (x : List ℕ) → take at bs ++ x ≡ code t → ⊥
 
 -- bytes that are too deep at a place begin the code of no closed process of height at most 400
 abbrev pub DeepBytesAreHigh : Type 0

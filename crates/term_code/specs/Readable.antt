@@ -46,6 +46,18 @@ pub record IsBegunTo (bs : List ℕ) (at : ℕ) : Type 0 where
   pub is : before ++ after ≡ bs
   pub place : (at ≡ length before) ⊎ ((at ≡ length before + 4) × (at < 2 ^ 32 → IsNamelessAt at bs))
 
+-- up to this place bytes are a prefix of the code of a closed process of height at most 400
+pub record IsCodeUpTo (bs : List ℕ) (at : ℕ) : Type 0 where
+  pub process : Tree
+  pub closed : IsClosed process
+  pub low : height process ≤ 400
+  pub before : List ℕ
+  pub more : List ℕ
+  pub goes : before ++ more ≡ code process
+  pub after : List ℕ
+  pub is : before ++ after ≡ bs
+  pub place : at ≡ length before
+
 -- the fault of so many bytes: where they end early, it tells of their length, and a place is told from their beginning. A name of no bytes is blamed behind the four bytes of its length.
 abbrev pub at_end : ReadFault → ℕ → CodeFault
 at_end (read.Short at) len = fault.Short len

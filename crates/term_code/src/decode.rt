@@ -16,7 +16,7 @@ ghost use Rattle.term_code.specs.Refusing.{Refuses, RefusesRow, RefusesBag};
 ghost use Rattle.term_code.specs.Tags.{is_form_tag};
 ghost use Rattle.term_code.specs.declared.reader.Sense.TheVariants.{Name};
 ghost use Rattle.term_code.specs.declared.fault.CodeFault.TheVariants.{Short, NotCanonical, TooDeep, NoMemory};
-ghost use Rattle.term_code.specs.Readable.{IsReadable, IsCutCode, at_end, IsBegun, IsBegunTo};
+ghost use Rattle.term_code.specs.Readable.{IsReadable, IsCutCode, at_end, IsBegun, IsBegunTo, IsCodeUpTo};
 ghost use Rattle.term_code.specs.Blaming.{Wrong, InTree, InRow, InBag, IsWrongAt, IsDeepAt, IsNamelessAt};
 
 use crate::fault::{CodeFault, ReadFault};
@@ -48,6 +48,7 @@ pub fn decode_term(alloc: Global, bytes: &[u8]) -> Result<Term, CodeFault>
     ensures deep { (at : ℕ) → at < 2 ^ 32 → result ≡ Err (TooDeep at) → IsDeepAt at bytes.now }
     ensures begun { (at : ℕ) → result ≡ Err (Short at) → IsBegun bytes.now }
     ensures goes { (at : ℕ) → (result ≡ Err (NotCanonical at)) ⊎ (result ≡ Err (TooDeep at)) → IsBegunTo bytes.now at }
+    ensures under { (at : ℕ) → result ≡ Err (TooDeep at) → IsCodeUpTo bytes.now at }
     ensures cut { IsCutCode bytes.now → IsErrAnd result (λ e. (e ≡ Short (length bytes.now)) ⊎ (e ≡ NoMemory)) }
 {
     let mut reader = Reader {

@@ -8,8 +8,7 @@ use Rattle.calculus.specs.Order.{byte_cmp}
 use Rattle.calculus.specs.Code.{code}
 use Rattle.calculus.specs.CodeLaws.{IsShort}
 use Rattle.calculus.specs.Form.{Sort, Scope, Fits, term}
-use Rattle.calculus.proofs.Formed.{Formed}
-use Rattle.calculus.proofs.Tails.{IsFine}
+use Rattle.calculus.specs.Formed.{IsFine, Formed}
 use Rattle.rho_term.specs.Normal.{IsNormal}
 use Rattle.rho_term.specs.declared.term.PatPart.{PatPart}
 use Rattle.rho_term.specs.declared.term.PatPart.TheVariants as pat

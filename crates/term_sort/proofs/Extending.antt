@@ -16,10 +16,10 @@ use Rattle.term_encoder.specs.Sizes.{in_u64, head_size, size, sizes}
 use Rattle.term_sort.specs.Bound.{bound_counts}
 use Rattle.term_sort.specs.Filled.{value_parts, filled, all_filled, IsFormLabel}
 use Rattle.term_sort.specs.Extent.{filled_height, filled_size, filled_heights, filled_sizes, IsHeight, IsLength, AreHeights, AreLengths}
-use Rattle.term_sort.proofs.Keys.{put_in, sort_in}
-use Rattle.term_sort.proofs.Made.{ascending-sort}
+use Rattle.code_order.proofs.Keys.{put_in, sort_in}
+use Rattle.code_order.proofs.Made.{ascending-sort}
 use Rattle.term_sort.proofs.Binding.{counts-bound}
-use Rattle.term_sort.proofs.Filling.{IsFlat, change-form, filled-form, made-flat, two-flat, one-flat, use-becomes}
+use Rattle.term_sort.proofs.Filling.{IsFlat, change-form, filled-form, made-flat, two-flat, one-flat, value-becomes}
 use Rattle.std.specs.Prelude.{leb, string_bytes}
 use Rattle.std.proofs.lemmas.Bool.{leb-true, leb-false, cases_Bool}
 use Rattle.calculus.specs.declared.plain.Ground.{Ground}
@@ -78,60 +78,60 @@ height-made l ts =
     ]
 
 module _ (vs : List Tree) (d : ℕ) where
-  all-sizes : (ts : List Tree) → filled_sizes vs d ts ≡ sizes (trees (all_filled vs d ts))
+  all-sizes : (ts : List Tree) → filled_sizes vs d ts ≡ sizes (trees (all_filled (value_parts vs) d ts))
   unfolding filled_size
   all-sizes [] = refl
-  all-sizes (t ∷ ts) = omega (arith, all-sizes ts, sizes-append (filled vs d t) (all_filled vs d ts))
+  all-sizes (t ∷ ts) = omega (arith, all-sizes ts, sizes-append (filled (value_parts vs) d t) (all_filled (value_parts vs) d ts))
 
-  all-heights : (ts : List Tree) → filled_heights vs d ts ≡ heights (trees (all_filled vs d ts))
+  all-heights : (ts : List Tree) → filled_heights vs d ts ≡ heights (trees (all_filled (value_parts vs) d ts))
   unfolding filled_height
   all-heights [] = refl
-  all-heights (t ∷ ts) = omega (arith, all-heights ts, heights-append (filled vs d t) (all_filled vs d ts))
+  all-heights (t ∷ ts) = omega (arith, all-heights ts, heights-append (filled (value_parts vs) d t) (all_filled (value_parts vs) d ts))
 
   -- what becomes one form
-  made-size : (l : Label) (t : Tree) (us : List Tree) → filled vs d t ≡ made_node l us ∷ [] → filled_size vs d t ≡ head_size l + sizes (trees us)
+  made-size : (l : Label) (t : Tree) (us : List Tree) → filled (value_parts vs) d t ≡ made_node l us ∷ [] → filled_size vs d t ≡ head_size l + sizes (trees us)
   unfolding filled_size
   made-size l t us e =
-      let f : sizes (trees (filled vs d t)) ≡ size (made_node l us) + 0 = ap (λ xs. sizes (trees xs)) e in
+      let f : sizes (trees (filled (value_parts vs) d t)) ≡ size (made_node l us) + 0 = ap (λ xs. sizes (trees xs)) e in
       omega (arith, f, size-made l us)
 
-  made-height : (l : Label) (t : Tree) (us : List Tree) → filled vs d t ≡ made_node l us ∷ [] → filled_height vs d t ≡ rise l + heights (trees us)
+  made-height : (l : Label) (t : Tree) (us : List Tree) → filled (value_parts vs) d t ≡ made_node l us ∷ [] → filled_height vs d t ≡ rise l + heights (trees us)
   unfolding filled_height
   made-height l t us e =
-      let f : heights (trees (filled vs d t)) ≡ max (height (made_node l us)) 0 = ap (λ xs. heights (trees xs)) e in
+      let f : heights (trees (filled (value_parts vs) d t)) ≡ max (height (made_node l us)) 0 = ap (λ xs. heights (trees xs)) e in
       omega (arith, f, height-made l us)
 
   pub form-size : (l : Label) → IsFlat l → (ts : List Tree) → filled_size vs d (many l ts) ≡ head_size l + filled_sizes vs d ts
-  form-size l h ts = omega (arith, made-size l (many l ts) (all_filled vs d ts) (made-flat vs d l h ts d), all-sizes ts)
+  form-size l h ts = omega (arith, made-size l (many l ts) (all_filled (value_parts vs) d ts) (made-flat (value_parts vs) d l h ts d), all-sizes ts)
 
   pub form-height : (l : Label) → IsFlat l → (ts : List Tree) → filled_height vs d (many l ts) ≡ rise l + filled_heights vs d ts
-  form-height l h ts = omega (arith, made-height l (many l ts) (all_filled vs d ts) (made-flat vs d l h ts d), all-heights ts)
+  form-height l h ts = omega (arith, made-height l (many l ts) (all_filled (value_parts vs) d ts) (made-flat (value_parts vs) d l h ts d), all-heights ts)
 
   -- two constituents, the second under m more variables
   bind-size : (l : Label) → IsFormLabel l → (t u : Tree) (m : ℕ) → length (binders l (trees (t ∷ u ∷ []))) ≡ m → filled_size vs d (two l t u) ≡ head_size l + (filled_size vs d t + filled_size vs (d + m) u)
   unfolding filled_size
   bind-size l h t u m e =
-      let f = filled-form vs d l (trees (t ∷ u ∷ [])) h ∙ ap (λ xs. made_node l xs ∷ []) (two-flat vs d (length (binders l (trees (t ∷ u ∷ [])))) t u ∙ ap (λ k. filled vs d t ++ filled vs (d + k) u) e) in
-      omega (arith, made-size l (two l t u) (filled vs d t ++ filled vs (d + m) u) f, sizes-append (filled vs d t) (filled vs (d + m) u))
+      let f = filled-form (value_parts vs) d l (trees (t ∷ u ∷ [])) h ∙ ap (λ xs. made_node l xs ∷ []) (two-flat (value_parts vs) d (length (binders l (trees (t ∷ u ∷ [])))) t u ∙ ap (λ k. filled (value_parts vs) d t ++ filled (value_parts vs) (d + k) u) e) in
+      omega (arith, made-size l (two l t u) (filled (value_parts vs) d t ++ filled (value_parts vs) (d + m) u) f, sizes-append (filled (value_parts vs) d t) (filled (value_parts vs) (d + m) u))
 
   bind-height : (l : Label) → IsFormLabel l → (t u : Tree) (m : ℕ) → length (binders l (trees (t ∷ u ∷ []))) ≡ m → filled_height vs d (two l t u) ≡ rise l + max (filled_height vs d t) (filled_height vs (d + m) u)
   unfolding filled_height
   bind-height l h t u m e =
-      let f = filled-form vs d l (trees (t ∷ u ∷ [])) h ∙ ap (λ xs. made_node l xs ∷ []) (two-flat vs d (length (binders l (trees (t ∷ u ∷ [])))) t u ∙ ap (λ k. filled vs d t ++ filled vs (d + k) u) e) in
-      omega (arith, made-height l (two l t u) (filled vs d t ++ filled vs (d + m) u) f, heights-append (filled vs d t) (filled vs (d + m) u))
+      let f = filled-form (value_parts vs) d l (trees (t ∷ u ∷ [])) h ∙ ap (λ xs. made_node l xs ∷ []) (two-flat (value_parts vs) d (length (binders l (trees (t ∷ u ∷ [])))) t u ∙ ap (λ k. filled (value_parts vs) d t ++ filled (value_parts vs) (d + k) u) e) in
+      omega (arith, made-height l (two l t u) (filled (value_parts vs) d t ++ filled (value_parts vs) (d + m) u) f, heights-append (filled (value_parts vs) d t) (filled (value_parts vs) (d + m) u))
 
   -- one constituent under m more variables
   under-size : (l : Label) → IsFormLabel l → (t : Tree) (m : ℕ) → length (binders l (trees (t ∷ []))) ≡ m → filled_size vs d (one l t) ≡ head_size l + filled_size vs (d + m) t
   unfolding filled_size
   under-size l h t m e =
-      let f = filled-form vs d l (trees (t ∷ [])) h ∙ ap (λ xs. made_node l xs ∷ []) (one-flat vs d (length (binders l (trees (t ∷ [])))) t ∙ ap (λ k. filled vs (d + k) t) e) in
-      made-size l (one l t) (filled vs (d + m) t) f
+      let f = filled-form (value_parts vs) d l (trees (t ∷ [])) h ∙ ap (λ xs. made_node l xs ∷ []) (one-flat (value_parts vs) d (length (binders l (trees (t ∷ [])))) t ∙ ap (λ k. filled (value_parts vs) (d + k) t) e) in
+      made-size l (one l t) (filled (value_parts vs) (d + m) t) f
 
   under-height : (l : Label) → IsFormLabel l → (t : Tree) (m : ℕ) → length (binders l (trees (t ∷ []))) ≡ m → filled_height vs d (one l t) ≡ rise l + filled_height vs (d + m) t
   unfolding filled_height
   under-height l h t m e =
-      let f = filled-form vs d l (trees (t ∷ [])) h ∙ ap (λ xs. made_node l xs ∷ []) (one-flat vs d (length (binders l (trees (t ∷ [])))) t ∙ ap (λ k. filled vs (d + k) t) e) in
-      made-height l (one l t) (filled vs (d + m) t) f
+      let f = filled-form (value_parts vs) d l (trees (t ∷ [])) h ∙ ap (λ xs. made_node l xs ∷ []) (one-flat (value_parts vs) d (length (binders l (trees (t ∷ [])))) t ∙ ap (λ k. filled (value_parts vs) (d + k) t) e) in
+      made-height l (one l t) (filled (value_parts vs) (d + m) t) f
 
 -- the same as a u64 and a u32 hold it, under n inner variables as far as 64 bits count
 module _ (vs : List Tree) (n : ℕ) where
@@ -211,8 +211,8 @@ parts-height t ts e =
     subst (λ u. height u ≡ heights (trees (held u))) (sym e) h
 
 -- a process becomes one, the process with the values put in
-pub put-one : (vs : List Tree) (t : Tree) (ts : List Tree) → t ≡ many par ts → filled vs 0 t ≡ put vs t ∷ []
-unfolding filled put
+pub put-one : (vs : List Tree) (t : Tree) (ts : List Tree) → t ≡ many par ts → filled (value_parts vs) 0 t ≡ put vs t ∷ []
+unfolding filled value_parts put
 put-one vs t ts e =
     let us = listed (change_all (value_parts vs) 0 0 (trees ts)) in
     let h = change-form (value_parts vs) 0 par (trees ts) tt in
@@ -221,13 +221,13 @@ put-one vs t ts e =
 pub put-length : (vs : List Tree) (t : Tree) (ts : List Tree) (k : ℕ) → t ≡ many par ts → IsLength vs 0 t k → k ≡ in_u64 (length (code (put vs t)))
 unfolding filled_size
 put-length vs t ts k e h =
-    let f : sizes (trees (filled vs 0 t)) ≡ size (put vs t) + 0 = ap (λ xs. sizes (trees xs)) (put-one vs t ts e) in
+    let f : sizes (trees (filled (value_parts vs) 0 t)) ≡ size (put vs t) + 0 = ap (λ xs. sizes (trees xs)) (put-one vs t ts e) in
     omega (arith, h 0 refl, f, size-code (put vs t))
 
 pub put-height : (vs : List Tree) (t : Tree) (ts : List Tree) (k : ℕ) → t ≡ many par ts → IsHeight vs 0 t k → k ≡ in_u32 (height (put vs t))
 unfolding filled_height
 put-height vs t ts k e h =
-    let f : heights (trees (filled vs 0 t)) ≡ max (height (put vs t)) 0 = ap (λ xs. heights (trees xs)) (put-one vs t ts e) in
+    let f : heights (trees (filled (value_parts vs) 0 t)) ≡ max (height (put vs t)) 0 = ap (λ xs. heights (trees xs)) (put-one vs t ts e) in
     omega (arith, h 0 refl, f)
 
 module _ (vs : List Tree) (n : ℕ) where
@@ -258,13 +258,13 @@ module _ (vs : List Tree) (form : ℕ → Label) (n i : ℕ) (c : (F : Change) (
       → (d : ℕ) → in_u64 d ≡ n → total ≡ max base (in_u32 (filled_height vs d (leaf (form i))))
   unfolding filled_height
   use-height z base total inner outer d e =
-      let r = use-becomes vs form n i c s d e in
+      let r = value-becomes form n i c s vs d e in
       elim (cases_Bool (leb n i)) [
         | inl y ↦
-            let f : heights (trees (filled vs d (leaf (form i)))) ≡ heights (trees (held (at (i - n) (reverse vs)))) = ap (λ xs. heights (trees xs)) (r.1 (leb-true n i y)) in
+            let f : heights (trees (filled (value_parts vs) d (leaf (form i)))) ≡ heights (trees (held (at (i - n) (reverse vs)))) = ap (λ xs. heights (trees xs)) (r.1 (leb-true n i y)) in
             omega (arith, f, outer (leb-true n i y))
         | inr y ↦
-            let f : heights (trees (filled vs d (leaf (form i)))) ≡ max (rise (form i) + 0) 0 = ap (λ xs. heights (trees xs)) (r.0 (leb-false n i y)) in
+            let f : heights (trees (filled (value_parts vs) d (leaf (form i)))) ≡ max (rise (form i) + 0) 0 = ap (λ xs. heights (trees xs)) (r.0 (leb-false n i y)) in
             omega (arith, f, inner (leb-false n i y))
       ]
 
@@ -272,12 +272,12 @@ module _ (vs : List Tree) (form : ℕ → Label) (n i : ℕ) (c : (F : Change) (
       → (d : ℕ) → in_u64 d ≡ n → total ≡ in_u64 (base + filled_size vs d (leaf (form i)))
   unfolding filled_size
   use-length z base total inner outer d e =
-      let r = use-becomes vs form n i c s d e in
+      let r = value-becomes form n i c s vs d e in
       elim (cases_Bool (leb n i)) [
         | inl y ↦
-            let f : sizes (trees (filled vs d (leaf (form i)))) ≡ sizes (trees (held (at (i - n) (reverse vs)))) = ap (λ xs. sizes (trees xs)) (r.1 (leb-true n i y)) in
+            let f : sizes (trees (filled (value_parts vs) d (leaf (form i)))) ≡ sizes (trees (held (at (i - n) (reverse vs)))) = ap (λ xs. sizes (trees xs)) (r.1 (leb-true n i y)) in
             omega (arith, f, outer (leb-true n i y))
         | inr y ↦
-            let f : sizes (trees (filled vs d (leaf (form i)))) ≡ head_size (form i) + 0 + 0 = ap (λ xs. sizes (trees xs)) (r.0 (leb-false n i y)) in
+            let f : sizes (trees (filled (value_parts vs) d (leaf (form i)))) ≡ head_size (form i) + 0 + 0 = ap (λ xs. sizes (trees xs)) (r.0 (leb-false n i y)) in
             omega (arith, f, inner (leb-false n i y))
       ]

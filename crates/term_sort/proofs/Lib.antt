@@ -1,7 +1,4 @@
-pub mod Keys
-pub mod Unique
-pub mod Made
 pub mod Binding
 pub mod Filling
 pub mod Extending
-pub mod Seen
+pub mod Indices

@@ -4,15 +4,15 @@ use Rattle.calculus.specs.Tree.{Tree, trees}
 use Rattle.calculus.specs.Size.{heights}
 use Rattle.rho_term.specs.Measures.{in_u32}
 use Rattle.term_encoder.specs.Sizes.{in_u64, sizes}
-use Rattle.term_sort.specs.Filled.{filled}
+use Rattle.term_sort.specs.Filled.{value_parts, filled}
 
 -- the greatest height of what a tree becomes under d inner variables
 unfoldable pub filled_height : List Tree → ℕ → Tree → ℕ
-filled_height vs d t = heights (trees (filled vs d t))
+filled_height vs d t = heights (trees (filled (value_parts vs) d t))
 
 -- how many bytes the codes of what a tree becomes have together
 unfoldable pub filled_size : List Tree → ℕ → Tree → ℕ
-filled_size vs d t = sizes (trees (filled vs d t))
+filled_size vs d t = sizes (trees (filled (value_parts vs) d t))
 
 -- the greatest height of what these become
 abbrev pub filled_heights : List Tree → ℕ → List Tree → ℕ

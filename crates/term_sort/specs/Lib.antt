@@ -1,4 +1,4 @@
-pub mod Made
 pub mod Bound
 pub mod Filled
 pub mod Extent
+pub mod Renumbered

@@ -88,10 +88,17 @@ pub(crate) fn binds_bound(binds: &Vec<TermBind>) -> u64
 {
     let mut total = 0;
     for bind in binds {
-        let pats = plus(pats_bound(&bind.pats), rest_bound(bind.rest));
-        total = plus(total, plus(term_bound(&bind.channel), pats));
+        total = plus(total, bind_bound(bind));
     }
     total
+}
+
+/// How many variables a bind binds.
+pub fn bind_bound(bind: &TermBind) -> u64
+    ensures { result ≡ in_u64 (bound_count (bind_tree bind.now)) }
+{
+    let pats = plus(pats_bound(&bind.pats), rest_bound(bind.rest));
+    plus(term_bound(&bind.channel), pats)
 }
 
 #[cycle(bound)]

@@ -1,15 +1,15 @@
-// Closed values in place of the variables that are bound around a process.
+// Other variables, or closed values, in place of the variables that are bound around a process.
 
-ghost use Rattle.std.specs.Prelude.{◌≡◌, ◌<◌, ◌≤◌, ◌-◌, ◌++◌, ◌∷◌, [], reverse, map, IfOk, OnOk, All};
-ghost use Rattle.calculus.specs.Shape.{at, held};
+ghost use Rattle.std.specs.Prelude.{◌≡◌, ◌++◌, map, IfOk, OnOk, All};
 ghost use Rattle.calculus.specs.Substitution.{put};
 ghost use Rattle.rho_term.specs.Normal.{IsOrdered};
 ghost use Rattle.rho_term.specs.Parts.{part_tree, pat_part_tree, ground_tree, pair_tree, bind_tree, case_tree};
-ghost use Rattle.term_sort.specs.Filled.{IsForm, Becomes, AllBecome, Adds};
+ghost use Rattle.term_sort.specs.Filled.{IsForm, Becomes, AllBecome, Adds, change_of};
 
 use crate::bound::{binds_bound, pat_bound, plus, term_bound};
-use crate::order::{sorted_pairs, sorted_parts, sorted_terms};
+use crate::variable::{Replacement, Sense, put_variable};
 use calculus::Ground;
+use code_order::{sorted_pairs, sorted_parts, sorted_terms};
 use rho_term::{Part, PatPart, Term, TermBind, TermCase, TermPat};
 use std::alloc::{AllocError, Global};
 
@@ -22,18 +22,24 @@ pub fn substitute(alloc: Global, body: &Term, values: &[Term]) -> Result<Term, A
     ensures { IfOk result (λ t. t ≡ put values.now body.now) }
 {
     let depth = 0;
-    let term = put_term(alloc, body, values, depth)?;
+    let replacement = Replacement::Values(values);
+    let term = put_term(alloc, body, &replacement, depth)?;
     Ok(term)
 }
 
 // A process, under this many inner variables.
 #[cycle(put)]
-fn put_term(alloc: Global, term: &Term, values: &[Term], depth: u64) -> Result<Term, AllocError>
-    ensures { IfOk result (λ t. Becomes values.now depth term.now t) }
+pub(crate) fn put_term(
+    alloc: Global,
+    term: &Term,
+    replacement: &Replacement,
+    depth: u64,
+) -> Result<Term, AllocError>
+    ensures { IfOk result (λ t. Becomes (change_of replacement.now) depth term.now t) }
 {
     let mut parts = Vec::new(alloc);
     for part in term.parts() {
-        put_part(alloc, &mut parts, part, values, depth)?;
+        put_part(alloc, &mut parts, part, replacement, depth)?;
     }
     let parts = sorted_parts(alloc, parts)?;
     Ok(Term::from_sorted(parts))
@@ -45,23 +51,23 @@ fn put_part(
     alloc: Global,
     out: &mut Vec<Part>,
     part: &Part,
-    values: &[Term],
+    replacement: &Replacement,
     depth: u64,
 ) -> Result<(), AllocError>
-    ensures parts { OnOk result (Adds values.now depth (part_tree part.now) (map part_tree out.old.items) (map part_tree out.new.items)) }
+    ensures parts { OnOk result (Adds (change_of replacement.now) depth (part_tree part.now) (map part_tree out.old.items) (map part_tree out.new.items)) }
     ensures members { OnOk result (All (λ p. IsOrdered (part_tree p)) out.old.items → All (λ p. IsOrdered (part_tree p)) out.new.items) }
 {
     match part {
         Part::Var(index) => {
-            put_variable(alloc, out, part, *index, values, depth)?;
+            put_variable(alloc, out, Sense::Process, *index, replacement, depth)?;
             Ok(())
         }
         Part::NameVar(index) => {
-            put_variable(alloc, out, part, *index, values, depth)?;
+            put_variable(alloc, out, Sense::Name, *index, replacement, depth)?;
             Ok(())
         }
         form => {
-            let form = put_form(alloc, form, values, depth)?;
+            let form = put_form(alloc, form, replacement, depth)?;
             out.push(form)?;
             Ok(())
         }
@@ -70,22 +76,27 @@ fn put_part(
 
 // A part that is no variable.
 #[cycle(put)]
-fn put_form(alloc: Global, part: &Part, values: &[Term], depth: u64) -> Result<Part, AllocError>
-    ensures { IfOk result (λ p. IsForm (part_tree part.now) → Becomes values.now depth (part_tree part.now) (part_tree p)) }
+fn put_form(
+    alloc: Global,
+    part: &Part,
+    replacement: &Replacement,
+    depth: u64,
+) -> Result<Part, AllocError>
+    ensures { IfOk result (λ p. IsForm (part_tree part.now) → Becomes (change_of replacement.now) depth (part_tree part.now) (part_tree p)) }
 {
     match part {
         Part::Ground(_) => Ok(part.copy(alloc)?),
         Part::Fresh(_) => Ok(part.copy(alloc)?),
         Part::Var(_) => Ok(part.copy(alloc)?),
         Part::NameVar(_) => Ok(part.copy(alloc)?),
-        Part::List(members) => Ok(Part::List(put_terms(alloc, members, values, depth)?)),
-        Part::Tuple(members) => Ok(Part::Tuple(put_terms(alloc, members, values, depth)?)),
+        Part::List(members) => Ok(Part::List(put_terms(alloc, members, replacement, depth)?)),
+        Part::Tuple(members) => Ok(Part::Tuple(put_terms(alloc, members, replacement, depth)?)),
         Part::Set(members) => {
-            let members = put_terms(alloc, members, values, depth)?;
+            let members = put_terms(alloc, members, replacement, depth)?;
             Ok(Part::Set(sorted_terms(alloc, members)?))
         }
         Part::Map(pairs) => {
-            let pairs = put_pairs(alloc, pairs, values, depth)?;
+            let pairs = put_pairs(alloc, pairs, replacement, depth)?;
             Ok(Part::Map(sorted_pairs(alloc, pairs)?))
         }
         Part::Send {
@@ -93,8 +104,8 @@ fn put_form(alloc: Global, part: &Part, values: &[Term], depth: u64) -> Result<P
             args,
             persistent,
         } => {
-            let channel = put_term(alloc, channel, values, depth)?;
-            let args = put_terms(alloc, args, values, depth)?;
+            let channel = put_term(alloc, channel, replacement, depth)?;
+            let args = put_terms(alloc, args, replacement, depth)?;
             let persistent = *persistent;
             Ok(Part::Send {
                 channel,
@@ -105,82 +116,45 @@ fn put_form(alloc: Global, part: &Part, values: &[Term], depth: u64) -> Result<P
         Part::Receive { kind, binds, body } => {
             let bound = plus(binds_bound(binds), term_bound(body));
             let inner = plus(depth, bound);
-            let binds = put_binds(alloc, binds, values, depth)?;
-            let body = put_term(alloc, body, values, inner)?;
+            let binds = put_binds(alloc, binds, replacement, depth)?;
+            let body = put_term(alloc, body, replacement, inner)?;
             let kind = *kind;
             Ok(Part::Receive { kind, binds, body })
         }
         Part::New { names, body } => {
             let inner = plus(depth, names.len() as u64);
             let names = names.clone()?;
-            let body = put_term(alloc, body, values, inner)?;
+            let body = put_term(alloc, body, replacement, inner)?;
             Ok(Part::New { names, body })
         }
         Part::Match { target, cases } => {
-            let target = put_term(alloc, target, values, depth)?;
-            let cases = put_cases(alloc, cases, values, depth)?;
+            let target = put_term(alloc, target, replacement, depth)?;
+            let cases = put_cases(alloc, cases, replacement, depth)?;
             Ok(Part::Match { target, cases })
         }
         Part::Bundle { rights, body } => {
-            let body = put_term(alloc, body, values, depth)?;
+            let body = put_term(alloc, body, replacement, depth)?;
             let rights = *rights;
             Ok(Part::Bundle { rights, body })
         }
         Part::Unary { op, arg } => {
-            let arg = put_term(alloc, arg, values, depth)?;
+            let arg = put_term(alloc, arg, replacement, depth)?;
             let op = *op;
             Ok(Part::Unary { op, arg })
         }
         Part::Binary { op, left, right } => {
-            let left = put_term(alloc, left, values, depth)?;
-            let right = put_term(alloc, right, values, depth)?;
+            let left = put_term(alloc, left, replacement, depth)?;
+            let right = put_term(alloc, right, replacement, depth)?;
             let op = *op;
             Ok(Part::Binary { op, left, right })
         }
         Part::Method { name, target, args } => {
             let name = name.clone()?;
-            let target = put_term(alloc, target, values, depth)?;
-            let args = put_terms(alloc, args, values, depth)?;
+            let target = put_term(alloc, target, replacement, depth)?;
+            let args = put_terms(alloc, args, replacement, depth)?;
             Ok(Part::Method { name, target, args })
         }
     }
-}
-
-// A use of the variable of this index: it stays where the variable is an inner one, and else the parts
-// of its value stand there.
-fn put_variable(
-    alloc: Global,
-    out: &mut Vec<Part>,
-    part: &Part,
-    index: u32,
-    values: &[Term],
-    depth: u64,
-) -> Result<(), AllocError>
-    ensures inner { OnOk result (index < depth → map part_tree out.new.items ≡ map part_tree out.old.items ++ part_tree part.now ∷ []) }
-    ensures outer { OnOk result (depth ≤ index → map part_tree out.new.items ≡ map part_tree out.old.items ++ held (at (index - depth) (reverse values.now))) }
-    ensures members { OnOk result (IsOrdered (part_tree part.now) → All (λ p. IsOrdered (part_tree p)) out.old.items → All (λ p. IsOrdered (part_tree p)) out.new.items) }
-{
-    let index = index as u64;
-    if index < depth {
-        out.push(part.copy(alloc)?)?;
-        return Ok(());
-    }
-    let place = index - depth;
-    if place >= values.len() as u64 {
-        return Ok(());
-    }
-    put_copies(alloc, out, &values[values.len() - 1 - place as usize])
-}
-
-// Copies of the parts of a value, at the end of these.
-fn put_copies(alloc: Global, out: &mut Vec<Part>, value: &Term) -> Result<(), AllocError>
-    ensures parts { OnOk result (map part_tree out.new.items ≡ map part_tree out.old.items ++ held value.now) }
-    ensures members { OnOk result (All (λ p. IsOrdered (part_tree p)) out.old.items → All (λ p. IsOrdered (part_tree p)) out.new.items) }
-{
-    for part in value.parts() {
-        out.push(part.copy(alloc)?)?;
-    }
-    Ok(())
 }
 
 // Processes, each in its place.
@@ -188,14 +162,14 @@ fn put_copies(alloc: Global, out: &mut Vec<Part>, value: &Term) -> Result<(), Al
 fn put_terms(
     alloc: Global,
     terms: &Vec<Term>,
-    values: &[Term],
+    replacement: &Replacement,
     depth: u64,
 ) -> Result<Vec<Term>, AllocError>
-    ensures { IfOk result (λ v. AllBecome values.now depth terms.now.items v.items) }
+    ensures { IfOk result (λ v. AllBecome (change_of replacement.now) depth terms.now.items v.items) }
 {
     let mut filled = Vec::new(alloc);
     for term in terms {
-        filled.push(put_term(alloc, term, values, depth)?)?;
+        filled.push(put_term(alloc, term, replacement, depth)?)?;
     }
     Ok(filled)
 }
@@ -205,15 +179,15 @@ fn put_terms(
 fn put_pairs(
     alloc: Global,
     pairs: &Vec<(Term, Term)>,
-    values: &[Term],
+    replacement: &Replacement,
     depth: u64,
 ) -> Result<Vec<(Term, Term)>, AllocError>
-    ensures { IfOk result (λ v. AllBecome values.now depth (map pair_tree pairs.now.items) (map pair_tree v.items)) }
+    ensures { IfOk result (λ v. AllBecome (change_of replacement.now) depth (map pair_tree pairs.now.items) (map pair_tree v.items)) }
 {
     let mut filled = Vec::new(alloc);
     for pair in pairs {
-        let key = put_term(alloc, &pair.0, values, depth)?;
-        let value = put_term(alloc, &pair.1, values, depth)?;
+        let key = put_term(alloc, &pair.0, replacement, depth)?;
+        let value = put_term(alloc, &pair.1, replacement, depth)?;
         filled.push((key, value))?;
     }
     Ok(filled)
@@ -224,15 +198,15 @@ fn put_pairs(
 fn put_binds(
     alloc: Global,
     binds: &Vec<TermBind>,
-    values: &[Term],
+    replacement: &Replacement,
     depth: u64,
 ) -> Result<Vec<TermBind>, AllocError>
-    ensures { IfOk result (λ v. AllBecome values.now depth (map bind_tree binds.now.items) (map bind_tree v.items)) }
+    ensures { IfOk result (λ v. AllBecome (change_of replacement.now) depth (map bind_tree binds.now.items) (map bind_tree v.items)) }
 {
     let mut filled = Vec::new(alloc);
     for bind in binds {
-        let channel = put_term(alloc, &bind.channel, values, depth)?;
-        let pats = put_pats(alloc, &bind.pats, values, depth)?;
+        let channel = put_term(alloc, &bind.channel, replacement, depth)?;
+        let pats = put_pats(alloc, &bind.pats, replacement, depth)?;
         let rest = bind.rest;
         filled.push(TermBind {
             pats,
@@ -248,17 +222,17 @@ fn put_binds(
 fn put_cases(
     alloc: Global,
     cases: &Vec<TermCase>,
-    values: &[Term],
+    replacement: &Replacement,
     depth: u64,
 ) -> Result<Vec<TermCase>, AllocError>
-    ensures { IfOk result (λ v. AllBecome values.now depth (map case_tree cases.now.items) (map case_tree v.items)) }
+    ensures { IfOk result (λ v. AllBecome (change_of replacement.now) depth (map case_tree cases.now.items) (map case_tree v.items)) }
 {
     let mut filled = Vec::new(alloc);
     for case in cases {
         let bound = plus(pat_bound(&case.pat), term_bound(&case.body));
         let inner = plus(depth, bound);
-        let pat = put_pat(alloc, &case.pat, values, depth)?;
-        let body = put_term(alloc, &case.body, values, inner)?;
+        let pat = put_pat(alloc, &case.pat, replacement, depth)?;
+        let body = put_term(alloc, &case.body, replacement, inner)?;
         filled.push(TermCase { pat, body })?;
     }
     Ok(filled)
@@ -266,12 +240,17 @@ fn put_cases(
 
 // A pattern, under this many inner variables.
 #[cycle(put)]
-fn put_pat(alloc: Global, pat: &TermPat, values: &[Term], depth: u64) -> Result<TermPat, AllocError>
-    ensures { IfOk result (λ t. Becomes values.now depth pat.now t) }
+fn put_pat(
+    alloc: Global,
+    pat: &TermPat,
+    replacement: &Replacement,
+    depth: u64,
+) -> Result<TermPat, AllocError>
+    ensures { IfOk result (λ t. Becomes (change_of replacement.now) depth pat.now t) }
 {
     let mut parts = Vec::new(alloc);
     for part in pat.parts() {
-        put_pat_part(alloc, &mut parts, part, values, depth)?;
+        put_pat_part(alloc, &mut parts, part, replacement, depth)?;
     }
     Ok(TermPat::new(parts))
 }
@@ -282,21 +261,21 @@ fn put_pat_part(
     alloc: Global,
     out: &mut Vec<PatPart>,
     part: &PatPart,
-    values: &[Term],
+    replacement: &Replacement,
     depth: u64,
 ) -> Result<(), AllocError>
-    ensures parts { OnOk result (Adds values.now depth (pat_part_tree part.now) (map pat_part_tree out.old.items) (map pat_part_tree out.new.items)) }
+    ensures parts { OnOk result (Adds (change_of replacement.now) depth (pat_part_tree part.now) (map pat_part_tree out.old.items) (map pat_part_tree out.new.items)) }
     ensures members { OnOk result (All (λ p. IsOrdered (pat_part_tree p)) out.old.items → All (λ p. IsOrdered (pat_part_tree p)) out.new.items) }
 {
     match part {
         PatPart::Closed(closed) => {
             let mut parts = Vec::new(alloc);
-            put_part(alloc, &mut parts, closed, values, depth)?;
+            put_part(alloc, &mut parts, closed, replacement, depth)?;
             put_closed(out, parts)?;
             Ok(())
         }
         form => {
-            let form = put_pat_form(alloc, form, values, depth)?;
+            let form = put_pat_form(alloc, form, replacement, depth)?;
             out.push(form)?;
             Ok(())
         }
@@ -319,46 +298,51 @@ fn put_closed(out: &mut Vec<PatPart>, parts: Vec<Part>) -> Result<(), AllocError
 fn put_pat_form(
     alloc: Global,
     part: &PatPart,
-    values: &[Term],
+    replacement: &Replacement,
     depth: u64,
 ) -> Result<PatPart, AllocError>
-    ensures { IfOk result (λ p. IsForm (pat_part_tree part.now) → Becomes values.now depth (pat_part_tree part.now) (pat_part_tree p)) }
+    ensures { IfOk result (λ p. IsForm (pat_part_tree part.now) → Becomes (change_of replacement.now) depth (pat_part_tree part.now) (pat_part_tree p)) }
 {
     match part {
         PatPart::Wild => Ok(PatPart::Wild),
         PatPart::Var => Ok(PatPart::Var),
         PatPart::NameVar => Ok(PatPart::NameVar),
         PatPart::Simple(kind) => Ok(PatPart::Simple(*kind)),
-        PatPart::Same(process) => Ok(PatPart::Same(put_term(alloc, process, values, depth)?)),
+        PatPart::Same(process) => Ok(PatPart::Same(put_term(alloc, process, replacement, depth)?)),
         PatPart::Ground(value) => Ok(PatPart::Ground(copy_ground(value)?)),
         PatPart::Both(left, right) => {
-            let left = put_pat(alloc, left, values, depth)?;
-            let right = put_pat(alloc, right, values, depth)?;
+            let left = put_pat(alloc, left, replacement, depth)?;
+            let right = put_pat(alloc, right, replacement, depth)?;
             Ok(PatPart::Both(left, right))
         }
         PatPart::Either(left, right) => {
-            let left = put_pat(alloc, left, values, depth)?;
-            let right = put_pat(alloc, right, values, depth)?;
+            let left = put_pat(alloc, left, replacement, depth)?;
+            let right = put_pat(alloc, right, replacement, depth)?;
             Ok(PatPart::Either(left, right))
         }
-        PatPart::Not(inner) => Ok(PatPart::Not(put_pat(alloc, inner, values, depth)?)),
+        PatPart::Not(inner) => Ok(PatPart::Not(put_pat(alloc, inner, replacement, depth)?)),
         PatPart::List(members, rest) => {
-            Ok(PatPart::List(put_pats(alloc, members, values, depth)?, *rest))
+            Ok(PatPart::List(put_pats(alloc, members, replacement, depth)?, *rest))
         }
-        PatPart::Tuple(members) => Ok(PatPart::Tuple(put_pats(alloc, members, values, depth)?)),
+        PatPart::Tuple(members) => Ok(PatPart::Tuple(put_pats(
+            alloc,
+            members,
+            replacement,
+            depth,
+        )?)),
         PatPart::Set(members, rest) => {
-            Ok(PatPart::Set(put_pats(alloc, members, values, depth)?, *rest))
+            Ok(PatPart::Set(put_pats(alloc, members, replacement, depth)?, *rest))
         }
         PatPart::Map(pairs, rest) => {
-            Ok(PatPart::Map(put_pat_pairs(alloc, pairs, values, depth)?, *rest))
+            Ok(PatPart::Map(put_pat_pairs(alloc, pairs, replacement, depth)?, *rest))
         }
         PatPart::Send {
             channel,
             args,
             persistent,
         } => {
-            let channel = put_pat(alloc, channel, values, depth)?;
-            let args = put_pats(alloc, args, values, depth)?;
+            let channel = put_pat(alloc, channel, replacement, depth)?;
+            let args = put_pats(alloc, args, replacement, depth)?;
             let persistent = *persistent;
             Ok(PatPart::Send {
                 channel,
@@ -367,11 +351,16 @@ fn put_pat_form(
             })
         }
         PatPart::Bundle { rights, body } => {
-            let body = put_pat(alloc, body, values, depth)?;
+            let body = put_pat(alloc, body, replacement, depth)?;
             let rights = *rights;
             Ok(PatPart::Bundle { rights, body })
         }
-        PatPart::Closed(closed) => Ok(PatPart::Closed(put_form(alloc, closed, values, depth)?)),
+        PatPart::Closed(closed) => Ok(PatPart::Closed(put_form(
+            alloc,
+            closed,
+            replacement,
+            depth,
+        )?)),
     }
 }
 
@@ -380,14 +369,14 @@ fn put_pat_form(
 fn put_pats(
     alloc: Global,
     pats: &Vec<TermPat>,
-    values: &[Term],
+    replacement: &Replacement,
     depth: u64,
 ) -> Result<Vec<TermPat>, AllocError>
-    ensures { IfOk result (λ v. AllBecome values.now depth pats.now.items v.items) }
+    ensures { IfOk result (λ v. AllBecome (change_of replacement.now) depth pats.now.items v.items) }
 {
     let mut filled = Vec::new(alloc);
     for pat in pats {
-        filled.push(put_pat(alloc, pat, values, depth)?)?;
+        filled.push(put_pat(alloc, pat, replacement, depth)?)?;
     }
     Ok(filled)
 }
@@ -397,15 +386,15 @@ fn put_pats(
 fn put_pat_pairs(
     alloc: Global,
     pairs: &Vec<(TermPat, TermPat)>,
-    values: &[Term],
+    replacement: &Replacement,
     depth: u64,
 ) -> Result<Vec<(TermPat, TermPat)>, AllocError>
-    ensures { IfOk result (λ v. AllBecome values.now depth (map pair_tree pairs.now.items) (map pair_tree v.items)) }
+    ensures { IfOk result (λ v. AllBecome (change_of replacement.now) depth (map pair_tree pairs.now.items) (map pair_tree v.items)) }
 {
     let mut filled = Vec::new(alloc);
     for pair in pairs {
-        let key = put_pat(alloc, &pair.0, values, depth)?;
-        let value = put_pat(alloc, &pair.1, values, depth)?;
+        let key = put_pat(alloc, &pair.0, replacement, depth)?;
+        let value = put_pat(alloc, &pair.1, replacement, depth)?;
         filled.push((key, value))?;
     }
     Ok(filled)

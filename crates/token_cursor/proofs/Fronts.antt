@@ -1,5 +1,5 @@
 -- What the first token says of the terminals.
-use Rattle.std.proofs.Common.{string_bytes, ◌≡◌, ◌⊎◌, ℕ, Bool, ◌||◌, true, false, List, [], ◌∷◌, refl, sym, ap, ◌∙◌, inl, inr}
+use Rattle.std.proofs.Common.{string_bytes, ◌≡◌, ◌⊎◌, ℕ, ◌||◌, true, false, List, [], ◌∷◌, refl, sym, ap, ◌∙◌, inl, inr}
 use Rattle.std.specs.List.{IsFirstAndRest}
 use Rattle.std.specs.declared.alloc.Global.{Global}
 use Rattle.std.specs.declared.string.String.{String}

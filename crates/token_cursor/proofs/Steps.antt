@@ -1,5 +1,5 @@
 -- The steps of descent, as the parser takes them.
-use Rattle.std.proofs.Common.{◌≡◌, ◌-◌, not, refl, Option, ◌+◌, map, ◌++◌, inl, inr, ℕ, List, ◌∷◌, [], Result, Ok, Err, subst, sym, ap, ◌∙◌, Bool, true, false}
+use Rattle.std.proofs.Common.{◌≡◌, not, refl, Option, map, ◌++◌, inl, inr, ℕ, List, ◌∷◌, [], Result, Ok, Err, subst, sym, ap, ◌∙◌, Bool, true, false}
 use Rattle.std.specs.Prelude.{IfOk, MatchResult}
 use Rattle.std.specs.Result.{IsErrAnd}
 use Rattle.std.specs.declared.alloc.Global.{Global}
@@ -39,6 +39,16 @@ pub leave : {T : Type 0} {free : ℕ} {r : Rule} {ts us : List Terminal} (after 
     → Runs Tutorial free r ts (fault e us) → Turns free r after ts res us
 leave after (Ok p) e g h = absurd g
 leave after (Err d) e g h = faulty d e g h
+
+-- where a value is let go with a fault
+pub gives_up : {T : Type 0} {free : ℕ} {r : Rule} {ts us : List Terminal} (of : T → Spelt) (res : Result T Fault) (e : Fault) → res ≡ Err e
+    → Runs Tutorial free r ts (fault e us) → Makes free r of ts res us
+gives_up {T} {free} {r} {ts} {us} of res e g h = subst (λ (x : Result T Fault). Makes free r of ts x us) (sym g) h
+
+-- and where the rule goes on
+pub turns_back : {T : Type 0} {free : ℕ} {r : Rule} {ts us : List Terminal} (after : T → Rule) (res : Result T Fault) (e : Fault) → res ≡ Err e
+    → Runs Tutorial free r ts (fault e us) → Turns free r after ts res us
+turns_back {T} {free} {r} {ts} {us} after res e g h = subst (λ (x : Result T Fault). Turns free r after ts x us) (sym g) h
 
 -- a text that isn't next, or for which there is no memory
 pub lacks : {free : ℕ} {k : Holding} {f : List ℕ → Rule} {ts us : List Terminal} (e : Fault) → Missing (sees_text k ts) ts e us → Runs Tutorial free (holds k f) ts (fault e us)

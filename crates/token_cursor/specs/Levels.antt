@@ -5,8 +5,8 @@ use Rattle.grammar.specs.declared.dialect.Dialect.TheVariants.{Tutorial}
 use Rattle.grammar.specs.declared.mark.Mark.{Mark}
 use Rattle.grammar.specs.Choice.{choose}
 use Rattle.grammar.specs.Grammar.{rule}
-use Rattle.grammar.specs.Rules.{Sort, Rule, done, opens, under, last}
-use Rattle.grammar.specs.Terminals.{Terminal, sees}
+use Rattle.grammar.specs.Rules.{Sort, done, opens, under, last}
+use Rattle.grammar.specs.Terminals.{Terminal}
 use Rattle.grammar.specs.Values.{Spelt, operation}
 use Rattle.token_cursor.specs.declared.level.Level.{Level}
 use Rattle.token_cursor.specs.declared.level.Level.TheVariants as levels

@@ -9,7 +9,7 @@ ghost use Rattle.std.specs.Prelude.{◌≡◌, ◌+◌, ◌<◌, ◌≤◌, ◌^
 
 use crate::cursor::Cursor;
 use crate::part::{Bracket, Part, Sequence};
-use crate::{pattern_forms, process_forms};
+use crate::{parts, pattern_forms, process_forms};
 use calculus::{Pat, Proc};
 use grammar::{Fault, Mark};
 
@@ -21,8 +21,10 @@ impl<'a> Cursor<'a> {
         ensures height { IfOk result (λ p. p.height ≡ inner.height + 1) }
         ensures shorter { length self.new.rest.now ≤ length self.old.rest.now }
     {
-        self.expect(Mark::Close)?;
-        Ok(process_forms::opened(inner))
+        match self.expect(Mark::Close) {
+            Ok(()) => Ok(process_forms::opened(inner)),
+            Err(fault) => parts::give_up(inner, fault),
+        }
     }
 
     /// The end of a block.
@@ -32,8 +34,10 @@ impl<'a> Cursor<'a> {
         ensures height { IfOk result (λ p. p.height ≡ inner.height + 1) }
         ensures shorter { length self.new.rest.now ≤ length self.old.rest.now }
     {
-        self.expect(Mark::CloseBrace)?;
-        Ok(process_forms::opened(inner))
+        match self.expect(Mark::CloseBrace) {
+            Ok(()) => Ok(process_forms::opened(inner)),
+            Err(fault) => parts::give_up(inner, fault),
+        }
     }
 
     /// The end of a map.
@@ -64,8 +68,10 @@ impl<'a> Cursor<'a> {
         ensures height { IfOk result (λ p. p.height ≡ first.height + 1) }
         ensures shorter { length self.new.rest.now ≤ length self.old.rest.now }
     {
-        self.expect(Mark::Close)?;
-        Ok(pattern_forms::opened_pat(first))
+        match self.expect(Mark::Close) {
+            Ok(()) => Ok(pattern_forms::opened_pat(first)),
+            Err(fault) => parts::give_up(first, fault),
+        }
     }
 
     /// No members.
@@ -95,7 +101,9 @@ impl<'a> Cursor<'a> {
         ensures height { IfOk result (λ p. p.height ≡ first.height + 1) }
         ensures shorter { length self.new.rest.now ≤ length self.old.rest.now }
     {
-        self.expect(Mark::CloseBrace)?;
-        Ok(pattern_forms::opened_pat(first))
+        match self.expect(Mark::CloseBrace) {
+            Ok(()) => Ok(pattern_forms::opened_pat(first)),
+            Err(fault) => parts::give_up(first, fault),
+        }
     }
 }

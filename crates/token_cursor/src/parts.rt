@@ -1,6 +1,6 @@
-//! Parts in the order in which they were read.
+//! Parts in the order in which they were read, and values that are let go or boxed whatever their type.
 ghost use Rattle.grammar.specs.declared.fault.Fault.TheVariants.{NoMemory};
-ghost use Rattle.std.specs.Prelude.{◌≡◌, ◌+◌, ◌<◌, ◌-◌, ◌∷◌, ◌++◌, [], IfOk, MatchResult, max};
+ghost use Rattle.std.specs.Prelude.{◌≡◌, ◌+◌, ◌<◌, ◌-◌, ◌∷◌, ◌++◌, [], IfErr, IfOk, MatchResult, max};
 
 use crate::part::Part;
 use grammar::Fault;
@@ -42,4 +42,45 @@ pub fn pair<T>(key: Part<T>, value: Part<T>) -> Part<(T, T)>
         height: key.height.max(value.height),
         value: (key.value, value.value),
     }
+}
+
+/// The fault, with a value let go.
+pub fn give_up<T: Drop, U>(_value: T, fault: Fault) -> Result<U, Fault>
+    ensures { result ≡ Err fault }
+{
+    Err(fault)
+}
+
+/// A list of one value.
+pub fn alone<T: Drop>(alloc: Global, value: T) -> Result<Vec<T>, Fault>
+    ensures { MatchResult result (λ vs. vs.items ≡ value ∷ []) (λ e. e ≡ NoMemory) }
+{
+    let mut values = Vec::new(alloc);
+    values.push(value)?;
+    Ok(values)
+}
+
+/// A list of two values.
+pub fn two<T: Drop>(alloc: Global, first: T, second: T) -> Result<Vec<T>, Fault>
+    ensures { MatchResult result (λ vs. vs.items ≡ first ∷ (second ∷ [])) (λ e. e ≡ NoMemory) }
+{
+    let mut values = Vec::new(alloc);
+    values.push(first)?;
+    values.push(second)?;
+    Ok(values)
+}
+
+/// Two values in boxes.
+pub fn boxed_two<T: Drop, U: Drop>(
+    alloc: Global,
+    first: T,
+    second: U,
+) -> Result<(Box<T>, Box<U>), Fault>
+    ensures first { IfOk result (λ b. b.0.value ≡ first) }
+    ensures second { IfOk result (λ b. b.1.value ≡ second) }
+    ensures fails { IfErr result (λ e. e ≡ NoMemory) }
+{
+    let first = Box::new(alloc, first)?;
+    let second = Box::new(alloc, second)?;
+    Ok((first, second))
 }

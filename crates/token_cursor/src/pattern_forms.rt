@@ -7,6 +7,7 @@ ghost use Rattle.token_cursor.specs.Reading.{pat_pairs_written, sequence_written
 ghost use Rattle.std.specs.Prelude.{◌≡◌, ◌+◌, ◌<◌, ◌-◌, ◌^◌, [], IfOk, MatchResult, map, max, string_bytes};
 
 use crate::part::{Left, Part, Sequence};
+use crate::parts;
 use calculus::{Ground, NamePat, Pat, Proc, Rest, Rights, Simple};
 use grammar::Fault;
 use std::alloc::Global;
@@ -97,8 +98,7 @@ pub fn either(alloc: Global, left: Part<Pat>, right: Part<Pat>) -> Result<Part<P
     ensures height { IfOk result (λ p. p.height ≡ max left.height right.height + 1) }
 {
     let height = left.height.max(right.height) + 1;
-    let left = Box::new(alloc, left.value)?;
-    let right = Box::new(alloc, right.value)?;
+    let (left, right) = parts::boxed_two(alloc, left.value, right.value)?;
     Ok(Part {
         value: Pat::Either(left, right),
         height,
@@ -113,8 +113,7 @@ pub fn both(alloc: Global, left: Part<Pat>, right: Part<Pat>) -> Result<Part<Pat
     ensures height { IfOk result (λ p. p.height ≡ max left.height right.height + 1) }
 {
     let height = left.height.max(right.height) + 1;
-    let left = Box::new(alloc, left.value)?;
-    let right = Box::new(alloc, right.value)?;
+    let (left, right) = parts::boxed_two(alloc, left.value, right.value)?;
     Ok(Part {
         value: Pat::Both(left, right),
         height,

@@ -8,6 +8,7 @@ ghost use Rattle.token_cursor.specs.Reading.{pairs_written};
 ghost use Rattle.std.specs.Prelude.{◌≡◌, ◌+◌, ◌<◌, ◌≤◌, ◌-◌, ◌^◌, pos, neg_ℤ, ◌∷◌, ◌++◌, [], IfOk, MatchResult, map, max, string_bytes, true, false};
 
 use crate::part::{Left, Part};
+use crate::parts;
 use calculus::{BinaryOp, Bind, Case, Decl, Ground, Kind, Name, Pat, Proc, Rights, UnaryOp};
 use grammar::Fault;
 use std::alloc::Global;
@@ -100,12 +101,15 @@ pub fn contract(
     ensures height { IfOk result (λ p. p.height ≡ max (max name.height left.height) body.height + 1) }
 {
     let height = name.height.max(left.height).max(body.height) + 1;
-    let mut binds = Vec::new(alloc);
-    binds.push(Bind {
+    let bind = Bind {
         pats: left.value.pats,
         rest: left.value.rest,
         channel: name.value,
-    })?;
+    };
+    let binds = match parts::alone(alloc, bind) {
+        Ok(binds) => binds,
+        Err(fault) => return parts::give_up(body, fault),
+    };
     let body = Box::new(alloc, body.value)?;
     Ok(Part {
         value: Proc::Receive {
@@ -161,15 +165,18 @@ pub fn choice(
     ensures height { IfOk result (λ p. p.height ≡ max (max condition.height yes.height) no.height + 1) }
 {
     let height = condition.height.max(yes.height).max(no.height) + 1;
-    let mut cases = Vec::new(alloc);
-    cases.push(Case {
+    let yes = Case {
         pat: Pat::Ground(Ground::Bool(true)),
         body: yes.value,
-    })?;
-    cases.push(Case {
+    };
+    let no = Case {
         pat: Pat::Ground(Ground::Bool(false)),
         body: no.value,
-    })?;
+    };
+    let cases = match parts::two(alloc, yes, no) {
+        Ok(cases) => cases,
+        Err(fault) => return parts::give_up(condition, fault),
+    };
     let target = Box::new(alloc, condition.value)?;
     Ok(Part {
         value: Proc::Match { target, cases },
@@ -190,8 +197,7 @@ pub fn operation(
     ensures height { IfOk result (λ p. p.height ≡ max left.height right.height + 1) }
 {
     let height = left.height.max(right.height) + 1;
-    let left = Box::new(alloc, left.value)?;
-    let right = Box::new(alloc, right.value)?;
+    let (left, right) = parts::boxed_two(alloc, left.value, right.value)?;
     Ok(Part {
         value: Proc::Binary { op, left, right },
         height,

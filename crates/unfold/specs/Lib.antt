@@ -1,7 +1,3 @@
-pub mod Linear
-pub mod Binds
-pub mod Examples
-pub mod Limits
 pub mod Offers
-pub mod Works
-pub mod Laws
+pub mod Inner
+pub mod Progress

@@ -1,55 +1,24 @@
--- What the offers of the program stand for, and what work that adds to them came to.
-use Rattle.std.specs.Prelude.{◌≡◌, ◌<◌, ◌≤◌, ℕ, ◌+◌, true, List, ◌++◌, map as each, Some, All, ⊤}
-use Rattle.calculus.specs.Tree.{send, receive, row, Tree}
-use Rattle.calculus.specs.Shape.{two, many, only}
-use Rattle.calculus.specs.Form.{IsClosed}
-use Rattle.calculus.specs.Rows.{Row}
-use Rattle.calculus.specs.Outcome.{Prices, Outcome, gives, fails, Capped, over, within, capped}
-use Rattle.calculus.specs.Unfolding.{Thing, rows_of, unfold_in, unfold_under}
+-- What a send and a receive come to, and what the offers of the program stand for.
+use Rattle.std.specs.Prelude.{◌≡◌, ℕ, Bool, List, map as each}
+use Rattle.calculus.specs.declared.plain.Kind.{Kind}
+use Rattle.calculus.specs.Tree.{Tree}
+use Rattle.calculus.specs.Shape.{held, at}
+use Rattle.calculus.specs.Outcome.{Prices, Outcome, gives, Capped, within, after, in_order}
+use Rattle.calculus.specs.Values.{value}
+use Rattle.calculus.specs.Unfolding.{Thing, rows_of, opened, send_offered, receive_offered}
 use Rattle.rho_term.specs.declared.op.Op.{Op}
-use Rattle.rho_term.specs.declared.op.Op.TheVariants as op
-use Rattle.rho_term.specs.Parts.{bind_tree}
-use Rattle.unfold.specs.Linear.{is_linear_part}
-use Rattle.unfold.specs.declared.stop.EvalStop.{EvalStop}
-use Rattle.unfold.specs.declared.stop.EvalStop.TheVariants.{Fault, Over, NoMemory}
+use Rattle.rho_term.specs.Rows.{row_of_op}
 
--- the row that an offer is: its id and its part
-abbrev pub row_of_op : Op → Row
-row_of_op (op.Produce id c xs q) = record { id = id.0; part = two (send q) c (many row xs.items) }
-row_of_op (op.Consume id k bs body) = record { id = id.0; part = two (receive k) (many row (each bind_tree bs.items)) body }
+-- a send on this channel with these arguments, and with this seed: all are evaluated, and then it is offered
+abbrev pub send_work : Prices → List ℕ → Bool → Tree → List Tree → Outcome (List Thing)
+send_work p t q c xs = after (value p c) (λ v. after (in_order (each (value p) xs)) (λ vs. send_offered p t q (opened v) vs))
 
--- a row's part is linear, and closed as a process
-abbrev pub IsLinearRow : Row → Type 0
-IsLinearRow r = (is_linear_part r.part ≡ true) × IsClosed (only r.part)
-
--- offers and a price so far became these by work of this outcome, which has a result and whose price does not pass the cap
-pub record Went (cap : ℕ) (from to : ℕ) (before after : List Op) (o : Outcome (List Thing)) : Type 0 where
-  pub things : List Thing
-  pub answer : o.answer ≡ gives things
-  pub price : to ≡ from + o.price
-  pub fits : to ≤ cap
-  pub rows : each row_of_op after ≡ each row_of_op before ++ rows_of things
-  pub linear : All IsLinearRow (rows_of things)
-
--- why work of this outcome stopped, from this price so far: at its first fault, or where its price passed the cap
-abbrev pub Stopped : ℕ → ℕ → Outcome (List Thing) → EvalStop → Type 0
-Stopped cap from o (Fault kind price) = (o.answer ≡ fails kind) × (price ≡ from + o.price) × (price ≤ cap)
-Stopped cap from o Over = cap < from + o.price
-Stopped cap from o NoMemory = ⊤
+-- a receive with these binds and this body, and with this seed: the channels are evaluated, and then it is offered
+abbrev pub receive_work : Prices → List ℕ → Kind → List Tree → Tree → Outcome (List Thing)
+receive_work p t k bs body = after (in_order (each (λ b. value p (at 0 (held b))) bs)) (λ vs. receive_offered p t k (each opened vs) bs body)
 
 -- offers at this price are those of work that comes to a result, of which this is said
 pub record Comes (says : Capped (List Thing) → Type 0) (price : ℕ) (offers : List Op) : Type 0 where
   pub things : List Thing
   pub work : says (within (record { price = price; answer = gives things }))
   pub rows : each row_of_op offers ≡ rows_of things
-  pub linear : All IsLinearRow (rows_of things)
-
--- why work has no result: its first fault and its price, or that its price passed the cap; where memory ran out nothing is said
-abbrev pub EndsWith : (Capped (List Thing) → Type 0) → EvalStop → Type 0
-EndsWith says (Fault kind price) = says (within (record { price = price; answer = fails kind }))
-EndsWith says Over = says over
-EndsWith says NoMemory = ⊤
-
--- a body under these values, with this seed, comes to this under the cap, where there is room enough
-abbrev pub UnfoldsUnder : Prices → ℕ → List Tree → Tree → List ℕ → Capped (List Thing) → Type 0
-UnfoldsUnder p cap vs body s w = (room : ℕ) × capped cap (unfold_under (unfold_in p room) s vs body) ≡ Some w

@@ -1,14 +1,12 @@
-//! What a process offers to the tuple space, where it has linear forms alone.
+//! What a closed process offers to the tuple space: its sends and receives with ids, at which price, or its first fault.
+//!
+//! What is still to be unfolded stands in a list, so the native stack stays small however deep an unfolding goes.
 #![tactic(auto)]
 
-pub mod forms;
-pub mod laws;
+mod inner;
 mod limits;
 mod offers;
-mod process;
-pub mod stop;
+mod turns;
 pub mod unfolding;
 
-pub use forms::is_linear;
-pub use stop::{EvalStop, Priced};
 pub use unfolding::{unfold, unfold_body};

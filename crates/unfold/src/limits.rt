@@ -1,22 +1,14 @@
-// Prices under a cap, and the limits on heights and codes.
+// Prices under a cap, and bodies within the limits.
+ghost use Rattle.std.specs.Prelude.{◌≡◌, ◌≤◌, ◌<◌, ◌+◌, ◌-◌, ◌^◌, MatchResult};
+ghost use Rattle.calculus.specs.Outcome.{free, within_limits};
+ghost use Rattle.calculus.specs.Substitution.{put};
+ghost use Rattle.rho_eval.specs.Outcomes.{Came, Stopped};
 
-ghost use Rattle.std.specs.Prelude.{◌≡◌, ◌≤◌, ◌<◌, ◌+◌, ◌-◌, ◌^◌, MatchResult, length, Some, None};
-ghost use Rattle.calculus.specs.Code.{code};
-ghost use Rattle.calculus.specs.Size.{height};
-ghost use Rattle.calculus.specs.declared.fault.FaultKind.{FaultKind};
-ghost use Rattle.rho_term.specs.Normal.{IsNormal};
-ghost use Rattle.unfold.specs.Limits.{size_fault};
-
-use crate::stop::EvalStop;
 use calculus::FaultKind;
-use rho_term::Term;
-use term_encoder::code_len;
-
-/// The greatest height of a process.
-const MOST_HEIGHT: u32 = 400;
-
-/// The greatest number of bytes of a code.
-const MOST_BYTES: u64 = 1_048_576;
+use rho_eval::{EvalStop, Priced};
+use rho_term::{MOST_BYTES, MOST_HEIGHT, Term};
+use std::alloc::Global;
+use term_sort::{put_size, substitute};
 
 /// The price so far and this cost, where they do not pass the cap.
 pub(crate) fn add_cost(price: u64, cost: u64, cap: u64) -> Result<u64, EvalStop>
@@ -30,27 +22,26 @@ pub(crate) fn add_cost(price: u64, cost: u64, cap: u64) -> Result<u64, EvalStop>
     Ok(total)
 }
 
-/// The fault of a height and a code length, at this price so far, where one of them is beyond its limit.
-pub(crate) fn check_size(height: u32, length: u64, price: u64) -> Result<(), EvalStop>
-    ensures { MatchResult result (λ _. size_fault height length ≡ None) (λ e. (kind : FaultKind) × (size_fault height length ≡ Some kind) × (e ≡ EvalStop.Fault kind price)) }
+/// A body with these values at this price so far, or its fault where it is beyond the limits.
+pub(crate) fn put_within(
+    alloc: Global,
+    body: &Term,
+    values: &[Term],
+    price: u64,
+    cap: u64,
+) -> Result<Priced<Term>, EvalStop>
+    requires { price ≤ cap }
+    ensures { MatchResult result (λ p. Came cap price p.price p.value (free (within_limits (put values.now body.now)))) (λ e. Stopped cap price (free (within_limits (put values.now body.now))) e) }
 {
+    let (height, bytes) = put_size(body, values);
     if height > MOST_HEIGHT {
         let kind = FaultKind::TooDeep;
         return Err(EvalStop::Fault { kind, price });
     }
-    if length > MOST_BYTES {
+    if bytes > MOST_BYTES {
         let kind = FaultKind::TooBig;
         return Err(EvalStop::Fault { kind, price });
     }
-    Ok(())
-}
-
-/// How many bytes the code of a process within the limits has, or its fault at this price so far.
-pub(crate) fn checked_len(term: &Term, price: u64) -> Result<u64, EvalStop>
-    ensures limits { MatchResult result (λ n. (size_fault (height term.now) (length (code term.now)) ≡ None) × (n ≡ length (code term.now))) (λ e. (kind : FaultKind) × (size_fault (height term.now) (length (code term.now)) ≡ Some kind) × (e ≡ EvalStop.Fault kind price)) }
-    ensures normal { IsNormal term.now }
-{
-    let length = code_len(term);
-    check_size(term.height(), length, price)?;
-    Ok(length)
+    let value = substitute(alloc, body, values)?;
+    Ok(Priced { value, price })
 }

@@ -1,114 +1,110 @@
-// What one send or one receive adds to the offers, and what it costs.
-
-ghost use Rattle.std.specs.Prelude.{◌≡◌, ◌≤◌, ◌<◌, ◌+◌, ◌-◌, ◌^◌, true, false, [], ◌∷◌, map, MatchResult};
-ghost use Rattle.calculus.specs.declared.plain.Kind.TheVariants as kinds;
+// What a send and a receive offer: their constituents are evaluated first.
+ghost use Rattle.std.specs.Prelude.{◌≡◌, ◌≤◌, ◌<◌, ◌-◌, ◌^◌, [], ◌∷◌, All, map, MatchResult};
 ghost use Rattle.calculus.specs.Tree.{send as sends, receive as receives, row};
 ghost use Rattle.calculus.specs.Shape.{two, many, only};
 ghost use Rattle.calculus.specs.Form.{IsClosed};
+ghost use Rattle.calculus.specs.Outcome.{in_order};
+ghost use Rattle.calculus.specs.Unfolding.{a_row};
+ghost use Rattle.calculus.specs.Values.{value};
+ghost use Rattle.rho_eval.specs.Outcomes.{Came, Stopped};
 ghost use Rattle.rho_term.specs.Parts.{bind_tree};
-ghost use Rattle.unfold.specs.Linear.{is_linear_part};
-ghost use Rattle.unfold.specs.Offers.{Went, Stopped};
-ghost use Rattle.unfold.specs.Works.{send_work, receive_work};
+ghost use Rattle.rho_term.specs.Rows.{row_of_op};
+ghost use Rattle.unfold.specs.Offers.{send_work, receive_work};
 
-use crate::limits::{add_cost, check_size, checked_len};
-use crate::stop::EvalStop;
 use calculus::Kind;
 use name_seed::Seed;
+use offered_rows::{offer_receive, offer_send};
 use price_table::Prices;
+use rho_eval::{EvalStop, Priced, eval_term, eval_terms};
 use rho_term::{Op, Term, TermBind};
 use std::alloc::Global;
-use term_encoder::code_len;
 
-/// The price so far, and what is offered so far.
-#[derive(Drop)]
-pub(crate) struct Work {
-    pub price: u64,
-    pub offers: Vec<Op>,
-}
-
-/// How many bytes the row of a send of one argument has beside the codes of its channel and its argument: a tag and
-/// an id, whether it is persistent, and the number of arguments.
-const SEND_BYTES: u64 = 38;
-
-/// How many bytes the row of a receive of one variable has beside the codes of its channel and its body: a tag and an
-/// id, its kind, the number of binds, and the bind's patterns and remainder.
-const RECEIVE_BYTES: u64 = 48;
-
-/// A send of one argument with this seed: both are evaluated, the price is added, and the row is offered.
-pub(crate) fn offer_send(
+/// A send with this seed, from a price so far.
+pub(crate) fn send_offer(
     alloc: Global,
-    work: &mut Work,
     channel: &Term,
-    arg: &Term,
+    args: &Vec<Term>,
+    persistent: bool,
     seed: &Seed,
     prices: &Prices,
     cap: u64,
-) -> Result<(), EvalStop>
+    price: u64,
+) -> Result<Priced<Op>, EvalStop>
     requires cap { cap < 2 ^ 64 - 1 }
-    requires price { work.old.price ≤ cap }
-    requires linear { is_linear_part (two (sends false) channel.now (many row (arg.now ∷ []))) ≡ true }
-    requires closed { IsClosed (only (two (sends false) channel.now (many row (arg.now ∷ [])))) }
-    ensures { MatchResult result (λ _. Went cap work.old.price work.new.price work.old.offers.items work.new.offers.items (send_work prices.now seed.now channel.now arg.now)) (λ e. Stopped cap work.old.price (send_work prices.now seed.now channel.now arg.now) e) }
+    requires price { price ≤ cap }
+    requires closed { IsClosed (only (two (sends persistent) channel.now (many row args.now.items))) }
+    ensures { MatchResult result (λ p. Came cap price p.price (a_row (row_of_op p.value) ∷ []) (send_work prices.now seed.now persistent channel.now args.now.items)) (λ e. Stopped cap price (send_work prices.now seed.now persistent channel.now args.now.items) e) }
 {
-    let channel_bytes = checked_len(channel, work.price)?;
-    let arg_bytes = checked_len(arg, work.price)?;
-    let bytes = SEND_BYTES + channel_bytes + arg_bytes;
-    let cost = prices.send() + prices.byte() * bytes;
-    let price = add_cost(work.price, cost, cap)?;
-    let height = channel.height().max(arg.height()) + 1;
-    check_size(height, bytes, price)?;
-    let channel = channel.copy(alloc)?;
-    let mut args = Vec::new(alloc);
-    args.push(arg.copy(alloc)?)?;
+    let channel = eval_term(alloc, channel, prices, cap, price)?;
+    let args = eval_terms(alloc, args, prices, cap, channel.price)?;
     let id = seed.digest();
-    let persistent = false;
-    work.offers.push(Op::Produce {
+    let price = args.price;
+    offer_send(
+        alloc,
         id,
-        channel,
-        args,
         persistent,
-    })?;
-    work.price = price;
-    Ok(())
+        channel.value,
+        args.value,
+        prices,
+        cap,
+        price,
+    )
 }
 
-/// A linear receive of one variable with this seed: its channel is evaluated, the price is added, and the row is
-/// offered.
-pub(crate) fn offer_receive(
+/// A receive with this seed, from a price so far.
+pub(crate) fn receive_offer(
     alloc: Global,
-    work: &mut Work,
-    bind: &TermBind,
+    kind: Kind,
+    binds: &Vec<TermBind>,
     body: &Term,
     seed: &Seed,
     prices: &Prices,
     cap: u64,
-) -> Result<(), EvalStop>
+    price: u64,
+) -> Result<Priced<Op>, EvalStop>
     requires cap { cap < 2 ^ 64 - 1 }
-    requires price { work.old.price ≤ cap }
-    requires linear { is_linear_part (two (receives kinds.Linear) (many row (bind_tree bind.now ∷ [])) body.now) ≡ true }
-    requires closed { IsClosed (only (two (receives kinds.Linear) (many row (bind_tree bind.now ∷ [])) body.now)) }
-    ensures { MatchResult result (λ _. Went cap work.old.price work.new.price work.old.offers.items work.new.offers.items (receive_work prices.now seed.now (bind_tree bind.now) body.now)) (λ e. Stopped cap work.old.price (receive_work prices.now seed.now (bind_tree bind.now) body.now) e) }
+    requires price { price ≤ cap }
+    requires closed { IsClosed (only (two (receives kind) (many row (map bind_tree binds.now.items)) body.now)) }
+    ensures { MatchResult result (λ p. Came cap price p.price (a_row (row_of_op p.value) ∷ []) (receive_work prices.now seed.now kind (map bind_tree binds.now.items) body.now)) (λ e. Stopped cap price (receive_work prices.now seed.now kind (map bind_tree binds.now.items) body.now) e) }
 {
-    let channel_bytes = checked_len(&bind.channel, work.price)?;
-    let height = bind.channel.height().max(body.height()).saturating_add(1);
-    let bytes = code_len(body).saturating_add(RECEIVE_BYTES + channel_bytes);
-    let cost = prices
-        .byte()
-        .saturating_mul(bytes)
-        .saturating_add(prices.receive());
-    let price = add_cost(work.price, cost, cap)?;
-    check_size(height, bytes, price)?;
-    let mut binds = Vec::new(alloc);
-    binds.push(bind.copy(alloc)?)?;
-    let body = body.copy(alloc)?;
+    let channels = channel_values(alloc, binds, prices, cap, price)?;
     let id = seed.digest();
-    let kind = Kind::Linear;
-    work.offers.push(Op::Consume {
+    let price = channels.price;
+    offer_receive(
+        alloc,
         id,
         kind,
+        channels.value,
         binds,
         body,
-    })?;
-    work.price = price;
-    Ok(())
+        prices,
+        cap,
+        price,
+    )
+}
+
+/// The values of the channels of these binds in turn, from a price so far.
+fn channel_values(
+    alloc: Global,
+    binds: &Vec<TermBind>,
+    prices: &Prices,
+    cap: u64,
+    price: u64,
+) -> Result<Priced<Vec<Term>>, EvalStop>
+    requires cap { cap < 2 ^ 64 - 1 }
+    requires price { price ≤ cap }
+    requires closed { All (λ b. IsClosed b.channel) binds.now.items }
+    ensures { MatchResult result (λ p. Came cap price p.price p.value.items (in_order (map (λ b. value prices.now b.channel) binds.now.items))) (λ e. Stopped cap price (in_order (map (λ b. value prices.now b.channel) binds.now.items)) e) }
+{
+    let mut total = price;
+    let mut values = Vec::new(alloc);
+    for bind in binds {
+        let done = eval_term(alloc, &bind.channel, prices, cap, total)?;
+        total = done.price;
+        values.push(done.value)?;
+    }
+    Ok(Priced {
+        value: values,
+        price: total,
+    })
 }

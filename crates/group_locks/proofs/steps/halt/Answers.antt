@@ -1,5 +1,5 @@
 use Rattle.std.proofs.Common.{◌∙◌, ◌==◌, ℕ, cond, ap, arith}
-use Rattle.group_locks.specs.Rule.{with_tally, saw_stop}
+use Rattle.group_locks.specs.Rule.{with_tally, saw_stopped}
 use Rattle.group_locks.proofs.Charges.{stop}
 use Rattle.group_locks.proofs.Tallies.{cause_codes}
 use Rattle.group_locks.proofs.steps.halt.Goals as goal
@@ -13,4 +13,4 @@ compare_exchange-found-requires g c =
 pub returns-clause-found : goal.returns-clause-found
 returns-clause-found g c =
     let me = c.args.token.now.me in let r = c.compare_exchange-found.result in
-    c.ring.ensures.same.2 ∙ (c.compare_exchange-found.ensures.2.1 ∙ ap {A = ℕ} (λ n. (with_tally me.0 (saw_stop me.0.tally (cond (r == 0) n r)), me.1)) c.code.ensures)
+    c.ring.ensures.same.2 ∙ (c.compare_exchange-found.ensures.2.1 ∙ ap {A = ℕ} (λ n. (with_tally me.0 (saw_stopped me.0.tally r (cond (r == 0) n r)), me.1)) c.code.ensures)

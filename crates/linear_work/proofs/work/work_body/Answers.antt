@@ -1,4 +1,4 @@
-use Rattle.unfold.specs.Offers.{UnfoldsUnder}
+use Rattle.calculus.specs.Unfolding.{UnfoldsUnder}
 use Rattle.linear_runs.proofs.ShortRows.{offered_rows_are_short}
 use Rattle.linear_work.proofs.Works.{within-cap, worked}
 use Rattle.linear_work.proofs.work.work_body.Goals as goal

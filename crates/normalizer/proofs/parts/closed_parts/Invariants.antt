@@ -1,6 +1,6 @@
 use Rattle.std.proofs.Common.{◌≡◌, map}
 use Rattle.rho_term.specs.Parts.{part_tree, pat_part_tree}
-use Rattle.term_sort.specs.Made.{reordered}
+use Rattle.code_order.specs.Made.{reordered}
 use Rattle.normalizer.proofs.parts.closed_parts.Given as goal
 
 abbrev pub invariant-loop-part : goal.invariant-loop-part

@@ -4,7 +4,7 @@ use Rattle.sha2.specs.Sha256.{sha256}
 use Rattle.calculus.specs.Log.{Step, log_text}
 use Rattle.calculus.specs.Outcome.{Prices}
 use Rattle.calculus.specs.Runs.{done}
-use Rattle.replays.specs.Replays.{price_digest}
+use Rattle.calculus.specs.Limits.{price_digest}
 use Rattle.event_log.specs.View.{step_of}
 use Rattle.linear_runs.specs.Courses.{IsRunOf}
 use Rattle.linear_runs.specs.Premises.{IsCalm}

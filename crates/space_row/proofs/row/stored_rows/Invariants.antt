@@ -1,5 +1,5 @@
 use Rattle.std.proofs.Common.{map}
-use Rattle.unfold.specs.Offers.{row_of_op}
+use Rattle.rho_term.specs.Rows.{row_of_op}
 use Rattle.state_writer.specs.Stored.{AreStored}
 use Rattle.space_row.proofs.row.stored_rows.Given as goal
 

@@ -1,5 +1,5 @@
 use Rattle.std.proofs.Common.{⊎_elim, sym, ◌∙◌, arith}
-use Rattle.term_code.proofs.Decoding.{only-memory_at_end, cut-answer, cut-unread, none-past, begun-only, begun-until, further, err-same, err-either, told-same}
+use Rattle.term_code.proofs.Decoding.{only-memory_at_end, cut-answer, cut-unread, none-past, begun-only, begun-until, deep-begun, further, err-same, err-either, told-same}
 use Rattle.term_code.proofs.BegunMore.{begun-unscoped}
 use Rattle.term_code.proofs.Places.{goes-on}
 use Rattle.term_code.proofs.Scoped.{refuses-unscoped, reads-unscoped}
@@ -36,6 +36,9 @@ returns-in-Err-clause-begun c = λ at q. begun-only c.args.bytes.now c.in-Err.fa
 
 pub returns-in-Err-clause-goes : goal.returns-in-Err-clause-goes
 returns-in-Err-clause-goes c = λ at q. begun-until c.args.bytes.now c.in-Err.fault _ at (omega arith) (wrong-unscoped c.new-scope.ensures.items c.in-Err.ensures.wrong) (λ s. goes-on (c.in-Err.ensures.begun s) (λ z g. begun-unscoped c.new-scope.ensures.items g)) (told-same c.at_end.ensures (err-either q))
+
+pub returns-in-Err-clause-under : goal.returns-in-Err-clause-under
+returns-in-Err-clause-under c = λ at q. deep-begun c.args.bytes.now c.in-Err.fault _ at (omega arith) (λ s. goes-on (c.in-Err.ensures.begun s) (λ z g. begun-unscoped c.new-scope.ensures.items g)) (sym c.at_end.ensures ∙ err-same q)
 
 pub returns-then-not-is_empty-clause-begun : goal.returns-then-not-is_empty-clause-begun
 returns-then-not-is_empty-clause-begun c = λ at q. absurd (cc)

@@ -2,7 +2,7 @@ use Rattle.std.proofs.Common.{arith}
 use Rattle.std.proofs.lemmas.Grind.{common_steps}
 use Rattle.rho_term.specs.Normal.{IsOrdered}
 use Rattle.rho_term.specs.Parts.{part_tree, pat_part_tree}
-use Rattle.term_sort.proofs.Made.{all-split, push-ordered}
+use Rattle.code_order.proofs.Made.{all-split, push-ordered}
 use Rattle.term_sort.proofs.substitution.put_closed.Goals as goal
 
 pub loop-part-preserved : goal.loop-part-preserved

@@ -3,8 +3,8 @@ use Rattle.std.proofs.lemmas.List.Elements.{All-nil, All-cons}
 use Rattle.calculus.specs.Form.{IsClosed}
 use Rattle.calculus.specs.Substitution.{put}
 use Rattle.calculus.specs.Tree.{Tree}
-use Rattle.unfold.specs.Linear.{is_linear}
-use Rattle.unfold.specs.Offers.{row_of_op}
+use Rattle.linear_unfold.specs.Linear.{is_linear}
+use Rattle.rho_term.specs.Rows.{row_of_op}
 use Rattle.linear_events.specs.Partners.{sent}
 use Rattle.linear_work.proofs.Bodies.{body-linear, process-linear, together-closed}
 use Rattle.std.proofs.Common.{ℕ, suc, ◌+◌, ◌++◌, length, map, refl, arith}

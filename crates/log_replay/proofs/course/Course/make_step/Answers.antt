@@ -6,8 +6,8 @@ use Rattle.calculus.specs.Seeds.{digest_of, Comm}
 use Rattle.calculus.specs.Substitution.{put}
 use Rattle.calculus.specs.Tree.{Tree}
 use Rattle.rho_term.specs.Normal.{IsNormal}
-use Rattle.unfold.specs.Linear.{is_linear}
-use Rattle.unfold.specs.Offers.{row_of_op}
+use Rattle.linear_unfold.specs.Linear.{is_linear}
+use Rattle.rho_term.specs.Rows.{row_of_op}
 use Rattle.linear_events.specs.Partners.{body_of, sent}
 use Rattle.linear_runs.specs.Courses.{IsSound}
 use Rattle.linear_work.proofs.Bodies.{body-linear, process-linear, together-closed}

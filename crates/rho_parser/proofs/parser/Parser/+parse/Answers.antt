@@ -12,21 +12,21 @@ use Rattle.token_cursor.proofs.Fronts.{no_fresh}
 use Rattle.rho_parser.proofs.Patterns.{first_pat_pair, sent_by, sent_tail_by, short}
 use Rattle.rho_parser.proofs.Processes.{alone, first_pair, forgets, goes_on, no_cases_yet, part_alone, sent_after, sent_as, sent_on, sent_tail_as, stops}
 use Rattle.rho_parser.proofs.Cycle.{binds_off, binds_on, built, chain, chosen, flat, left_on, no_chain, no_comma, opened_next, operand_as, pairs_on, pairs_pushed, passed, pat_pairs_pushed, prefix_as, pushed_as, pushed_by, pushes, sequence_on, tails, turned}
-use Rattle.token_cursor.proofs.Steps.{carry, ends, exit, lacks, leave, rows}
+use Rattle.token_cursor.proofs.Steps.{carry, ends, exit, gives_up, lacks, leave, rows, turns_back}
 use Rattle.token_cursor.specs.Levels.{tail_of}
 use Rattle.token_cursor.specs.Meaning.{view}
 use Rattle.token_cursor.specs.Reading.{bracket_of, of_left, of_name, of_name_pat, of_pat, of_pat_row, of_proc, of_row, of_sequence, pairs_written, pat_pairs_written, sees_bind, separator_of}
 use Rattle.std.proofs.Common.{Some, ap, arith, false, map, sym, true, ◌+◌, ◌∙◌, ◌≡◌}
 use Rattle.rho_parser.proofs.parser.Parser.+parse.Goals as goal
 
-pub alternative_more-returns-clause-reads : goal.alternative_more-returns-clause-reads
-alternative_more-returns-clause-reads t c = carry (λ p. last (Sort.PAltTail (of_pat p))) _ _ (λ out h. runs_opens c.in_ok-opens.ensures.reads (runs_under c.in_ok-right.ensures.reads (h))) (turned _ _ (λ p. last (Sort.PAltTail p)) pat_written _ _ c.either.ensures.tree c.either.ensures.height)
+pub alternative_more-returns-in-Ok-pattern_conjunction-clause-reads : goal.alternative_more-returns-in-Ok-pattern_conjunction-clause-reads
+alternative_more-returns-in-Ok-pattern_conjunction-clause-reads t c = carry (λ p. last (Sort.PAltTail (of_pat p))) _ _ (λ out h. runs_opens c.in-Ok.ensures.reads (runs_under c.in-Ok-pattern_conjunction.ensures.reads (h))) (turned _ _ (λ p. last (Sort.PAltTail p)) pat_written _ _ c.either.ensures.tree c.either.ensures.height)
 
-pub alternative_more-returns-in_err-opens-clause-reads : goal.alternative_more-returns-in_err-opens-clause-reads
-alternative_more-returns-in_err-opens-clause-reads t c = leave (λ p. last (Sort.PAltTail (of_pat p))) _ _ c.from_residual.ensures.1 (no_opens c.in_err-opens.ensures.reads)
+pub alternative_more-returns-in-Err-clause-reads : goal.alternative_more-returns-in-Err-clause-reads
+alternative_more-returns-in-Err-clause-reads t c = turns_back (λ p. last (Sort.PAltTail (of_pat p))) _ _ c.give_up.ensures (no_opens c.in-Err.ensures.reads)
 
-pub alternative_more-returns-in_err-right-clause-reads : goal.alternative_more-returns-in_err-right-clause-reads
-alternative_more-returns-in_err-right-clause-reads t c = leave (λ p. last (Sort.PAltTail (of_pat p))) _ _ c.from_residual-in_err-right.ensures.1 (runs_opens c.in_ok-opens.ensures.reads (no_under c.in_err-right.ensures.reads))
+pub alternative_more-returns-in-Err-pattern_conjunction-clause-reads : goal.alternative_more-returns-in-Err-pattern_conjunction-clause-reads
+alternative_more-returns-in-Err-pattern_conjunction-clause-reads t c = turns_back (λ p. last (Sort.PAltTail (of_pat p))) _ _ c.give_up-in-Err-pattern_conjunction.ensures (runs_opens c.in-Ok.ensures.reads (no_under c.in-Err-pattern_conjunction.ensures.reads))
 
 pub arrow_form-returns-clause-reads : goal.arrow_form-returns-clause-reads
 arrow_form-returns-clause-reads t c = chosen _ _ (c.arrow-kind.ensures _) (runs_sign c.in_ok-expect_arrow.ensures.reads (runs_under c.in_ok-channel.ensures.reads (tails (λ b. last (Sort.FirstTail c.arrow-kind.result b)) _ _ c.bind.ensures.tree c.bind.ensures.height (runs_last c.first_tail.ensures.reads))))
@@ -109,8 +109,8 @@ binds_tail-returns-in_err-all-clause-reads t c = exit of_proc _ _ c.from_residua
 pub binds_tail-returns-then-sees_bind-clause-reads : goal.binds_tail-returns-then-sees_bind-clause-reads
 binds_tail-returns-then-sees_bind-clause-reads t c = let b : sees_bind (separator_of c.args.separator) c.args.more (view c.args.self.now.cursor.rest.now) ≡ true = sym c.sees_bind.ensures.is ∙ c.if-sees_bind.true in binds_on _ _ _ _ _ b (c.in_ok-all.ensures.reads _ _ (runs_last c.binds_tail.ensures.reads))
 
-pub body-returns-clause-reads : goal.body-returns-clause-reads
-body-returns-clause-reads t c = runs_sign c.in_ok-expect.ensures.reads (runs_sign c.in_ok-expect-2.ensures.reads (runs_under c.in_ok-body.ensures.reads (runs_sign c.in_ok-expect-3.ensures.reads (built proc_written _ _ c.receive.ensures.tree c.receive.ensures.height))))
+pub body-returns-in-Ok-clause-reads : goal.body-returns-in-Ok-clause-reads
+body-returns-in-Ok-clause-reads t c = runs_sign c.in_ok-expect.ensures.reads (runs_sign c.in_ok-expect-2.ensures.reads (runs_under c.in_ok-body.ensures.reads (runs_sign c.in-Ok.ensures.reads (built proc_written _ _ c.receive.ensures.tree c.receive.ensures.height))))
 
 pub body-returns-in_err-body-clause-reads : goal.body-returns-in_err-body-clause-reads
 body-returns-in_err-body-clause-reads t c = exit of_proc _ _ c.from_residual-in_err-body.ensures.1 (runs_sign c.in_ok-expect.ensures.reads (runs_sign c.in_ok-expect-2.ensures.reads (no_under c.in_err-body.ensures.reads)))
@@ -118,8 +118,8 @@ body-returns-in_err-body-clause-reads t c = exit of_proc _ _ c.from_residual-in_
 pub body-returns-in_err-expect-2-clause-reads : goal.body-returns-in_err-expect-2-clause-reads
 body-returns-in_err-expect-2-clause-reads t c = exit of_proc _ _ c.from_residual-in_err-expect-2.ensures.1 (runs_sign c.in_ok-expect.ensures.reads (no_sign c.in_err-expect-2.ensures.reads))
 
-pub body-returns-in_err-expect-3-clause-reads : goal.body-returns-in_err-expect-3-clause-reads
-body-returns-in_err-expect-3-clause-reads t c = exit of_proc _ _ c.from_residual-in_err-expect-3.ensures.1 (runs_sign c.in_ok-expect.ensures.reads (runs_sign c.in_ok-expect-2.ensures.reads (runs_under c.in_ok-body.ensures.reads (no_sign c.in_err-expect-3.ensures.reads))))
+pub body-returns-in-Err-clause-reads : goal.body-returns-in-Err-clause-reads
+body-returns-in-Err-clause-reads t c = gives_up of_proc _ _ c.give_up.ensures (runs_sign c.in_ok-expect.ensures.reads (runs_sign c.in_ok-expect-2.ensures.reads (runs_under c.in_ok-body.ensures.reads (no_sign c.in-Err.ensures.reads))))
 
 pub body-returns-in_err-expect-clause-reads : goal.body-returns-in_err-expect-clause-reads
 body-returns-in_err-expect-clause-reads t c = exit of_proc _ _ c.from_residual.ensures.1 (no_sign c.in_err-expect.ensures.reads)
@@ -131,16 +131,16 @@ pub brace-returns-then-sees-clause-reads : goal.brace-returns-then-sees-clause-r
 brace-returns-then-sees-clause-reads t c = let x0 : sees CloseBrace (view c.args.self.now.cursor.rest.now) ≡ true = sym c.sees.ensures ∙ c.if-sees.true in rw x0 (c.empty_map.ensures.reads _)
 
 pub brace_pair-returns-clause-reads : goal.brace_pair-returns-clause-reads
-brace_pair-returns-clause-reads t c = runs_sign c.in_ok-expect.ensures.reads (runs_under c.in_ok-value.ensures.reads (first_pair (λ ps h. last (Sort.Pairs ps h)) _ _ c.pair.result c.in_ok-first.first c.pair.ensures.value c.pair.ensures.height c.in_ok-first.ensures.items c.in_ok-first.ensures.height (runs_last c.pairs.ensures.reads)))
+brace_pair-returns-clause-reads t c = runs_sign c.in-Ok.ensures.reads (runs_under c.in-Ok-par.ensures.reads (first_pair (λ ps h. last (Sort.Pairs ps h)) _ _ c.pair.result c.in_ok-first.first c.pair.ensures.value c.pair.ensures.height c.in_ok-first.ensures.items c.in_ok-first.ensures.height (runs_last c.pairs.ensures.reads)))
 
-pub brace_pair-returns-in_err-expect-clause-reads : goal.brace_pair-returns-in_err-expect-clause-reads
-brace_pair-returns-in_err-expect-clause-reads t c = exit of_proc _ _ c.from_residual.ensures.1 (no_sign c.in_err-expect.ensures.reads)
+pub brace_pair-returns-in-Err-clause-reads : goal.brace_pair-returns-in-Err-clause-reads
+brace_pair-returns-in-Err-clause-reads t c = gives_up of_proc _ _ c.give_up.ensures (no_sign c.in-Err.ensures.reads)
 
 pub brace_pair-returns-in_err-first-clause-reads : goal.brace_pair-returns-in_err-first-clause-reads
-brace_pair-returns-in_err-first-clause-reads t c = exit of_proc _ _ c.from_residual-in_err-first.ensures.1 (forgets _ c.in_err-first.ensures.items)
+brace_pair-returns-in_err-first-clause-reads t c = exit of_proc _ _ c.from_residual.ensures.1 (forgets _ c.in_err-first.ensures.items)
 
-pub brace_pair-returns-in_err-value-clause-reads : goal.brace_pair-returns-in_err-value-clause-reads
-brace_pair-returns-in_err-value-clause-reads t c = exit of_proc _ _ c.from_residual-in_err-value.ensures.1 (runs_sign c.in_ok-expect.ensures.reads (no_under c.in_err-value.ensures.reads))
+pub brace_pair-returns-in-Err-par-clause-reads : goal.brace_pair-returns-in-Err-par-clause-reads
+brace_pair-returns-in-Err-par-clause-reads t c = gives_up of_proc _ _ c.give_up-in-Err-par.ensures (runs_sign c.in-Ok.ensures.reads (no_under c.in-Err-par.ensures.reads))
 
 pub brace_some-returns-clause-reads : goal.brace_some-returns-clause-reads
 brace_some-returns-clause-reads t c = runs_under c.in_ok-inner.ensures.reads (runs_last c.brace_tail.ensures.reads)
@@ -154,14 +154,14 @@ brace_tail-returns-else-sees-clause-reads t c = let x0 : sees Colon (view c.args
 pub brace_tail-returns-then-sees-clause-reads : goal.brace_tail-returns-then-sees-clause-reads
 brace_tail-returns-then-sees-clause-reads t c = let x0 : sees Colon (view c.args.self.now.cursor.rest.now) ≡ true = sym c.sees.ensures ∙ c.if-sees.true in rw x0 c.brace_pair.ensures.reads
 
-pub bundle-returns-clause-reads : goal.bundle-returns-clause-reads
-bundle-returns-clause-reads t c = chosen _ _ (c.rights-rights.ensures processes) (runs_opens c.in_ok-opens_bundle.ensures.reads (runs_sign c.in_ok-expect.ensures.reads (runs_under c.in_ok-body.ensures.reads (runs_sign c.in_ok-expect-2.ensures.reads (built proc_written _ _ c.bundle.ensures.tree c.bundle.ensures.height)))))
+pub bundle-returns-in-Ok-clause-reads : goal.bundle-returns-in-Ok-clause-reads
+bundle-returns-in-Ok-clause-reads t c = chosen _ _ (c.rights-rights.ensures processes) (runs_opens c.in_ok-opens_bundle.ensures.reads (runs_sign c.in_ok-expect.ensures.reads (runs_under c.in_ok-body.ensures.reads (runs_sign c.in-Ok.ensures.reads (built proc_written _ _ c.bundle.ensures.tree c.bundle.ensures.height)))))
 
 pub bundle-returns-in_err-body-clause-reads : goal.bundle-returns-in_err-body-clause-reads
 bundle-returns-in_err-body-clause-reads t c = exit of_proc _ _ c.from_residual-in_err-body.ensures.1 (chosen _ _ (c.rights-rights.ensures processes) (runs_opens c.in_ok-opens_bundle.ensures.reads (runs_sign c.in_ok-expect.ensures.reads (no_under c.in_err-body.ensures.reads))))
 
-pub bundle-returns-in_err-expect-2-clause-reads : goal.bundle-returns-in_err-expect-2-clause-reads
-bundle-returns-in_err-expect-2-clause-reads t c = exit of_proc _ _ c.from_residual-in_err-expect-2.ensures.1 (chosen _ _ (c.rights-rights.ensures processes) (runs_opens c.in_ok-opens_bundle.ensures.reads (runs_sign c.in_ok-expect.ensures.reads (runs_under c.in_ok-body.ensures.reads (no_sign c.in_err-expect-2.ensures.reads)))))
+pub bundle-returns-in-Err-clause-reads : goal.bundle-returns-in-Err-clause-reads
+bundle-returns-in-Err-clause-reads t c = gives_up of_proc _ _ c.give_up.ensures (chosen _ _ (c.rights-rights.ensures processes) (runs_opens c.in_ok-opens_bundle.ensures.reads (runs_sign c.in_ok-expect.ensures.reads (runs_under c.in_ok-body.ensures.reads (no_sign c.in-Err.ensures.reads)))))
 
 pub bundle-returns-in_err-expect-clause-reads : goal.bundle-returns-in_err-expect-clause-reads
 bundle-returns-in_err-expect-clause-reads t c = exit of_proc _ _ c.from_residual-in_err-expect.ensures.1 (chosen _ _ (c.rights-rights.ensures processes) (runs_opens c.in_ok-opens_bundle.ensures.reads (no_sign c.in_err-expect.ensures.reads)))
@@ -169,14 +169,14 @@ bundle-returns-in_err-expect-clause-reads t c = exit of_proc _ _ c.from_residual
 pub bundle-returns-in_err-opens_bundle-clause-reads : goal.bundle-returns-in_err-opens_bundle-clause-reads
 bundle-returns-in_err-opens_bundle-clause-reads t c = exit of_proc _ _ c.from_residual.ensures.1 (chosen _ _ (c.rights-rights.ensures processes) (no_opens c.in_err-opens_bundle.ensures.reads))
 
-pub case-returns-clause-reads : goal.case-returns-clause-reads
-case-returns-clause-reads t c = λ t0. carry (λ c. last (Sort.CaseTail t0 (map case_written c.value.items) c.height)) _ _ (λ out h. passed c.in_ok-refuse_minus.ensures.reads.0 c.in_ok-refuse_minus.ensures.reads.1 (runs_under c.in_ok-pattern.ensures.reads (runs_sign c.in_ok-expect.ensures.reads (runs_under c.in_ok-body.ensures.reads (h))))) (pushed_as _ _ (λ cs h. last (Sort.CaseTail t0 cs h)) case_written _ _ _ _ _ _ c.case.ensures.tree c.case.ensures.height c.push.ensures.items c.push.ensures.height)
+pub case-returns-in-Ok-one-clause-reads : goal.case-returns-in-Ok-one-clause-reads
+case-returns-in-Ok-one-clause-reads t c = λ t0. carry (λ c. last (Sort.CaseTail t0 (map case_written c.value.items) c.height)) _ _ (λ out h. passed c.in_ok-refuse_minus.ensures.reads.0 c.in_ok-refuse_minus.ensures.reads.1 (runs_under c.in_ok-pattern.ensures.reads (runs_sign c.in-Ok.ensures.reads (runs_under c.in-Ok-one.ensures.reads (h))))) (pushed_as _ _ (λ cs h. last (Sort.CaseTail t0 cs h)) case_written _ _ _ _ _ _ c.case.ensures.tree c.case.ensures.height c.push.ensures.items c.push.ensures.height)
 
-pub case-returns-in_err-body-clause-reads : goal.case-returns-in_err-body-clause-reads
-case-returns-in_err-body-clause-reads t c = λ t0. leave (λ c. last (Sort.CaseTail t0 (map case_written c.value.items) c.height)) _ _ c.from_residual-in_err-body.ensures.1 (passed c.in_ok-refuse_minus.ensures.reads.0 c.in_ok-refuse_minus.ensures.reads.1 (runs_under c.in_ok-pattern.ensures.reads (runs_sign c.in_ok-expect.ensures.reads (no_under c.in_err-body.ensures.reads))))
+pub case-returns-in-Err-one-clause-reads : goal.case-returns-in-Err-one-clause-reads
+case-returns-in-Err-one-clause-reads t c = λ t0. turns_back (λ c. last (Sort.CaseTail t0 (map case_written c.value.items) c.height)) _ _ c.give_up-in-Err-one.ensures (passed c.in_ok-refuse_minus.ensures.reads.0 c.in_ok-refuse_minus.ensures.reads.1 (runs_under c.in_ok-pattern.ensures.reads (runs_sign c.in-Ok.ensures.reads (no_under c.in-Err-one.ensures.reads))))
 
-pub case-returns-in_err-expect-clause-reads : goal.case-returns-in_err-expect-clause-reads
-case-returns-in_err-expect-clause-reads t c = λ t0. leave (λ c. last (Sort.CaseTail t0 (map case_written c.value.items) c.height)) _ _ c.from_residual-in_err-expect.ensures.1 (passed c.in_ok-refuse_minus.ensures.reads.0 c.in_ok-refuse_minus.ensures.reads.1 (runs_under c.in_ok-pattern.ensures.reads (no_sign c.in_err-expect.ensures.reads)))
+pub case-returns-in-Err-clause-reads : goal.case-returns-in-Err-clause-reads
+case-returns-in-Err-clause-reads t c = λ t0. turns_back (λ c. last (Sort.CaseTail t0 (map case_written c.value.items) c.height)) _ _ c.give_up.ensures (passed c.in_ok-refuse_minus.ensures.reads.0 c.in_ok-refuse_minus.ensures.reads.1 (runs_under c.in_ok-pattern.ensures.reads (no_sign c.in-Err.ensures.reads)))
 
 pub case-returns-in_err-pattern-clause-reads : goal.case-returns-in_err-pattern-clause-reads
 case-returns-in_err-pattern-clause-reads t c = λ t0. leave (λ c. last (Sort.CaseTail t0 (map case_written c.value.items) c.height)) _ _ c.from_residual-in_err-pattern.ensures.1 (passed c.in_ok-refuse_minus.ensures.reads.0 c.in_ok-refuse_minus.ensures.reads.1 (no_under c.in_err-pattern.ensures.reads))
@@ -199,14 +199,14 @@ cases-returns-in_err-cases-2-clause-reads t c = λ w. leave (λ q. rule Tutorial
 pub cases-returns-in_err-cases-clause-reads : goal.cases-returns-in_err-cases-clause-reads
 cases-returns-in_err-cases-clause-reads t c = λ w. leave (λ q. rule Tutorial (Prod.case_end (spelt w c.args.height) (map case_written q.value.items) q.height)) _ _ c.from_residual.ensures.1 (no_cases_yet (λ cs h. rule Tutorial (Prod.case (spelt w c.args.height) cs h)) _ c.no_cases-none.result c.no_cases-none.ensures.tree c.no_cases-none.ensures.height (c.in_err-cases.ensures.reads _))
 
-pub conjunction_more-returns-clause-reads : goal.conjunction_more-returns-clause-reads
-conjunction_more-returns-clause-reads t c = carry (λ p. last (Sort.PAndTail (of_pat p))) _ _ (λ out h. runs_opens c.in_ok-opens.ensures.reads (runs_under c.in_ok-right.ensures.reads (h))) (turned _ _ (λ p. last (Sort.PAndTail p)) pat_written _ _ c.both.ensures.tree c.both.ensures.height)
+pub conjunction_more-returns-in-Ok-pattern_not-clause-reads : goal.conjunction_more-returns-in-Ok-pattern_not-clause-reads
+conjunction_more-returns-in-Ok-pattern_not-clause-reads t c = carry (λ p. last (Sort.PAndTail (of_pat p))) _ _ (λ out h. runs_opens c.in-Ok.ensures.reads (runs_under c.in-Ok-pattern_not.ensures.reads (h))) (turned _ _ (λ p. last (Sort.PAndTail p)) pat_written _ _ c.both.ensures.tree c.both.ensures.height)
 
-pub conjunction_more-returns-in_err-opens-clause-reads : goal.conjunction_more-returns-in_err-opens-clause-reads
-conjunction_more-returns-in_err-opens-clause-reads t c = leave (λ p. last (Sort.PAndTail (of_pat p))) _ _ c.from_residual.ensures.1 (no_opens c.in_err-opens.ensures.reads)
+pub conjunction_more-returns-in-Err-clause-reads : goal.conjunction_more-returns-in-Err-clause-reads
+conjunction_more-returns-in-Err-clause-reads t c = turns_back (λ p. last (Sort.PAndTail (of_pat p))) _ _ c.give_up.ensures (no_opens c.in-Err.ensures.reads)
 
-pub conjunction_more-returns-in_err-right-clause-reads : goal.conjunction_more-returns-in_err-right-clause-reads
-conjunction_more-returns-in_err-right-clause-reads t c = leave (λ p. last (Sort.PAndTail (of_pat p))) _ _ c.from_residual-in_err-right.ensures.1 (runs_opens c.in_ok-opens.ensures.reads (no_under c.in_err-right.ensures.reads))
+pub conjunction_more-returns-in-Err-pattern_not-clause-reads : goal.conjunction_more-returns-in-Err-pattern_not-clause-reads
+conjunction_more-returns-in-Err-pattern_not-clause-reads t c = turns_back (λ p. last (Sort.PAndTail (of_pat p))) _ _ c.give_up-in-Err-pattern_not.ensures (runs_opens c.in-Ok.ensures.reads (no_under c.in-Err-pattern_not.ensures.reads))
 
 pub contract_form-returns-clause-reads : goal.contract_form-returns-clause-reads
 contract_form-returns-clause-reads t c = runs_opens c.in_ok-opens.ensures.reads (runs_under c.in_ok-name.ensures.reads (runs_sign c.in_ok-expect.ensures.reads (runs_under c.in_ok-left.ensures.reads (runs_sign c.in_ok-expect-2.ensures.reads (runs_sign c.in_ok-expect-3.ensures.reads (runs_under c.in_ok-body.ensures.reads (built proc_written _ _ c.contract.ensures.tree c.contract.ensures.height)))))))
@@ -304,32 +304,32 @@ group-returns-else-sees-clause-reads t c = let x0 : sees Comma (view c.args.self
 pub group-returns-then-sees-clause-reads : goal.group-returns-then-sees-clause-reads
 group-returns-then-sees-clause-reads t c = let x0 : sees Comma (view c.args.self.now.cursor.rest.now) ≡ true = sym c.sees.ensures ∙ c.if-sees.true in rw x0 c.group_tuple.ensures.reads
 
-pub group_tuple-returns-clause-reads : goal.group_tuple-returns-clause-reads
-group_tuple-returns-clause-reads t c = runs_sign c.in_ok-expect.ensures.reads (runs_under c.in_ok-row.ensures.reads (built proc_written _ _ c.tuple.ensures.tree c.tuple.ensures.height))
+pub group_tuple-returns-in-Ok-row-clause-reads : goal.group_tuple-returns-in-Ok-row-clause-reads
+group_tuple-returns-in-Ok-row-clause-reads t c = runs_sign c.in-Ok.ensures.reads (runs_under c.in-Ok-row.ensures.reads (built proc_written _ _ c.tuple.ensures.tree c.tuple.ensures.height))
 
-pub group_tuple-returns-in_err-expect-clause-reads : goal.group_tuple-returns-in_err-expect-clause-reads
-group_tuple-returns-in_err-expect-clause-reads t c = exit of_proc _ _ c.from_residual.ensures.1 (no_sign c.in_err-expect.ensures.reads)
+pub group_tuple-returns-in-Err-clause-reads : goal.group_tuple-returns-in-Err-clause-reads
+group_tuple-returns-in-Err-clause-reads t c = gives_up of_proc _ _ c.give_up.ensures (no_sign c.in-Err.ensures.reads)
 
-pub group_tuple-returns-in_err-row-clause-reads : goal.group_tuple-returns-in_err-row-clause-reads
-group_tuple-returns-in_err-row-clause-reads t c = exit of_proc _ _ c.from_residual-in_err-row.ensures.1 (runs_sign c.in_ok-expect.ensures.reads (no_under c.in_err-row.ensures.reads))
+pub group_tuple-returns-in-Err-row-clause-reads : goal.group_tuple-returns-in-Err-row-clause-reads
+group_tuple-returns-in-Err-row-clause-reads t c = gives_up of_proc _ _ c.give_up-in-Err-row.ensures (runs_sign c.in-Ok.ensures.reads (no_under c.in-Err-row.ensures.reads))
 
-pub if_else-returns-clause-reads : goal.if_else-returns-clause-reads
-if_else-returns-clause-reads t c = runs_sign c.in_ok-expect.ensures.reads (runs_under c.in_ok-no.ensures.reads (built proc_written _ _ c.choice.ensures.tree c.choice.ensures.height))
+pub if_else-returns-in-Ok-one-clause-reads : goal.if_else-returns-in-Ok-one-clause-reads
+if_else-returns-in-Ok-one-clause-reads t c = runs_sign c.in-Ok.ensures.reads (runs_under c.in-Ok-one.ensures.reads (built proc_written _ _ c.choice.ensures.tree c.choice.ensures.height))
 
-pub if_else-returns-in_err-expect-clause-reads : goal.if_else-returns-in_err-expect-clause-reads
-if_else-returns-in_err-expect-clause-reads t c = exit of_proc _ _ c.from_residual.ensures.1 (no_sign c.in_err-expect.ensures.reads)
+pub if_else-returns-in-Err-clause-reads : goal.if_else-returns-in-Err-clause-reads
+if_else-returns-in-Err-clause-reads t c = gives_up of_proc _ _ c.give_up.ensures (no_sign c.in-Err.ensures.reads)
 
-pub if_else-returns-in_err-no-clause-reads : goal.if_else-returns-in_err-no-clause-reads
-if_else-returns-in_err-no-clause-reads t c = exit of_proc _ _ c.from_residual-in_err-no.ensures.1 (runs_sign c.in_ok-expect.ensures.reads (no_under c.in_err-no.ensures.reads))
+pub if_else-returns-in-Err-one-clause-reads : goal.if_else-returns-in-Err-one-clause-reads
+if_else-returns-in-Err-one-clause-reads t c = gives_up of_proc _ _ c.give_up-in-Err-one.ensures (runs_sign c.in-Ok.ensures.reads (no_under c.in-Err-one.ensures.reads))
 
-pub if_form-returns-clause-reads : goal.if_form-returns-clause-reads
-if_form-returns-clause-reads t c = runs_opens c.in_ok-opens.ensures.reads (runs_sign c.in_ok-expect.ensures.reads (runs_under c.in_ok-condition.ensures.reads (runs_sign c.in_ok-expect-2.ensures.reads (runs_under c.in_ok-yes.ensures.reads (runs_last c.if_tail.ensures.reads)))))
+pub if_form-returns-in-Ok-two-clause-reads : goal.if_form-returns-in-Ok-two-clause-reads
+if_form-returns-in-Ok-two-clause-reads t c = runs_opens c.in_ok-opens.ensures.reads (runs_sign c.in_ok-expect.ensures.reads (runs_under c.in_ok-condition.ensures.reads (runs_sign c.in-Ok.ensures.reads (runs_under c.in-Ok-two.ensures.reads (runs_last c.if_tail.ensures.reads)))))
 
 pub if_form-returns-in_err-condition-clause-reads : goal.if_form-returns-in_err-condition-clause-reads
 if_form-returns-in_err-condition-clause-reads t c = exit of_proc _ _ c.from_residual-in_err-condition.ensures.1 (runs_opens c.in_ok-opens.ensures.reads (runs_sign c.in_ok-expect.ensures.reads (no_under c.in_err-condition.ensures.reads)))
 
-pub if_form-returns-in_err-expect-2-clause-reads : goal.if_form-returns-in_err-expect-2-clause-reads
-if_form-returns-in_err-expect-2-clause-reads t c = exit of_proc _ _ c.from_residual-in_err-expect-2.ensures.1 (runs_opens c.in_ok-opens.ensures.reads (runs_sign c.in_ok-expect.ensures.reads (runs_under c.in_ok-condition.ensures.reads (no_sign c.in_err-expect-2.ensures.reads))))
+pub if_form-returns-in-Err-clause-reads : goal.if_form-returns-in-Err-clause-reads
+if_form-returns-in-Err-clause-reads t c = gives_up of_proc _ _ c.give_up.ensures (runs_opens c.in_ok-opens.ensures.reads (runs_sign c.in_ok-expect.ensures.reads (runs_under c.in_ok-condition.ensures.reads (no_sign c.in-Err.ensures.reads))))
 
 pub if_form-returns-in_err-expect-clause-reads : goal.if_form-returns-in_err-expect-clause-reads
 if_form-returns-in_err-expect-clause-reads t c = exit of_proc _ _ c.from_residual-in_err-expect.ensures.1 (runs_opens c.in_ok-opens.ensures.reads (no_sign c.in_err-expect.ensures.reads))
@@ -337,8 +337,8 @@ if_form-returns-in_err-expect-clause-reads t c = exit of_proc _ _ c.from_residua
 pub if_form-returns-in_err-opens-clause-reads : goal.if_form-returns-in_err-opens-clause-reads
 if_form-returns-in_err-opens-clause-reads t c = exit of_proc _ _ c.from_residual.ensures.1 (no_opens c.in_err-opens.ensures.reads)
 
-pub if_form-returns-in_err-yes-clause-reads : goal.if_form-returns-in_err-yes-clause-reads
-if_form-returns-in_err-yes-clause-reads t c = exit of_proc _ _ c.from_residual-in_err-yes.ensures.1 (runs_opens c.in_ok-opens.ensures.reads (runs_sign c.in_ok-expect.ensures.reads (runs_under c.in_ok-condition.ensures.reads (runs_sign c.in_ok-expect-2.ensures.reads (no_under c.in_err-yes.ensures.reads)))))
+pub if_form-returns-in-Err-two-clause-reads : goal.if_form-returns-in-Err-two-clause-reads
+if_form-returns-in-Err-two-clause-reads t c = gives_up of_proc _ _ c.give_up-in-Err-two.ensures (runs_opens c.in_ok-opens.ensures.reads (runs_sign c.in_ok-expect.ensures.reads (runs_under c.in_ok-condition.ensures.reads (runs_sign c.in-Ok.ensures.reads (no_under c.in-Err-two.ensures.reads)))))
 
 pub if_tail-returns-else-sees-clause-reads : goal.if_tail-returns-else-sees-clause-reads
 if_tail-returns-else-sees-clause-reads t c = let x0 : sees Else (view c.args.self.now.cursor.rest.now) ≡ false = sym c.sees.ensures ∙ c.if-sees.false in rw x0 (built proc_written _ _ c.if_only.ensures.tree c.if_only.ensures.height)
@@ -388,17 +388,17 @@ level-returns-in_err-left-2-clause-reads t c = exit of_proc _ _ c.from_residual-
 pub level-returns-in_err-left-clause-reads : goal.level-returns-in_err-left-clause-reads
 level-returns-in_err-left-clause-reads t c = exit of_proc _ _ c.from_residual.ensures.1 (no_chain c.args.level (operand_as _ _ c.inner.ensures.is c.in_err-left.ensures.reads))
 
-pub match_form-returns-clause-reads : goal.match_form-returns-clause-reads
-match_form-returns-clause-reads t c = runs_opens c.in_ok-opens.ensures.reads (runs_under c.in_ok-target.ensures.reads (runs_sign c.in_ok-expect.ensures.reads (runs_last (c.in_ok-cases.ensures.reads _ _ (runs_sign c.in_ok-expect-2.ensures.reads (built proc_written _ _ c.matches.ensures.tree c.matches.ensures.height))))))
+pub match_form-returns-in-Ok-expect-clause-reads : goal.match_form-returns-in-Ok-expect-clause-reads
+match_form-returns-in-Ok-expect-clause-reads t c = runs_opens c.in_ok-opens.ensures.reads (runs_under c.in_ok-target.ensures.reads (runs_sign c.in-Ok.ensures.reads (runs_last (c.in-Ok-cases.ensures.reads _ _ (runs_sign c.in-Ok-expect.ensures.reads (built proc_written _ _ c.matches.ensures.tree c.matches.ensures.height))))))
 
-pub match_form-returns-in_err-cases-clause-reads : goal.match_form-returns-in_err-cases-clause-reads
-match_form-returns-in_err-cases-clause-reads t c = exit of_proc _ _ c.from_residual-in_err-cases.ensures.1 (runs_opens c.in_ok-opens.ensures.reads (runs_under c.in_ok-target.ensures.reads (runs_sign c.in_ok-expect.ensures.reads (runs_last (c.in_err-cases.ensures.reads _)))))
+pub match_form-returns-in-Err-cases-clause-reads : goal.match_form-returns-in-Err-cases-clause-reads
+match_form-returns-in-Err-cases-clause-reads t c = gives_up of_proc _ _ c.give_up-in-Err-cases.ensures (runs_opens c.in_ok-opens.ensures.reads (runs_under c.in_ok-target.ensures.reads (runs_sign c.in-Ok.ensures.reads (runs_last (c.in-Err-cases.ensures.reads _)))))
 
-pub match_form-returns-in_err-expect-2-clause-reads : goal.match_form-returns-in_err-expect-2-clause-reads
-match_form-returns-in_err-expect-2-clause-reads t c = exit of_proc _ _ c.from_residual-in_err-expect-2.ensures.1 (runs_opens c.in_ok-opens.ensures.reads (runs_under c.in_ok-target.ensures.reads (runs_sign c.in_ok-expect.ensures.reads (runs_last (c.in_ok-cases.ensures.reads _ _ (no_sign c.in_err-expect-2.ensures.reads))))))
+pub match_form-returns-in-Err-expect-clause-reads : goal.match_form-returns-in-Err-expect-clause-reads
+match_form-returns-in-Err-expect-clause-reads t c = gives_up of_proc _ _ c.give_up-in-Err-expect.ensures (runs_opens c.in_ok-opens.ensures.reads (runs_under c.in_ok-target.ensures.reads (runs_sign c.in-Ok.ensures.reads (runs_last (c.in-Ok-cases.ensures.reads _ _ (no_sign c.in-Err-expect.ensures.reads))))))
 
-pub match_form-returns-in_err-expect-clause-reads : goal.match_form-returns-in_err-expect-clause-reads
-match_form-returns-in_err-expect-clause-reads t c = exit of_proc _ _ c.from_residual-in_err-expect.ensures.1 (runs_opens c.in_ok-opens.ensures.reads (runs_under c.in_ok-target.ensures.reads (no_sign c.in_err-expect.ensures.reads)))
+pub match_form-returns-in-Err-clause-reads : goal.match_form-returns-in-Err-clause-reads
+match_form-returns-in-Err-clause-reads t c = gives_up of_proc _ _ c.give_up.ensures (runs_opens c.in_ok-opens.ensures.reads (runs_under c.in_ok-target.ensures.reads (no_sign c.in-Err.ensures.reads)))
 
 pub match_form-returns-in_err-opens-clause-reads : goal.match_form-returns-in_err-opens-clause-reads
 match_form-returns-in_err-opens-clause-reads t c = exit of_proc _ _ c.from_residual.ensures.1 (no_opens c.in_err-opens.ensures.reads)
@@ -421,20 +421,20 @@ meth-returns-in_err-target-2-clause-reads t c = exit of_proc _ _ c.from_residual
 pub meth-returns-in_err-target-clause-reads : goal.meth-returns-in_err-target-clause-reads
 meth-returns-in_err-target-clause-reads t c = exit of_proc _ _ c.from_residual.ensures.1 (no_at c.in_err-target.ensures.reads)
 
-pub meth_call-returns-clause-reads : goal.meth_call-returns-clause-reads
-meth_call-returns-clause-reads t c = carry (λ p. last (Sort.MethTail (of_proc p))) _ _ (λ out h. runs_opens c.in_ok-opens.ensures.reads (runs_text c.in_ok-name.ensures.reads (runs_sign c.in_ok-expect.ensures.reads (runs_under c.in_ok-args.ensures.reads (h))))) (turned _ _ (λ p. last (Sort.MethTail p)) proc_written _ _ c.method.ensures.tree c.method.ensures.height)
+pub meth_call-returns-in-Ok-row-clause-reads : goal.meth_call-returns-in-Ok-row-clause-reads
+meth_call-returns-in-Ok-row-clause-reads t c = carry (λ p. last (Sort.MethTail (of_proc p))) _ _ (λ out h. runs_opens c.in-Ok.ensures.reads (runs_text c.in-Ok-word.ensures.reads (runs_sign c.in-Ok-expect.ensures.reads (runs_under c.in-Ok-row.ensures.reads (h))))) (turned _ _ (λ p. last (Sort.MethTail p)) proc_written _ _ c.method.ensures.tree c.method.ensures.height)
 
-pub meth_call-returns-in_err-args-clause-reads : goal.meth_call-returns-in_err-args-clause-reads
-meth_call-returns-in_err-args-clause-reads t c = leave (λ p. last (Sort.MethTail (of_proc p))) _ _ c.from_residual-in_err-args.ensures.1 (runs_opens c.in_ok-opens.ensures.reads (runs_text c.in_ok-name.ensures.reads (runs_sign c.in_ok-expect.ensures.reads (no_under c.in_err-args.ensures.reads))))
+pub meth_call-returns-in-Err-row-clause-reads : goal.meth_call-returns-in-Err-row-clause-reads
+meth_call-returns-in-Err-row-clause-reads t c = turns_back (λ p. last (Sort.MethTail (of_proc p))) _ _ c.give_up-in-Err-row.ensures (runs_opens c.in-Ok.ensures.reads (runs_text c.in-Ok-word.ensures.reads (runs_sign c.in-Ok-expect.ensures.reads (no_under c.in-Err-row.ensures.reads))))
 
-pub meth_call-returns-in_err-expect-clause-reads : goal.meth_call-returns-in_err-expect-clause-reads
-meth_call-returns-in_err-expect-clause-reads t c = leave (λ p. last (Sort.MethTail (of_proc p))) _ _ c.from_residual-in_err-expect.ensures.1 (runs_opens c.in_ok-opens.ensures.reads (runs_text c.in_ok-name.ensures.reads (no_sign c.in_err-expect.ensures.reads)))
+pub meth_call-returns-in-Err-expect-clause-reads : goal.meth_call-returns-in-Err-expect-clause-reads
+meth_call-returns-in-Err-expect-clause-reads t c = turns_back (λ p. last (Sort.MethTail (of_proc p))) _ _ c.give_up-in-Err-expect.ensures (runs_opens c.in-Ok.ensures.reads (runs_text c.in-Ok-word.ensures.reads (no_sign c.in-Err-expect.ensures.reads)))
 
-pub meth_call-returns-in_err-name-clause-reads : goal.meth_call-returns-in_err-name-clause-reads
-meth_call-returns-in_err-name-clause-reads t c = leave (λ p. last (Sort.MethTail (of_proc p))) _ _ c.from_residual-in_err-name.ensures.1 (runs_opens c.in_ok-opens.ensures.reads (lacks _ c.in_err-name.ensures.reads))
+pub meth_call-returns-in-Err-word-clause-reads : goal.meth_call-returns-in-Err-word-clause-reads
+meth_call-returns-in-Err-word-clause-reads t c = turns_back (λ p. last (Sort.MethTail (of_proc p))) _ _ c.give_up-in-Err-word.ensures (runs_opens c.in-Ok.ensures.reads (lacks _ c.in-Err-word.ensures.reads))
 
-pub meth_call-returns-in_err-opens-clause-reads : goal.meth_call-returns-in_err-opens-clause-reads
-meth_call-returns-in_err-opens-clause-reads t c = leave (λ p. last (Sort.MethTail (of_proc p))) _ _ c.from_residual.ensures.1 (no_opens c.in_err-opens.ensures.reads)
+pub meth_call-returns-in-Err-clause-reads : goal.meth_call-returns-in-Err-clause-reads
+meth_call-returns-in-Err-clause-reads t c = turns_back (λ p. last (Sort.MethTail (of_proc p))) _ _ c.give_up.ensures (no_opens c.in-Err.ensures.reads)
 
 pub more_binds-returns-clause-reads : goal.more_binds-returns-clause-reads
 more_binds-returns-clause-reads t c = λ left. carry (λ b. last (Sort.BindsTail c.args.kind (separator_of c.args.separator) left (map bind_written b.value.items) b.height)) _ _ (λ out h. runs_sign c.in_ok-expect_separator.ensures.reads (h)) (carry (λ b. last (Sort.BindsTail c.args.kind (separator_of c.args.separator) left (map bind_written b.value.items) b.height)) _ _ (λ out h. runs_last h) (c.next_bind.ensures.reads _ left))
@@ -493,11 +493,11 @@ next_member-returns-in_err-expect-clause-reads t c = leave (λ p. last (Sort.Row
 pub next_member-returns-in_err-next-clause-reads : goal.next_member-returns-in_err-next-clause-reads
 next_member-returns-in_err-next-clause-reads t c = leave (λ p. last (Sort.RowTail processes (bracket_of c.args.bracket) (map proc_written p.value.items) p.height)) _ _ c.from_residual-in_err-next.ensures.1 (runs_sign c.in_ok-expect.ensures.reads (no_at c.in_err-next.ensures.reads))
 
-pub next_pair-returns-clause-reads : goal.next_pair-returns-clause-reads
-next_pair-returns-clause-reads t c = carry (λ p. last (Sort.Pairs (pairs_written p.value.items) p.height)) _ _ (λ out h. runs_sign c.in_ok-expect.ensures.reads (runs_under c.in_ok-key.ensures.reads (runs_sign c.in_ok-expect-2.ensures.reads (runs_under c.in_ok-value.ensures.reads (h))))) (pushed_by _ _ (λ ps h. last (Sort.Pairs ps h)) pairs_written _ _ _ _ _ _ (pairs_pushed _ _ _ _ c.pair.ensures.value) c.pair.ensures.height c.push.ensures.items c.push.ensures.height)
+pub next_pair-returns-in-Ok-par-clause-reads : goal.next_pair-returns-in-Ok-par-clause-reads
+next_pair-returns-in-Ok-par-clause-reads t c = carry (λ p. last (Sort.Pairs (pairs_written p.value.items) p.height)) _ _ (λ out h. runs_sign c.in_ok-expect.ensures.reads (runs_under c.in_ok-key.ensures.reads (runs_sign c.in-Ok.ensures.reads (runs_under c.in-Ok-par.ensures.reads (h))))) (pushed_by _ _ (λ ps h. last (Sort.Pairs ps h)) pairs_written _ _ _ _ _ _ (pairs_pushed _ _ _ _ c.pair.ensures.value) c.pair.ensures.height c.push.ensures.items c.push.ensures.height)
 
-pub next_pair-returns-in_err-expect-2-clause-reads : goal.next_pair-returns-in_err-expect-2-clause-reads
-next_pair-returns-in_err-expect-2-clause-reads t c = leave (λ p. last (Sort.Pairs (pairs_written p.value.items) p.height)) _ _ c.from_residual-in_err-expect-2.ensures.1 (runs_sign c.in_ok-expect.ensures.reads (runs_under c.in_ok-key.ensures.reads (no_sign c.in_err-expect-2.ensures.reads)))
+pub next_pair-returns-in-Err-clause-reads : goal.next_pair-returns-in-Err-clause-reads
+next_pair-returns-in-Err-clause-reads t c = turns_back (λ p. last (Sort.Pairs (pairs_written p.value.items) p.height)) _ _ c.give_up.ensures (runs_sign c.in_ok-expect.ensures.reads (runs_under c.in_ok-key.ensures.reads (no_sign c.in-Err.ensures.reads)))
 
 pub next_pair-returns-in_err-expect-clause-reads : goal.next_pair-returns-in_err-expect-clause-reads
 next_pair-returns-in_err-expect-clause-reads t c = leave (λ p. last (Sort.Pairs (pairs_written p.value.items) p.height)) _ _ c.from_residual.ensures.1 (no_sign c.in_err-expect.ensures.reads)
@@ -505,8 +505,8 @@ next_pair-returns-in_err-expect-clause-reads t c = leave (λ p. last (Sort.Pairs
 pub next_pair-returns-in_err-key-clause-reads : goal.next_pair-returns-in_err-key-clause-reads
 next_pair-returns-in_err-key-clause-reads t c = leave (λ p. last (Sort.Pairs (pairs_written p.value.items) p.height)) _ _ c.from_residual-in_err-key.ensures.1 (runs_sign c.in_ok-expect.ensures.reads (no_under c.in_err-key.ensures.reads))
 
-pub next_pair-returns-in_err-value-clause-reads : goal.next_pair-returns-in_err-value-clause-reads
-next_pair-returns-in_err-value-clause-reads t c = leave (λ p. last (Sort.Pairs (pairs_written p.value.items) p.height)) _ _ c.from_residual-in_err-value.ensures.1 (runs_sign c.in_ok-expect.ensures.reads (runs_under c.in_ok-key.ensures.reads (runs_sign c.in_ok-expect-2.ensures.reads (no_under c.in_err-value.ensures.reads))))
+pub next_pair-returns-in-Err-par-clause-reads : goal.next_pair-returns-in-Err-par-clause-reads
+next_pair-returns-in-Err-par-clause-reads t c = turns_back (λ p. last (Sort.Pairs (pairs_written p.value.items) p.height)) _ _ c.give_up-in-Err-par.ensures (runs_sign c.in_ok-expect.ensures.reads (runs_under c.in_ok-key.ensures.reads (runs_sign c.in-Ok.ensures.reads (no_under c.in-Err-par.ensures.reads))))
 
 pub next_part-returns-clause-reads : goal.next_part-returns-clause-reads
 next_part-returns-clause-reads t c = carry (λ p. last (Sort.ParTail processes (map proc_written p.value.items) p.height)) _ _ (λ out h. runs_sign c.in_ok-expect.ensures.reads (runs_at c.in_ok-next.ensures.reads (h))) (pushes _ _ (λ ps h. last (Sort.ParTail processes ps h)) proc_written _ _ _ _ _ c.push.ensures.items c.push.ensures.height)
@@ -532,14 +532,14 @@ one-returns-then-sees-clause-reads t c = let x0 : sees New (view c.args.self.now
 pub operand-returns-in-None-clause-reads : goal.operand-returns-in-None-clause-reads
 operand-returns-in-None-clause-reads t c = prefix_as c.args.level c.in-None.is c.pre.ensures.reads
 
-pub operation-returns-clause-reads : goal.operation-returns-clause-reads
-operation-returns-clause-reads t c = carry (λ p. last (tail_of c.args.level (of_proc p))) _ _ (λ out h. runs_opens c.in_ok-opens.ensures.reads (runs_under (operand_as _ _ c.right.ensures c.in_ok-right.ensures.reads) (h))) (turned _ _ (λ p. last (tail_of c.args.level p)) proc_written _ _ c.operation.ensures.tree c.operation.ensures.height)
+pub operation-returns-in-Ok-operand-clause-reads : goal.operation-returns-in-Ok-operand-clause-reads
+operation-returns-in-Ok-operand-clause-reads t c = carry (λ p. last (tail_of c.args.level (of_proc p))) _ _ (λ out h. runs_opens c.in-Ok.ensures.reads (runs_under (operand_as _ _ c.right.ensures c.in-Ok-operand.ensures.reads) (h))) (turned _ _ (λ p. last (tail_of c.args.level p)) proc_written _ _ c.operation.ensures.tree c.operation.ensures.height)
 
-pub operation-returns-in_err-opens-clause-reads : goal.operation-returns-in_err-opens-clause-reads
-operation-returns-in_err-opens-clause-reads t c = leave (λ p. last (tail_of c.args.level (of_proc p))) _ _ c.from_residual.ensures.1 (no_opens c.in_err-opens.ensures.reads)
+pub operation-returns-in-Err-clause-reads : goal.operation-returns-in-Err-clause-reads
+operation-returns-in-Err-clause-reads t c = turns_back (λ p. last (tail_of c.args.level (of_proc p))) _ _ c.give_up.ensures (no_opens c.in-Err.ensures.reads)
 
-pub operation-returns-in_err-right-clause-reads : goal.operation-returns-in_err-right-clause-reads
-operation-returns-in_err-right-clause-reads t c = leave (λ p. last (tail_of c.args.level (of_proc p))) _ _ c.from_residual-in_err-right.ensures.1 (runs_opens c.in_ok-opens.ensures.reads (no_under (operand_as _ _ c.right.ensures c.in_err-right.ensures.reads)))
+pub operation-returns-in-Err-operand-clause-reads : goal.operation-returns-in-Err-operand-clause-reads
+operation-returns-in-Err-operand-clause-reads t c = turns_back (λ p. last (tail_of c.args.level (of_proc p))) _ _ c.give_up-in-Err-operand.ensures (runs_opens c.in-Ok.ensures.reads (no_under (operand_as _ _ c.right.ensures c.in-Err-operand.ensures.reads)))
 
 pub pairs-loop-self-init : goal.pairs-loop-self-init
 pairs-loop-self-init t c = record { turns = λ out h. h; room = c.requires; shorter = omega arith }
@@ -604,14 +604,14 @@ pattern_brace_some-returns-clause-reads t c = runs_under c.in_ok-first.ensures.r
 pub pattern_brace_some-returns-in_err-first-clause-reads : goal.pattern_brace_some-returns-in_err-first-clause-reads
 pattern_brace_some-returns-in_err-first-clause-reads t c = exit of_pat _ _ c.from_residual.ensures.1 (no_under c.in_err-first.ensures.reads)
 
-pub pattern_bundle_of-returns-clause-reads : goal.pattern_bundle_of-returns-clause-reads
-pattern_bundle_of-returns-clause-reads t c = runs_opens c.in_ok-opens_bundle.ensures.reads (runs_sign c.in_ok-expect.ensures.reads (runs_under c.in_ok-body.ensures.reads (runs_sign c.in_ok-expect-2.ensures.reads (built pat_written _ _ c.bundle_pat.ensures.tree c.bundle_pat.ensures.height))))
+pub pattern_bundle_of-returns-in-Ok-clause-reads : goal.pattern_bundle_of-returns-in-Ok-clause-reads
+pattern_bundle_of-returns-in-Ok-clause-reads t c = runs_opens c.in_ok-opens_bundle.ensures.reads (runs_sign c.in_ok-expect.ensures.reads (runs_under c.in_ok-body.ensures.reads (runs_sign c.in-Ok.ensures.reads (built pat_written _ _ c.bundle_pat.ensures.tree c.bundle_pat.ensures.height))))
 
 pub pattern_bundle_of-returns-in_err-body-clause-reads : goal.pattern_bundle_of-returns-in_err-body-clause-reads
 pattern_bundle_of-returns-in_err-body-clause-reads t c = exit of_pat _ _ c.from_residual-in_err-body.ensures.1 (runs_opens c.in_ok-opens_bundle.ensures.reads (runs_sign c.in_ok-expect.ensures.reads (no_under c.in_err-body.ensures.reads)))
 
-pub pattern_bundle_of-returns-in_err-expect-2-clause-reads : goal.pattern_bundle_of-returns-in_err-expect-2-clause-reads
-pattern_bundle_of-returns-in_err-expect-2-clause-reads t c = exit of_pat _ _ c.from_residual-in_err-expect-2.ensures.1 (runs_opens c.in_ok-opens_bundle.ensures.reads (runs_sign c.in_ok-expect.ensures.reads (runs_under c.in_ok-body.ensures.reads (no_sign c.in_err-expect-2.ensures.reads))))
+pub pattern_bundle_of-returns-in-Err-clause-reads : goal.pattern_bundle_of-returns-in-Err-clause-reads
+pattern_bundle_of-returns-in-Err-clause-reads t c = gives_up of_pat _ _ c.give_up.ensures (runs_opens c.in_ok-opens_bundle.ensures.reads (runs_sign c.in_ok-expect.ensures.reads (runs_under c.in_ok-body.ensures.reads (no_sign c.in-Err.ensures.reads))))
 
 pub pattern_bundle_of-returns-in_err-expect-clause-reads : goal.pattern_bundle_of-returns-in_err-expect-clause-reads
 pattern_bundle_of-returns-in_err-expect-clause-reads t c = exit of_pat _ _ c.from_residual-in_err-expect.ensures.1 (runs_opens c.in_ok-opens_bundle.ensures.reads (no_sign c.in_err-expect.ensures.reads))
@@ -710,7 +710,7 @@ pub pattern_open-returns-in_err-opens-clause-reads : goal.pattern_open-returns-i
 pattern_open-returns-in_err-opens-clause-reads t c = exit of_pat _ _ c.from_residual.ensures.1 (no_opens c.in_err-opens.ensures.reads)
 
 pub pattern_pairs-loop-self-init : goal.pattern_pairs-loop-self-init
-pattern_pairs-loop-self-init t c = record { turns = λ out h. runs_sign c.in_ok-expect.ensures.reads (runs_under c.in_ok-value.ensures.reads (first_pat_pair _ _ _ _ c.pair-pair.ensures.value c.pair-pair.ensures.height c.in_ok-pairs.ensures.items c.in_ok-pairs.ensures.height h)); room = omega (arith, c.in_ok-value.ensures.room, c.in_ok-pairs.ensures.height, c.pair-pair.ensures.height); shorter = omega (arith, c.in_ok-expect.ensures.shorter, c.in_ok-value.ensures.shorter) }
+pattern_pairs-loop-self-init t c = record { turns = λ out h. runs_sign c.in-Ok.ensures.reads (runs_under c.in-Ok-pattern_par.ensures.reads (first_pat_pair _ _ _ _ c.pair-pair.ensures.value c.pair-pair.ensures.height c.in_ok-pairs.ensures.items c.in_ok-pairs.ensures.height h)); room = omega (arith, c.in-Ok-pattern_par.ensures.room, c.in_ok-pairs.ensures.height, c.pair-pair.ensures.height); shorter = omega (arith, c.in-Ok.ensures.shorter, c.in-Ok-pattern_par.ensures.shorter) }
 
 pub pattern_pairs-loop-self-preserved : goal.pattern_pairs-loop-self-preserved
 pattern_pairs-loop-self-preserved t c = record { turns = λ out h. c.loop-self.invariant.turns _ (runs_last (c.in_ok-pairs-2.ensures.reads out h)); room = c.in_ok-pairs-2.ensures.room; shorter = omega (arith, c.in_ok-pairs-2.ensures.shorter) }
@@ -718,23 +718,23 @@ pattern_pairs-loop-self-preserved t c = record { turns = λ out h. c.loop-self.i
 pub pattern_pairs-returns-clause-reads : goal.pattern_pairs-returns-clause-reads
 pattern_pairs-returns-clause-reads t c = c.loop-self.invariant.turns _ (runs_last (c.pairs_end.ensures.reads _))
 
-pub pattern_pairs-returns-in_err-expect-clause-reads : goal.pattern_pairs-returns-in_err-expect-clause-reads
-pattern_pairs-returns-in_err-expect-clause-reads t c = exit of_pat _ _ c.from_residual.ensures.1 (no_sign c.in_err-expect.ensures.reads)
+pub pattern_pairs-returns-in-Err-clause-reads : goal.pattern_pairs-returns-in-Err-clause-reads
+pattern_pairs-returns-in-Err-clause-reads t c = gives_up of_pat _ _ c.give_up.ensures (no_sign c.in-Err.ensures.reads)
 
 pub pattern_pairs-returns-in_err-pairs-2-clause-reads : goal.pattern_pairs-returns-in_err-pairs-2-clause-reads
 pattern_pairs-returns-in_err-pairs-2-clause-reads t c = exit of_pat _ _ c.from_residual-in_err-pairs-2.ensures.1 (c.loop-self.invariant.turns _ (runs_last c.in_err-pairs-2.ensures.reads))
 
 pub pattern_pairs-returns-in_err-pairs-clause-reads : goal.pattern_pairs-returns-in_err-pairs-clause-reads
-pattern_pairs-returns-in_err-pairs-clause-reads t c = short _ _ _ _ of_pat _ _ c.from_residual-in_err-pairs.ensures.1 c.in_err-pairs.ensures.items
+pattern_pairs-returns-in_err-pairs-clause-reads t c = short _ _ _ _ of_pat _ _ c.from_residual.ensures.1 c.in_err-pairs.ensures.items
 
-pub pattern_pairs-returns-in_err-value-clause-reads : goal.pattern_pairs-returns-in_err-value-clause-reads
-pattern_pairs-returns-in_err-value-clause-reads t c = exit of_pat _ _ c.from_residual-in_err-value.ensures.1 (runs_sign c.in_ok-expect.ensures.reads (no_under c.in_err-value.ensures.reads))
+pub pattern_pairs-returns-in-Err-pattern_par-clause-reads : goal.pattern_pairs-returns-in-Err-pattern_par-clause-reads
+pattern_pairs-returns-in-Err-pattern_par-clause-reads t c = gives_up of_pat _ _ c.give_up-in-Err-pattern_par.ensures (runs_sign c.in-Ok.ensures.reads (no_under c.in-Err-pattern_par.ensures.reads))
 
 pub pattern_pairs_more-returns-clause-reads : goal.pattern_pairs_more-returns-clause-reads
-pattern_pairs_more-returns-clause-reads t c = carry (λ p. last (Sort.PPairs (pat_pairs_written p.value.items) p.height)) _ _ (λ out h. pairs_on _ _ _ _ c.requires.member c.in_ok-expect.ensures.reads (runs_under c.in_ok-key.ensures.reads (runs_sign c.in_ok-expect-2.ensures.reads (runs_under c.in_ok-value.ensures.reads (h))))) (pushed_by _ _ (λ ps h. last (Sort.PPairs ps h)) pat_pairs_written _ _ _ _ _ _ (pat_pairs_pushed _ _ _ _ c.pair-pair.ensures.value) c.pair-pair.ensures.height c.push.ensures.items c.push.ensures.height)
+pattern_pairs_more-returns-clause-reads t c = carry (λ p. last (Sort.PPairs (pat_pairs_written p.value.items) p.height)) _ _ (λ out h. pairs_on _ _ _ _ c.requires.member c.in_ok-expect.ensures.reads (runs_under c.in_ok-key.ensures.reads (runs_sign c.in-Ok.ensures.reads (runs_under c.in-Ok-pattern_par.ensures.reads (h))))) (pushed_by _ _ (λ ps h. last (Sort.PPairs ps h)) pat_pairs_written _ _ _ _ _ _ (pat_pairs_pushed _ _ _ _ c.pair-pair.ensures.value) c.pair-pair.ensures.height c.push.ensures.items c.push.ensures.height)
 
-pub pattern_pairs_more-returns-in_err-expect-2-clause-reads : goal.pattern_pairs_more-returns-in_err-expect-2-clause-reads
-pattern_pairs_more-returns-in_err-expect-2-clause-reads t c = leave (λ p. last (Sort.PPairs (pat_pairs_written p.value.items) p.height)) _ _ c.from_residual-in_err-expect-2.ensures.1 (pairs_on _ _ _ _ c.requires.member c.in_ok-expect.ensures.reads (runs_under c.in_ok-key.ensures.reads (no_sign c.in_err-expect-2.ensures.reads)))
+pub pattern_pairs_more-returns-in-Err-clause-reads : goal.pattern_pairs_more-returns-in-Err-clause-reads
+pattern_pairs_more-returns-in-Err-clause-reads t c = turns_back (λ p. last (Sort.PPairs (pat_pairs_written p.value.items) p.height)) _ _ c.give_up.ensures (pairs_on _ _ _ _ c.requires.member c.in_ok-expect.ensures.reads (runs_under c.in_ok-key.ensures.reads (no_sign c.in-Err.ensures.reads)))
 
 pub pattern_pairs_more-returns-in_err-expect-clause-reads : goal.pattern_pairs_more-returns-in_err-expect-clause-reads
 pattern_pairs_more-returns-in_err-expect-clause-reads t c = leave (λ p. last (Sort.PPairs (pat_pairs_written p.value.items) p.height)) _ _ c.from_residual.ensures.1 (no_comma c.requires.member c.in_err-expect.ensures.reads)
@@ -742,8 +742,8 @@ pattern_pairs_more-returns-in_err-expect-clause-reads t c = leave (λ p. last (S
 pub pattern_pairs_more-returns-in_err-key-clause-reads : goal.pattern_pairs_more-returns-in_err-key-clause-reads
 pattern_pairs_more-returns-in_err-key-clause-reads t c = leave (λ p. last (Sort.PPairs (pat_pairs_written p.value.items) p.height)) _ _ c.from_residual-in_err-key.ensures.1 (pairs_on _ _ _ _ c.requires.member c.in_ok-expect.ensures.reads (no_under c.in_err-key.ensures.reads))
 
-pub pattern_pairs_more-returns-in_err-value-clause-reads : goal.pattern_pairs_more-returns-in_err-value-clause-reads
-pattern_pairs_more-returns-in_err-value-clause-reads t c = leave (λ p. last (Sort.PPairs (pat_pairs_written p.value.items) p.height)) _ _ c.from_residual-in_err-value.ensures.1 (pairs_on _ _ _ _ c.requires.member c.in_ok-expect.ensures.reads (runs_under c.in_ok-key.ensures.reads (runs_sign c.in_ok-expect-2.ensures.reads (no_under c.in_err-value.ensures.reads))))
+pub pattern_pairs_more-returns-in-Err-pattern_par-clause-reads : goal.pattern_pairs_more-returns-in-Err-pattern_par-clause-reads
+pattern_pairs_more-returns-in-Err-pattern_par-clause-reads t c = turns_back (λ p. last (Sort.PPairs (pat_pairs_written p.value.items) p.height)) _ _ c.give_up-in-Err-pattern_par.ensures (pairs_on _ _ _ _ c.requires.member c.in_ok-expect.ensures.reads (runs_under c.in_ok-key.ensures.reads (runs_sign c.in-Ok.ensures.reads (no_under c.in-Err-pattern_par.ensures.reads))))
 
 pub pattern_par-loop-self-init : goal.pattern_par-loop-self-init
 pattern_par-loop-self-init t c = record { turns = λ out h. runs_at c.in_ok-first.ensures.reads (rows (λ ps h. last (Sort.ParTail patterns ps h)) _ _ _ _ (ap (map pat_written) c.in_ok-parts.ensures.items) c.in_ok-parts.ensures.height h); room = omega (arith, c.in_ok-first.ensures.room, c.in_ok-parts.ensures.height); shorter = c.in_ok-first.ensures.shorter }
@@ -862,14 +862,14 @@ pattern_tilde-returns-in_err-arg-clause-reads t c = exit of_pat _ _ c.from_resid
 pub pattern_tilde-returns-in_err-opens-clause-reads : goal.pattern_tilde-returns-in_err-opens-clause-reads
 pattern_tilde-returns-in_err-opens-clause-reads t c = exit of_pat _ _ c.from_residual.ensures.1 (no_opens c.in_err-opens.ensures.reads)
 
-pub pattern_tuple-returns-clause-reads : goal.pattern_tuple-returns-clause-reads
-pattern_tuple-returns-clause-reads t c = runs_sign c.in_ok-expect.ensures.reads (runs_under c.in_ok-row.ensures.reads (built pat_written _ _ c.tuple_pat.ensures.tree c.tuple_pat.ensures.height))
+pub pattern_tuple-returns-in-Ok-pattern_row-clause-reads : goal.pattern_tuple-returns-in-Ok-pattern_row-clause-reads
+pattern_tuple-returns-in-Ok-pattern_row-clause-reads t c = runs_sign c.in-Ok.ensures.reads (runs_under c.in-Ok-pattern_row.ensures.reads (built pat_written _ _ c.tuple_pat.ensures.tree c.tuple_pat.ensures.height))
 
-pub pattern_tuple-returns-in_err-expect-clause-reads : goal.pattern_tuple-returns-in_err-expect-clause-reads
-pattern_tuple-returns-in_err-expect-clause-reads t c = exit of_pat _ _ c.from_residual.ensures.1 (no_sign c.in_err-expect.ensures.reads)
+pub pattern_tuple-returns-in-Err-clause-reads : goal.pattern_tuple-returns-in-Err-clause-reads
+pattern_tuple-returns-in-Err-clause-reads t c = gives_up of_pat _ _ c.give_up.ensures (no_sign c.in-Err.ensures.reads)
 
-pub pattern_tuple-returns-in_err-row-clause-reads : goal.pattern_tuple-returns-in_err-row-clause-reads
-pattern_tuple-returns-in_err-row-clause-reads t c = exit of_pat _ _ c.from_residual-in_err-row.ensures.1 (runs_sign c.in_ok-expect.ensures.reads (no_under c.in_err-row.ensures.reads))
+pub pattern_tuple-returns-in-Err-pattern_row-clause-reads : goal.pattern_tuple-returns-in-Err-pattern_row-clause-reads
+pattern_tuple-returns-in-Err-pattern_row-clause-reads t c = gives_up of_pat _ _ c.give_up-in-Err-pattern_row.ensures (runs_sign c.in-Ok.ensures.reads (no_under c.in-Err-pattern_row.ensures.reads))
 
 pub pattern_word-returns-clause-reads : goal.pattern_word-returns-clause-reads
 pattern_word-returns-clause-reads t c = runs_text c.in_ok-name.ensures.reads (tails (λ n. last (Sort.Sent patterns n)) _ _ c.bound_channel-channel.ensures.tree c.bound_channel-channel.ensures.height (runs_last c.pattern_sent.ensures.reads))
@@ -934,14 +934,14 @@ row_some-returns-in_err-members-2-clause-reads t c = exit of_row _ _ c.from_resi
 pub row_some-returns-in_err-members-clause-reads : goal.row_some-returns-in_err-members-clause-reads
 row_some-returns-in_err-members-clause-reads t c = exit of_row _ _ c.from_residual-in_err-members.ensures.1 (forgets _ c.in_err-members.ensures.items)
 
-pub same_block-returns-clause-reads : goal.same_block-returns-clause-reads
-same_block-returns-clause-reads t c = runs_sign c.in_ok-expect.ensures.reads (runs_under c.in_ok-body.ensures.reads (runs_sign c.in_ok-expect-2.ensures.reads (built pat_written _ _ c.same.ensures.tree c.same.ensures.height)))
+pub same_block-returns-in-Ok-clause-reads : goal.same_block-returns-in-Ok-clause-reads
+same_block-returns-in-Ok-clause-reads t c = runs_sign c.in_ok-expect.ensures.reads (runs_under c.in_ok-body.ensures.reads (runs_sign c.in-Ok.ensures.reads (built pat_written _ _ c.same.ensures.tree c.same.ensures.height)))
 
 pub same_block-returns-in_err-body-clause-reads : goal.same_block-returns-in_err-body-clause-reads
 same_block-returns-in_err-body-clause-reads t c = exit of_pat _ _ c.from_residual-in_err-body.ensures.1 (runs_sign c.in_ok-expect.ensures.reads (no_under c.in_err-body.ensures.reads))
 
-pub same_block-returns-in_err-expect-2-clause-reads : goal.same_block-returns-in_err-expect-2-clause-reads
-same_block-returns-in_err-expect-2-clause-reads t c = exit of_pat _ _ c.from_residual-in_err-expect-2.ensures.1 (runs_sign c.in_ok-expect.ensures.reads (runs_under c.in_ok-body.ensures.reads (no_sign c.in_err-expect-2.ensures.reads)))
+pub same_block-returns-in-Err-clause-reads : goal.same_block-returns-in-Err-clause-reads
+same_block-returns-in-Err-clause-reads t c = gives_up of_pat _ _ c.give_up.ensures (runs_sign c.in_ok-expect.ensures.reads (runs_under c.in_ok-body.ensures.reads (no_sign c.in-Err.ensures.reads)))
 
 pub same_block-returns-in_err-expect-clause-reads : goal.same_block-returns-in_err-expect-clause-reads
 same_block-returns-in_err-expect-clause-reads t c = exit of_pat _ _ c.from_residual.ensures.1 (no_sign c.in_err-expect.ensures.reads)

@@ -3,7 +3,7 @@ use Rattle.grammar.specs.Rules.{Sort, last}
 use Rattle.grammar.specs.Terminals.{sees}
 use Rattle.std.specs.Prelude.{option_map, string_bytes}
 use Rattle.token_cursor.specs.Meaning.{view}
-use Rattle.std.proofs.Common.{◌≡◌, ◌+◌, sym, ◌∙◌, [], ◌∷◌, ◌++◌, true, false}
+use Rattle.std.proofs.Common.{◌≡◌, sym, ◌∙◌, [], ◌∷◌, ◌++◌, true}
 use Rattle.grammar.specs.Descent.{runs_sign, no_sign, runs_text}
 use Rattle.token_cursor.proofs.Steps.{lacks, leave}
 use Rattle.token_cursor.proofs.cursor.Cursor.declared_uri.Goals as goal

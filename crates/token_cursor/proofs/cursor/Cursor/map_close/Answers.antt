@@ -1,4 +1,3 @@
-use Rattle.std.proofs.Common.{map}
 use Rattle.grammar.specs.Descent.{runs_sign, no_sign}
 use Rattle.token_cursor.specs.Reading.{of_proc}
 use Rattle.token_cursor.proofs.Steps.{ends, exit}

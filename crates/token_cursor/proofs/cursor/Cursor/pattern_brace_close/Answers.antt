@@ -1,10 +1,10 @@
 use Rattle.grammar.specs.Descent.{runs_sign, no_sign}
 use Rattle.token_cursor.specs.Reading.{of_pat}
-use Rattle.token_cursor.proofs.Steps.{ends, exit}
+use Rattle.token_cursor.proofs.Steps.{ends, gives_up}
 use Rattle.token_cursor.proofs.cursor.Cursor.pattern_brace_close.Goals as goal
 
-pub returns-in_err-expect-clause-reads : goal.returns-in_err-expect-clause-reads
-returns-in_err-expect-clause-reads c = λ free. exit of_pat _ _ c.from_residual.ensures.1 (no_sign c.in_err-expect.ensures.reads)
+pub returns-in-Err-clause-reads : goal.returns-in-Err-clause-reads
+returns-in-Err-clause-reads c = λ free. gives_up of_pat _ _ c.give_up.ensures (no_sign c.in-Err.ensures.reads)
 
-pub returns-clause-reads : goal.returns-clause-reads
-returns-clause-reads c = λ free. runs_sign c.in_ok-expect.ensures.reads (ends _ _ c.opened_pat.ensures.tree c.opened_pat.ensures.height)
+pub returns-in-Ok-clause-reads : goal.returns-in-Ok-clause-reads
+returns-in-Ok-clause-reads c = λ free. runs_sign c.in-Ok.ensures.reads (ends _ _ c.opened_pat.ensures.tree c.opened_pat.ensures.height)

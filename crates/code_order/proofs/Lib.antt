@@ -1,0 +1,4 @@
+pub mod Keys
+pub mod Unique
+pub mod Made
+pub mod Seen

@@ -1,0 +1,10 @@
+//! Parts, members and pairs in the order of their codes, and normal terms of parts in any order.
+#![tactic(auto)]
+
+mod compared;
+pub mod make;
+pub mod order;
+mod suited;
+
+pub use make::{make_par, with_order};
+pub use order::{in_order, sorted_pairs, sorted_parts, sorted_terms};

@@ -1,0 +1,11 @@
+pub mod Tallies
+pub mod Exchanging
+pub mod Putting
+pub mod Sizing
+pub mod Likeness
+pub mod Rowing
+pub mod Pairing
+pub mod Cases
+pub mod Likely
+pub mod Capping
+pub mod ExamplesWork

@@ -1,0 +1,153 @@
+-- The digests of whatever events lead to are fresh, or texts collide.
+use Rattle.std.proofs.Common.{◌≢◌, ◌≡◌, ◌≤◌, ℕ, true, List, [], ◌∷◌, ◌++◌, map as each, refl, sym, ap, ◌∙◌, subst, arith, inl, inr, append_assoc, length-append}
+use Rattle.std.specs.Prelude.{◌⊎◌, Option, Some, None}
+use Rattle.calculus.specs.Tree.{Tree}
+use Rattle.calculus.specs.Outcome.{Prices}
+use Rattle.calculus.specs.Log.{Step}
+use Rattle.calculus.specs.Rows.{Row}
+use Rattle.calculus.specs.Root.{root}
+use Rattle.calculus.specs.Seeds.{Start, message, digest_of}
+use Rattle.calculus.specs.Unfolding.{digest}
+use Rattle.calculus.specs.Steps.{is_one_of, differ, meeting}
+use Rattle.calculus.specs.Runs.{Work, work_things, State, step_from, first_state, done, verdict, IsRun, made_digests}
+use Rattle.events.specs.Events.{Core, started, Events, no_event, one_more, AreFresh, digests, built_in_digests, FreshDigests}
+use Rattle.events.specs.Laws.{Begins, Follows}
+use Rattle.events.proofs.Counts.{ids, times, one_of-times, times-one_of, times-append}
+use Rattle.events.proofs.Following.{Kept}
+use Rattle.events.proofs.Ending.{ended_events_are_a_run}
+use Rattle.events.proofs.Keeping.{events_are_legal, kept-started, kept-put, kept-step}
+use Rattle.events.proofs.Fresh.{fresh_digests_are_fresh}
+use Rattle.fresh_digests.specs.HashedTexts.{source_texts, body_texts, steps_texts, built_in_texts, hashed_texts}
+use Rattle.fresh_digests.specs.Premises.{FitsInTexts, Shares, Collides}
+use Rattle.fresh_digests.specs.Laws.{EventsAreFresh, EventsAreFreshOrShowAnId, EventsAreARunOrCollide, EventsAreARunOrShowAnId}
+use Rattle.fresh_digests.proofs.Told.{digests-more}
+use Rattle.fresh_digests.proofs.Concluding.{legal_lists_are_fresh_or_show_an_id, legal_lists_are_fresh}
+
+-- what is among these is among more
+among-more : (x : List ℕ) (ys zs : List (List ℕ)) → times x ys ≤ times x zs → is_one_of x ys ≡ true → is_one_of x zs ≡ true
+among-more x ys zs h e = times-one_of x zs (omega (arith, h, one_of-times x ys e))
+
+-- more steps hash more
+more-texts : (p : Prices) (cap room : ℕ) (x : List ℕ) (o : Option State) (ss us : List Step) → times x (steps_texts p cap room o ss) ≤ times x (steps_texts p cap room o (ss ++ us))
+more-texts p cap room x None [] us = omega arith
+more-texts p cap room x (Some a) [] us = omega arith
+more-texts p cap room x None (s ∷ ss) us = omega arith
+more-texts p cap room x (Some a) (s ∷ ss) us =
+    let own : List (List ℕ) = body_texts p cap room s (meeting a.bag a.made s) in
+    let next : Option State = step_from p cap room a s in
+    omega (arith, more-texts p cap room x next ss us, times-append x own (steps_texts p cap room next ss), times-append x own (steps_texts p cap room next (ss ++ us)))
+
+more-hashed : (p : Prices) (cap room : ℕ) (rows : List Row) (t : Tree) (source : List ℕ) (ss us : List Step) (x : List ℕ) → times x (hashed_texts p cap room rows t source ss) ≤ times x (hashed_texts p cap room rows t source (ss ++ us))
+more-hashed p cap room rows t source ss us x =
+    let start : Option State = first_state p cap room rows t source in
+    let own : List (List ℕ) = source_texts p cap room t (digest_of (Start (root rows) source)) in
+    let seed : List ℕ = message (Start (root rows) source) in
+    omega (
+      arith,
+      times-append x built_in_texts (seed ∷ (own ++ steps_texts p cap room start ss)),
+      times-append x built_in_texts (seed ∷ (own ++ steps_texts p cap room start (ss ++ us))),
+      times-append x own (steps_texts p cap room start ss),
+      times-append x own (steps_texts p cap room start (ss ++ us)),
+      more-texts p cap room x start ss us,
+    )
+
+more-collides : (p : Prices) (cap : ℕ) (rows : List Row) (t : Tree) (source : List ℕ) (ss us all : List Step) → all ≡ ss ++ us → Collides p cap rows t source ss → Collides p cap rows t source all
+more-collides p cap rows t source ss us all e c = subst (Collides p cap rows t source) (sym e) (
+  c.0,
+  record {
+    one = c.1.one;
+    other = c.1.other;
+    one_among = there c.1.one c.1.one_among;
+    other_among = there c.1.other c.1.other_among;
+    one_bytes = c.1.one_bytes;
+    other_bytes = c.1.other_bytes;
+    differ = c.1.differ;
+    same_digest = c.1.same_digest;
+  },
+)
+  where
+    there : (x : List ℕ) → is_one_of x (hashed_texts p cap c.0 rows t source ss) ≡ true → is_one_of x (hashed_texts p cap c.0 rows t source (ss ++ us)) ≡ true
+    there x h = among-more x (hashed_texts p cap c.0 rows t source ss) (hashed_texts p cap c.0 rows t source (ss ++ us)) (more-hashed p cap c.0 rows t source ss us x) h
+
+-- fewer steps fit too
+fewer-fit : (rows : List Row) (t : Tree) (source : List ℕ) (ss : List Step) (s : Step) → FitsInTexts rows t source (ss ++ s ∷ []) → FitsInTexts rows t source ss
+fewer-fit rows t source ss s h = record { numberable = h.numberable; steps_fit = omega (arith, h.steps_fit, length-append ss (s ∷ [])); ids_fit = h.ids_fit; source_fits = h.source_fits }
+
+-- a checkpoint's id is built in or made, or texts collide
+abbrev Fails : Prices → ℕ → List Row → Tree → List ℕ → List Step → List Work → Type 0
+Fails p cap rows t source ss ws = Shares (ids rows) (built_in_digests ++ digests ws) ⊎ Collides p cap rows t source ss
+
+longer : (vs ws : List Work) (w : Work) → ws ≡ vs ++ w ∷ [] → built_in_digests ++ digests ws ≡ (built_in_digests ++ digests vs) ++ each digest (work_things w)
+longer vs ws w e = ap (λ z. built_in_digests ++ digests z) e ∙ ap (λ l. built_in_digests ++ l) (digests-more vs w) ∙ sym (append_assoc built_in_digests (digests vs) (each digest (work_things w)))
+
+more-shares : (rows : List Row) (vs ws : List Work) (w : Work) → ws ≡ vs ++ w ∷ [] → Shares (ids rows) (built_in_digests ++ digests vs) → Shares (ids rows) (built_in_digests ++ digests ws)
+more-shares rows vs ws w e s = record {
+  digest = s.digest;
+  among = s.among;
+  too = among-more s.digest (built_in_digests ++ digests vs) (built_in_digests ++ digests ws) (omega (arith, ap (times s.digest) (longer vs ws w e), times-append s.digest (built_in_digests ++ digests vs) (each digest (work_things w)))) s.too;
+}
+
+module _ (p : Prices) (cap : ℕ) (rows : List Row) (t : Tree) (source : List ℕ) (differs : differ (ids rows) ≡ true) where
+  -- what events keep, and that its digests are fresh
+  pub record Fresh (c : Core) : Type 0 where
+    pub kept : Kept p cap rows t source c
+    pub fresh : AreFresh p cap rows t source c.made
+
+  -- of a core whose steps are legal
+  checked : (c : Core) → FitsInTexts rows t source c.made → Kept p cap rows t source c → Fresh c ⊎ Fails p cap rows t source c.made c.works
+  checked c h k = go (legal_lists_are_fresh_or_show_an_id p cap rows t source c.made h differs (k.state, k.leads))
+    where
+      go : AreFresh p cap rows t source c.made ⊎ (Shares (ids rows) (built_in_digests ++ made_digests k.state) ⊎ Collides p cap rows t source c.made) → Fresh c ⊎ Fails p cap rows t source c.made c.works
+      go (inl f) = inl (record { kept = k; fresh = f })
+      go (inr (inl s)) = inr (inl (subst (λ ws. Shares (ids rows) (built_in_digests ++ digests ws)) k.works s))
+      go (inr (inr x)) = inr (inr x)
+
+  pub all-fresh : (w : Work) (c : Core) → Begins p cap rows t source w → Events p cap (started rows w) c → FitsInTexts rows t source c.made → Fresh c ⊎ Fails p cap rows t source c.made c.works
+  all-fresh w c b no_event h = checked (started rows w) h (kept-started p cap rows t source w b)
+  all-fresh w e b (one_more {d} es (inl put)) h = go (all-fresh w d b es (subst (FitsInTexts rows t source) (ap (λ x. x.made) put.is) h))
+    where
+      go : Fresh d ⊎ Fails p cap rows t source d.made d.works → Fresh e ⊎ Fails p cap rows t source e.made e.works
+      go (inl f) = inl (record { kept = kept-put p cap rows t source d e f.fresh f.kept put; fresh = subst (AreFresh p cap rows t source) (sym (ap (λ x. x.made) put.is)) f.fresh })
+      go (inr x) = inr (subst (λ (z : Core). Fails p cap rows t source z.made z.works) (sym put.is) x)
+  all-fresh w e b (one_more {d} es (inr step)) h = go (all-fresh w d b es (fewer-fit rows t source d.made step.step (subst (FitsInTexts rows t source) (ap (λ x. x.made) step.is) h)))
+    where
+      go : Fresh d ⊎ Fails p cap rows t source d.made d.works → Fresh e ⊎ Fails p cap rows t source e.made e.works
+      go (inl f) = checked e h (kept-step p cap rows t source d e f.fresh f.kept step)
+      go (inr (inl s)) = inr (inl (more-shares rows d.works e.works step.work (ap (λ x. x.works) step.is) s))
+      go (inr (inr x)) = inr (inr (more-collides p cap rows t source d.made (step.step ∷ []) e.made (ap (λ x. x.made) step.is) x))
+
+pub events_are_fresh_or_show_an_id : EventsAreFreshOrShowAnId
+events_are_fresh_or_show_an_id p cap rows t source w c b es h d = go (all-fresh p cap rows t source d w c b es h)
+  where
+    go : Fresh p cap rows t source d c ⊎ Fails p cap rows t source c.made c.works → AreFresh p cap rows t source c.made ⊎ Fails p cap rows t source c.made c.works
+    go (inl f) = inl f.fresh
+    go (inr x) = inr x
+
+pub events_are_fresh : EventsAreFresh
+events_are_fresh p cap t source w c b es h = go (all-fresh p cap [] t source refl w c b es h)
+  where
+    go : Fresh p cap [] t source refl c ⊎ Fails p cap [] t source c.made c.works → FreshDigests p cap t source c.made ⊎ Collides p cap [] t source c.made
+    go (inl f) = legal_lists_are_fresh p cap t source c.made h (f.kept.state, f.kept.leads)
+    go (inr (inl s)) = cc s.among
+    go (inr (inr x)) = inr x
+
+-- what a core with fresh digests comes to
+abbrev RunsFrom : Prices → ℕ → List Row → Tree → List ℕ → Core → Type 0
+RunsFrom p cap rows t source c = (f : Follows p cap rows t source c) × ((c.pending ≡ []) ⊎ (verdict p cap f.state ≢ done) → IsRun p cap rows t source c.made f.state)
+
+fresh-runs : (p : Prices) (cap : ℕ) (rows : List Row) (t : Tree) (source : List ℕ) (w : Work) (c : Core) → Begins p cap rows t source w → Events p cap (started rows w) c → AreFresh p cap rows t source c.made → RunsFrom p cap rows t source c
+fresh-runs p cap rows t source w c b es k = let f = events_are_legal p cap rows t source w c b es k in (f, λ ends. ended_events_are_a_run p cap rows t source w c b es k f ends)
+
+pub events_are_a_run_or_collide : EventsAreARunOrCollide
+events_are_a_run_or_collide p cap t source w c b es h = go (events_are_fresh p cap t source w c b es h)
+  where
+    go : FreshDigests p cap t source c.made ⊎ Collides p cap [] t source c.made → RunsFrom p cap [] t source c ⊎ Collides p cap [] t source c.made
+    go (inl k) = inl (fresh-runs p cap [] t source w c b es (fresh_digests_are_fresh p cap t source c.made k))
+    go (inr x) = inr x
+
+pub events_are_a_run_or_show_an_id : EventsAreARunOrShowAnId
+events_are_a_run_or_show_an_id p cap rows t source w c b es h d = go (events_are_fresh_or_show_an_id p cap rows t source w c b es h d)
+  where
+    go : AreFresh p cap rows t source c.made ⊎ Fails p cap rows t source c.made c.works → RunsFrom p cap rows t source c ⊎ Fails p cap rows t source c.made c.works
+    go (inl k) = inl (fresh-runs p cap rows t source w c b es k)
+    go (inr x) = inr x

@@ -1,0 +1,17 @@
+pub mod Linear
+pub mod Same
+pub mod Valued
+pub mod Working
+pub mod Sizes
+pub mod Sending
+pub mod Receiving
+pub mod Stopping
+pub mod Capping
+pub mod Taking
+pub mod Tested
+pub mod Putting
+pub mod Names
+pub mod Parts
+pub mod Shapes
+pub mod Whole
+pub mod Kept

@@ -1,7 +1,0 @@
-use Rattle.std.proofs.Common.{arith}
-use Rattle.spatial_match.proofs.Repeating.{part-ready-at}
-use Rattle.match_rows.proofs.tests.match_one.Goals as goal
-
-pub match_target-requires : goal.match_target-requires
-match_target-requires c =
-    part-ready-at c.args.process.now c.parts-parts.result.now 0 c.index-parts-0.result c.parts-parts.ensures.parts (omega arith) c.index-parts-0.is c.requires

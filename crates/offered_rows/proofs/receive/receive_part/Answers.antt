@@ -1,0 +1,11 @@
+use Rattle.std.proofs.Common.{ℕ, List, length, map, sym, ap, ◌∙◌, subst}
+use Rattle.rho_term.specs.Parts.{bind_tree}
+use Rattle.offered_rows.specs.Binds.{HasScope}
+use Rattle.offered_rows.proofs.Operands.{scope-of}
+use Rattle.offered_rows.proofs.Sorting.{total, places-count}
+use Rattle.offered_rows.proofs.receive.receive_part.Goals as goal
+
+pub renumbered-requires : goal.renumbered-requires
+renumbered-requires c =
+    let count = ap (λ (xs : List ℕ). length xs) (c.as_slice.ensures.value ∙ c.in_ok-sorted.ensures.places) ∙ (places-count (map bind_tree c.in_ok-named.named.items) ∙ ap total c.in_ok-named.ensures) in
+    subst (λ n. HasScope n c.args.body.now) (sym count) (scope-of c.args.kind c.args.names.items c.args.binds.now.items c.args.body.now c.requires.names c.requires.same_number c.requires.closed)

@@ -1,0 +1,106 @@
+// The row of a part that is offered: its price, the tests in their order, and what is offered.
+ghost use Rattle.std.specs.Prelude.{◌≡◌, ◌≤◌, ◌<◌, ◌+◌, ◌*◌, ◌-◌, ◌^◌, [], ◌∷◌, MatchResult, ℕ};
+ghost use Rattle.calculus.specs.Rows.{row_length};
+ghost use Rattle.calculus.specs.Shape.{at, held};
+ghost use Rattle.calculus.specs.Unfolding.{a_row, offered, row_limits};
+ghost use Rattle.calculus.specs.Outcome.{free};
+ghost use Rattle.rho_term.specs.Parts.{part_tree};
+ghost use Rattle.rho_term.specs.Rows.{row_of_op};
+ghost use Rattle.rho_eval.specs.Outcomes.{Came, Stopped};
+ghost use Rattle.term_encoder.specs.Sizes.{in_u64};
+ghost use Rattle.offered_rows.specs.Offers.{IsOffered, IsOneOffered, row_of, tested};
+
+use calculus::{Digest, FaultKind};
+use price_table::Prices;
+use rho_eval::{EvalStop, Priced};
+use rho_term::{MOST_BYTES, MOST_HEIGHT, Op, Part, Term};
+use std::alloc::Global;
+use term_encoder::code_len;
+
+/// How many bytes the code of a row has beside that of a process of its part alone.
+const ROW_BYTES: u64 = 28;
+
+/// The price so far, this price and one for each of so many bytes, where they do not pass the cap.
+fn charge(base: u64, byte: u64, bytes: u64, price: u64, cap: u64) -> Result<u64, EvalStop>
+    requires { cap < 2 ^ 64 - 1 }
+    ensures { MatchResult result (λ n. (l : ℕ) → bytes ≡ in_u64 l → (n ≡ price + (base + byte * l)) × (n ≤ cap)) (λ e. (e ≡ EvalStop.Over) × ((l : ℕ) → bytes ≡ in_u64 l → cap < price + (base + byte * l))) }
+{
+    let cost = byte.saturating_mul(bytes).saturating_add(base);
+    let total = price.saturating_add(cost);
+    if total > cap {
+        return Err(EvalStop::Over);
+    }
+    Ok(total)
+}
+
+/// The offer of a send or a receive, the one part of a process.
+fn offer_of(id: Digest, term: Term) -> Op
+    requires { IsOneOffered term }
+    ensures { row_of_op result ≡ row_of id.0 (at 0 (held term)) }
+{
+    let mut parts = term.into_parts();
+    let part = parts.remove(0);
+    match part {
+        Part::Send {
+            channel,
+            args,
+            persistent,
+        } => Op::Produce {
+            id,
+            channel,
+            args,
+            persistent,
+        },
+        Part::Receive { kind, binds, body } => Op::Consume {
+            id,
+            kind,
+            binds,
+            body,
+        },
+        _ => unreachable!(),
+    }
+}
+
+/// The row of this process at this price so far, or its fault where it is beyond the limits.
+fn limited(id: Digest, term: Term, price: u64, cap: u64) -> Result<Priced<Op>, EvalStop>
+    requires offered { IsOneOffered term }
+    requires price { price ≤ cap }
+    ensures { MatchResult result (λ p. Came cap price p.price (a_row (row_of_op p.value) ∷ []) (free (row_limits (row_of id.0 (at 0 (held term)))))) (λ e. Stopped cap price (free (row_limits (row_of id.0 (at 0 (held term))))) e) }
+{
+    if term.height() > MOST_HEIGHT {
+        let kind = FaultKind::TooDeep;
+        return Err(EvalStop::Fault { kind, price });
+    }
+    if code_len(&term) > MOST_BYTES - ROW_BYTES {
+        let kind = FaultKind::TooBig;
+        return Err(EvalStop::Fault { kind, price });
+    }
+    let value = offer_of(id, term);
+    Ok(Priced { value, price })
+}
+
+/// What is offered by this send or receive, at this price and one for each byte of its row. The price is
+/// added, then comes the fault that was found before, then the limits are tested.
+pub(crate) fn offer_part(
+    alloc: Global,
+    id: Digest,
+    part: Part,
+    fault: Option<FaultKind>,
+    base: u64,
+    prices: &Prices,
+    cap: u64,
+    price: u64,
+) -> Result<Priced<Op>, EvalStop>
+    requires part { IsOffered part }
+    requires cap { cap < 2 ^ 64 - 1 }
+    requires price { price ≤ cap }
+    ensures { MatchResult result (λ p. Came cap price p.price (a_row (row_of_op p.value) ∷ []) (offered base prices.now.byte (row_of id.0 (part_tree part)) (tested fault (row_of id.0 (part_tree part))))) (λ e. Stopped cap price (offered base prices.now.byte (row_of id.0 (part_tree part)) (tested fault (row_of id.0 (part_tree part)))) e) }
+{
+    let term = Term::from_part(alloc, part)?;
+    let bytes = code_len(&term).saturating_add(ROW_BYTES);
+    let price = charge(base, prices.byte(), bytes, price, cap)?;
+    if let Some(kind) = fault {
+        return Err(EvalStop::Fault { kind, price });
+    }
+    limited(id, term, price, cap)
+}

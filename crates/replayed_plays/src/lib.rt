@@ -1,5 +1,0 @@
-//! Runs that are played and then replayed from their logs.
-#![tactic(auto)]
-
-#[cfg(test)]
-mod tests;

@@ -1,0 +1,5 @@
+pub mod Leading
+pub mod Leasts
+pub mod Lists
+pub mod Logs
+pub mod ExamplesTurns

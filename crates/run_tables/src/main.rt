@@ -1,0 +1,59 @@
+//! Answers about deploys and replays over files in memory. Each line of the input is a kind and its fields, and the output
+//! is the same line with the answer behind it.
+#![tactic(auto)]
+
+mod place;
+mod plays;
+mod runs;
+
+use std::alloc::Global;
+use std::sync::Wait;
+use std::thread::Threads;
+use table_lines::{LineFault, answer_lines};
+
+#[derive(Clone, Copy)]
+enum Kind {
+    Deploy,
+    DeployOf,
+    DeployFailing,
+    DeployAndReplay,
+    Replay,
+    Play,
+}
+
+impl Kind {
+    fn named(word: &str) -> Option<Kind> {
+        Some(match word {
+            "deploy" => Kind::Deploy,
+            "deploy-of" => Kind::DeployOf,
+            "deploy-failing" => Kind::DeployFailing,
+            "deploy-and-replay" => Kind::DeployAndReplay,
+            "replay" => Kind::Replay,
+            "play" => Kind::Play,
+            _ => return None,
+        })
+    }
+}
+
+fn answer<R: Threads + Wait + Sync>(
+    rt: &R,
+    alloc: Global,
+    word: &str,
+    fields: &str,
+) -> Result<String, LineFault> {
+    match Kind::named(word).ok_or(LineFault::Kind)? {
+        Kind::Deploy => runs::deploy(rt, alloc, fields),
+        Kind::DeployOf => runs::deploy_of(rt, alloc, fields),
+        Kind::DeployFailing => runs::deploy_failing(rt, alloc, fields),
+        Kind::DeployAndReplay => runs::deploy_and_replay(rt, alloc, fields),
+        Kind::Replay => runs::replay(rt, alloc, fields),
+        Kind::Play => plays::play_of(alloc, fields),
+    }
+}
+
+fn main(rt: HostRuntime) -> anyhow::Result<()> {
+    answer_lines(
+        &rt,
+        &|word: &str, fields: &str| { answer(&rt, rt.alloc(), word, fields) },
+    )
+}

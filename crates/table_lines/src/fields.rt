@@ -1,0 +1,21 @@
+use crate::escapes::unescape;
+use crate::fault::LineFault;
+use std::alloc::Global;
+
+/// The bytes that hexadecimal digits spell, the digits with their escapes.
+pub fn hex_bytes(alloc: Global, text: &str) -> Result<Vec<u8>, LineFault> {
+    let digits = unescape(alloc, text)?;
+    Ok(hex::decode(alloc, digits.as_slice())?)
+}
+
+/// The digest that 64 hexadecimal digits spell.
+pub fn digest(text: &str) -> Result<[u8; 32], LineFault> {
+    let mut bytes = [0; 32];
+    hex::decode_to_slice(text, &mut bytes)?;
+    Ok(bytes)
+}
+
+/// A number in decimal digits.
+pub fn number(text: &str) -> Result<u32, LineFault> {
+    Ok(text.parse::<u32>()?)
+}

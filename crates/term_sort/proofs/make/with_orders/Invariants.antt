@@ -1,7 +1,0 @@
-use Rattle.std.proofs.Common.{◌≡◌, map}
-use Rattle.rho_term.specs.Parts.{part_tree}
-use Rattle.term_sort.specs.Made.{reordered}
-use Rattle.term_sort.proofs.make.with_orders.Given as goal
-
-abbrev pub invariant-loop-part : goal.invariant-loop-part
-invariant-loop-part l = map part_tree l.ordered.items ≡ map (λ p. reordered (part_tree p)) l.yielded

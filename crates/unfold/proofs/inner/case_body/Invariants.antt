@@ -1,0 +1,5 @@
+use Rattle.unfold.proofs.Cases.{Tried}
+use Rattle.unfold.proofs.inner.case_body.Given as goal
+
+abbrev pub invariant-loop-case : goal.invariant-loop-case
+invariant-loop-case l = Tried l.prices l.target l.cases.items l.cap l.price l.total l.case-index

@@ -1,0 +1,182 @@
+// What is unfolded inside a part.
+ghost use Rattle.std.specs.Prelude.{◌≡◌, ◌≤◌, ◌<◌, ◌*◌, ◌-◌, ◌^◌, ℕ, List, [], All, length, map, IfOk, MatchResult};
+ghost use Rattle.calculus.specs.CodeLaws.{IsShort};
+ghost use Rattle.calculus.specs.Form.{a_case, Fits, IsClosed};
+ghost use Rattle.calculus.specs.Outcome.{after, charged, pure};
+ghost use Rattle.calculus.specs.Shape.{many, only, two};
+ghost use Rattle.calculus.specs.Substitution.{put};
+ghost use Rattle.calculus.specs.Tree.{match as matches, row};
+ghost use Rattle.calculus.specs.Unfolding.{names_made};
+ghost use Rattle.calculus.specs.Values.{value};
+ghost use Rattle.rho_eval.specs.Outcomes.{Came, Stopped};
+ghost use Rattle.rho_term.specs.Normal.{IsOrdered};
+ghost use Rattle.rho_term.specs.Parts.{case_tree, part_tree};
+ghost use Rattle.rho_term.specs.Sizes.{in_u64, size};
+ghost use Rattle.unfold.specs.Inner.{chosen_body, inner_process, HoldsNoProcess};
+
+use crate::limits::{add_cost, put_within};
+use name_seed::Seed;
+use price_table::Prices;
+use rho_eval::{EvalStop, Priced, eval_part, eval_term};
+use rho_term::{Origin, Part, Term, TermCase};
+use spatial_match::first_match;
+use std::alloc::{AllocError, Global};
+use system_names::made_name;
+use term_sort::substitute;
+
+/// The process that is unfolded inside a part with this seed, from a price so far, and the empty process where none is.
+/// The part's code has so many bytes.
+pub(crate) fn inner_process(
+    alloc: Global,
+    part: Part,
+    bytes: u64,
+    seed: &Seed,
+    prices: &Prices,
+    cap: u64,
+    price: u64,
+) -> Result<Priced<Term>, EvalStop>
+    requires cap { cap < 2 ^ 64 - 1 }
+    requires price { price ≤ cap }
+    requires bytes { bytes ≡ in_u64 (size (part_tree part)) }
+    requires closed { IsClosed (only (part_tree part)) }
+    requires ordered { IsOrdered (part_tree part) }
+    ensures value { MatchResult result (λ p. Came cap price p.price p.value (inner_process prices.now seed.now (part_tree part))) (λ e. Stopped cap price (inner_process prices.now seed.now (part_tree part)) e) }
+    ensures closed { IfOk result (λ p. IsClosed p.value) }
+{
+    match part {
+        Part::New { names, body } => new_body(alloc, &names, &body, seed, prices, cap, price),
+        Part::Match { target, cases } => {
+            match_body(alloc, &target, &cases, bytes, prices, cap, price)
+        }
+        Part::Bundle { body, .. } => Ok(Priced { value: body, price }),
+        other => value_inside(alloc, &other, prices, cap, price),
+    }
+}
+
+/// The least number of bytes of a code that is too long to be matched: four bytes do not count it.
+const LONG_CODE: u64 = 4_294_967_296;
+
+/// The names that a `new` with this seed makes.
+fn names_made(alloc: Global, names: &Vec<Origin>, seed: &Seed) -> Result<Vec<Term>, AllocError>
+    ensures { IfOk result (λ v. v.items ≡ names_made seed.now 0 names.now.items) }
+{
+    let mut number: u32 = 0;
+    let mut values = Vec::new(alloc);
+    for origin in names {
+        values.push(made_name(alloc, seed, number, *origin)?)?;
+        number = number.wrapping_add(1);
+    }
+    Ok(values)
+}
+
+/// The body of a `new` with this seed under its names, at the price of each name.
+fn new_body(
+    alloc: Global,
+    names: &Vec<Origin>,
+    body: &Term,
+    seed: &Seed,
+    prices: &Prices,
+    cap: u64,
+    price: u64,
+) -> Result<Priced<Term>, EvalStop>
+    requires cap { cap < 2 ^ 64 - 1 }
+    requires price { price ≤ cap }
+    ensures { MatchResult result (λ p. Came cap price p.price p.value (charged (prices.now.name * length names.now.items) (pure (put (names_made seed.now 0 names.now.items) body.now)))) (λ e. Stopped cap price (charged (prices.now.name * length names.now.items) (pure (put (names_made seed.now 0 names.now.items) body.now))) e) }
+{
+    let cost = prices.name().saturating_mul(names.len() as u64);
+    let price = add_cost(price, cost, cap)?;
+    let values = names_made(alloc, names, seed)?;
+    let value = substitute(alloc, body, values.as_slice())?;
+    Ok(Priced { value, price })
+}
+
+/// The body that a match on this target with these cases unfolds; the code of the match has so many bytes.
+fn match_body(
+    alloc: Global,
+    target: &Term,
+    cases: &Vec<TermCase>,
+    bytes: u64,
+    prices: &Prices,
+    cap: u64,
+    price: u64,
+) -> Result<Priced<Term>, EvalStop>
+    requires cap { cap < 2 ^ 64 - 1 }
+    requires price { price ≤ cap }
+    requires bytes { bytes ≡ in_u64 (size (two matches target.now (many row (map case_tree cases.now.items)))) }
+    requires closed { IsClosed (only (two matches target.now (many row (map case_tree cases.now.items)))) }
+    ensures value { MatchResult result (λ p. Came cap price p.price p.value (after (value prices.now target.now) (λ v. chosen_body prices.now v (map case_tree cases.now.items)))) (λ e. Stopped cap price (after (value prices.now target.now) (λ v. chosen_body prices.now v (map case_tree cases.now.items))) e) }
+    ensures closed { IfOk result (λ p. IsClosed p.value) }
+{
+    if bytes >= LONG_CODE {
+        return Err(EvalStop::NoMemory);
+    }
+    let found = eval_term(alloc, target, prices, cap, price)?;
+    case_body(alloc, &found.value, cases, prices, cap, found.price)
+}
+
+/// The body of the first of these cases that fits the target under its bindings, each case tried at its price, and
+/// the empty process where none fits.
+fn case_body(
+    alloc: Global,
+    target: &Term,
+    cases: &Vec<TermCase>,
+    prices: &Prices,
+    cap: u64,
+    price: u64,
+) -> Result<Priced<Term>, EvalStop>
+    requires cap { cap < 2 ^ 64 - 1 }
+    requires price { price ≤ cap }
+    requires target { IsClosed target.now }
+    requires short_target { IsShort target.now }
+    requires cases { All (λ c. Fits a_case [] (case_tree c)) cases.now.items }
+    requires short_cases { All (λ c. IsShort c.pat) cases.now.items }
+    ensures value { MatchResult result (λ p. Came cap price p.price p.value (chosen_body prices.now target.now (map case_tree cases.now.items))) (λ e. Stopped cap price (chosen_body prices.now target.now (map case_tree cases.now.items)) e) }
+    ensures closed { IfOk result (λ p. IsClosed p.value) }
+{
+    let mut total = price;
+    for case in cases {
+        total = add_cost(total, prices.cases(), cap)?;
+        if let Some(values) = first_match(alloc, &case.pat, target)? {
+            return put_within(alloc, &case.body, values.as_slice(), total, cap);
+        }
+    }
+    Ok(Priced {
+        value: Term::nil(alloc),
+        price: total,
+    })
+}
+
+/// The value of an operator or a method. A collection is evaluated, and nothing is unfolded inside it, nor inside what
+/// is left.
+fn value_inside(
+    alloc: Global,
+    part: &Part,
+    prices: &Prices,
+    cap: u64,
+    price: u64,
+) -> Result<Priced<Term>, EvalStop>
+    requires cap { cap < 2 ^ 64 - 1 }
+    requires price { price ≤ cap }
+    requires closed { IsClosed (only (part_tree part.now)) }
+    requires ordered { IsOrdered (part_tree part.now) }
+    requires other { HoldsNoProcess (part_tree part.now) }
+    ensures value { (s : List ℕ) → MatchResult result (λ p. Came cap price p.price p.value (inner_process prices.now s (part_tree part.now))) (λ e. Stopped cap price (inner_process prices.now s (part_tree part.now)) e) }
+    ensures closed { IfOk result (λ p. IsClosed p.value) }
+{
+    match part {
+        Part::Unary { .. } | Part::Binary { .. } | Part::Method { .. } => {
+            eval_part(alloc, part, prices, cap, price)
+        }
+        Part::List(_) | Part::Tuple(_) | Part::Set(_) | Part::Map(_) => {
+            let done = eval_part(alloc, part, prices, cap, price)?;
+            Ok(Priced {
+                value: Term::nil(alloc),
+                price: done.price,
+            })
+        }
+        _ => Ok(Priced {
+            value: Term::nil(alloc),
+            price,
+        }),
+    }
+}

@@ -1,0 +1,124 @@
+// The list of what is still to be unfolded, part after part.
+ghost use Rattle.std.specs.Prelude.{◌≡◌, ◌≤◌, ◌<◌, ◌-◌, ◌^◌, ◌++◌, All, map, MatchResult, IfOk};
+ghost use Rattle.calculus.specs.Form.{IsClosed};
+ghost use Rattle.calculus.specs.Shape.{only};
+ghost use Rattle.rho_term.specs.Normal.{IsNormal, IsOrdered};
+ghost use Rattle.rho_term.specs.Parts.{part_tree};
+ghost use Rattle.rho_term.specs.Rows.{row_of_op};
+ghost use Rattle.unfold.specs.Progress.{pending, IsReady, Advances, StopsWith, Ends, with_part, in_turn, progress};
+
+use crate::inner::inner_process;
+use crate::offers::{receive_offer, send_offer};
+use name_seed::Seed;
+use price_table::Prices;
+use rho_eval::{EvalStop, Priced};
+use rho_term::{Op, Part, Term};
+use std::alloc::{AllocError, Global};
+
+/// A part that is still to be unfolded, and its seed.
+#[derive(Drop)]
+pub(crate) struct Todo {
+    pub part: Part,
+    pub seed: Seed,
+}
+
+/// The price so far, what was offered, and the parts that are left, of which the last one is next.
+#[derive(Drop)]
+pub(crate) struct Work {
+    pub price: u64,
+    pub offers: Vec<Op>,
+    pub left: Vec<Todo>,
+}
+
+/// The parts of a process come next, each with its seed under this one.
+pub(crate) fn push_parts(left: &mut Vec<Todo>, term: Term, seed: &Seed) -> Result<(), AllocError>
+    requires closed { IsClosed term }
+    requires ready { All IsReady (in_turn left.old.items) }
+    ensures next { IfOk result (λ _. in_turn left.new.items ≡ pending term seed.now ++ in_turn left.old.items) }
+    ensures ready { IfOk result (λ _. All IsReady (in_turn left.new.items)) }
+    ensures normal { IsNormal term }
+{
+    let mut parts = term.into_parts();
+    while let Some(part) = parts.pop() {
+        let number = (parts.len() % 4_294_967_296) as u32;
+        let seed = seed.split(number);
+        left.push(Todo { part, seed })?;
+    }
+    Ok(())
+}
+
+/// A part with this seed: a send or a receive is offered, and what another part holds comes next.
+fn turn(
+    alloc: Global,
+    work: &mut Work,
+    part: Part,
+    seed: &Seed,
+    prices: &Prices,
+    cap: u64,
+) -> Result<(), EvalStop>
+    requires cap { cap < 2 ^ 64 - 1 }
+    requires price { work.old.price ≤ cap }
+    requires ready { All IsReady (in_turn work.old.left.items) }
+    requires closed { IsClosed (only (part_tree part)) }
+    requires ordered { IsOrdered (part_tree part) }
+    ensures { MatchResult result (λ _. Advances prices.now cap (with_part (record { part = part_tree part; seed = seed.now }) (progress work.old)) (progress work.new)) (λ e. StopsWith prices.now cap (with_part (record { part = part_tree part; seed = seed.now }) (progress work.old)) e) }
+{
+    match part {
+        Part::Send {
+            channel,
+            args,
+            persistent,
+        } => {
+            let price = work.price;
+            let done = send_offer(alloc, &channel, &args, persistent, seed, prices, cap, price)?;
+            work.offers.push(done.value)?;
+            work.price = done.price;
+            Ok(())
+        }
+        Part::Receive { kind, binds, body } => {
+            let price = work.price;
+            let done = receive_offer(alloc, kind, &binds, &body, seed, prices, cap, price)?;
+            work.offers.push(done.value)?;
+            work.price = done.price;
+            Ok(())
+        }
+        other => {
+            let bytes = other.code_len();
+            let price = work.price;
+            let done = inner_process(alloc, other, bytes, seed, prices, cap, price)?;
+            let inner = seed.body();
+            push_parts(&mut work.left, done.value, &inner)?;
+            work.price = done.price;
+            Ok(())
+        }
+    }
+}
+
+/// All that is left, part after part.
+pub(crate) fn finish(
+    alloc: Global,
+    mut work: Work,
+    prices: &Prices,
+    cap: u64,
+) -> Result<Priced<Vec<Op>>, EvalStop>
+    requires cap { cap < 2 ^ 64 - 1 }
+    requires price { work.price ≤ cap }
+    requires ready { All IsReady (in_turn work.left.items) }
+    ensures { MatchResult result (λ r. Ends prices.now cap (progress work) r.price (map row_of_op r.value.items)) (λ e. StopsWith prices.now cap (progress work) e) }
+{
+    for _turn in 0..u64::MAX {
+        match work.left.pop() {
+            None => {
+                return Ok(Priced {
+                    value: work.offers,
+                    price: work.price,
+                });
+            }
+            Some(todo) => {
+                let Todo { part, seed } = todo;
+                turn(alloc, &mut work, part, &seed, prices, cap)?;
+            }
+        }
+    }
+    Err(EvalStop::NoMemory)
+}
