@@ -13,7 +13,7 @@ use Rattle.calculus.specs.Outcome.{Prices, Answer, gives, fails, Outcome, free, 
 use Rattle.calculus.specs.Values.{value}
 use Rattle.calculus.specs.Rows.{Row, row_length}
 use Rattle.calculus.specs.Seeds.{digest_of, Split, Body}
-use Rattle.calculus.specs.Unfolding.{Thing, a_row, row_limits, opened, send_offered, unfold_within, cases_tried, unfold_in}
+use Rattle.calculus.specs.Unfolding.{Product, a_row, row_limits, opened, send_offered, unfold_within, cases_tried, unfold_in}
 use Rattle.calculus.proofs.Formed.{length-code}
 use Rattle.calculus.proofs.Tails.{length-be32, length-text}
 use Rattle.calculus.proofs.Opened.{computing}
@@ -43,11 +43,11 @@ unfolding computing
 value-too-big p s h = ap (λ a. record { price = 0; answer = a }) (too-big (word s) refl (omega (arith, h, length-word s)))
 
 -- a process of one send on a closed channel, as what its argument's value makes of it
-abbrev send_of : Tree → Outcome Tree → Outcome (List Thing)
+abbrev send_of : Tree → Outcome Tree → Outcome (List Product)
 send_of c o = after (after (value prices c) (λ v. after (in_order (o ∷ [])) (λ vs. send_offered prices (digest_of (Split [] 0)) false (opened v) vs))) (λ rs. pure (rs ++ []))
 
 -- what is offered, or a fault, after this price for the bytes of a row
-abbrev priced : Answer (List Thing) → ℕ → Outcome (List Thing)
+abbrev priced : Answer (List Product) → ℕ → Outcome (List Product)
 priced a n = after (after (pure nil) (λ v. after (pure nil) (λ w. charged (3 + n) (free a)))) (λ rs. pure (rs ++ []))
 
 no-price : (n : ℕ) → 0 * n ≡ 0
@@ -115,11 +115,11 @@ abbrev pub match_bundling : Tree → Tree
 match_bundling t = only (two match t (many row (two case a_var (only (one (bundle rights.Both) (the_var 0))) ∷ [])))
 
 -- its work, as what the target's value makes of it
-abbrev match_of : Outcome Tree → Outcome (List Thing)
+abbrev match_of : Outcome Tree → Outcome (List Product)
 match_of o = after (after o (λ v. cases_tried prices (unfold_in prices 8) (digest_of (Body (digest_of (Split [] 0)))) v (two case a_var (only (one (bundle rights.Both) (the_var 0))) ∷ []))) (λ rs. pure (rs ++ []))
 
 -- and as what the limits make of its body
-abbrev body_of : Answer Tree → Outcome (List Thing)
+abbrev body_of : Answer Tree → Outcome (List Product)
 body_of a = after (after (pure nil) (λ v. charged 1 (unfold_within (unfold_in prices 8) (digest_of (Body (digest_of (Split [] 0)))) a))) (λ rs. pure (rs ++ []))
 
 length-bundle : (t : Tree) → length (code (only (one (bundle rights.Both) t))) ≡ 6 + length (code t)

@@ -1,61 +1,17 @@
 -- Each allowed step is among the candidates.
 use Rattle.std.proofs.Common.{◌≡◌, ℕ, suc, Bool, true, false, not, ◌&&◌, ◌||◌, cond, List, [], ◌∷◌, ◌++◌, length, refl, ap, sym, ◌∙◌, subst, inl, inr}
-use Rattle.std.specs.Prelude.{◌⊎◌, ⊤, flat_map, map as each, Option, Some, None, count_by, is_none, option_map, option_and_then, IsSome}
+use Rattle.std.specs.Prelude.{map as each, Option, Some, None, count_by, is_none, option_map, option_and_then, IsSome}
 use Rattle.std.specs.Str.{bytes_eq}
 use Rattle.std.proofs.lemmas.Slice.Eq.{bytes_eq-Decides}
 use Rattle.std.proofs.lemmas.Bool.{eqb-true}
+use Rattle.list_laws.proofs.Members.{Every, Member, every-each, every-flat, every-up, member-each, member-flat}
 use Rattle.calculus.specs.Tree.{Tree}
 use Rattle.calculus.specs.Log.{Step}
 use Rattle.calculus.specs.Rows.{Row}
-use Rattle.calculus.specs.Steps.{Bag, standing, Held, Receiver, Datum, Meeting, with_id, row_choices, differ, as_receiver, as_datum, as_data, taken, all_taken, meet, meet_rows, meet_for, first_there, meeting, same_meeting, right_repeat}
+use Rattle.calculus.specs.Steps.{Bag, standing, PlacedRow, Receiver, Datum, Meeting, with_id, row_choices, differ, as_receiver, as_datum, as_data, bindings_of, all_bindings, meet, meet_rows, meet_for, first_there, meeting, same_meeting, right_repeat}
 use Rattle.calculus.specs.Laws.{CandidatesSuffice, DataDiffer, EndIsDecided}
 use Rattle.calculus.specs.Runs.{Verdict, done, exhausted, faulted, verdict}
 use Rattle.calculus.specs.Candidates.{id_lists, next_step, row_steps, candidates, none_allowed, is_done}
-
--- x stands in the list
-abbrev pub Member : {A : Type 0} → A → List A → Type 0
-Member x [] = ⊥
-Member x (y ∷ ys) = (x ≡ y) ⊎ Member x ys
-
--- each member has P
-abbrev pub Every : {A : Type 0} → (A → Type 0) → List A → Type 0
-Every P [] = ⊤
-Every P (x ∷ xs) = P x × Every P xs
-
-pub every-append : {A : Type 0} (P : A → Type 0) (xs ys : List A) → Every P xs → Every P ys → Every P (xs ++ ys)
-every-append P [] ys h k = k
-every-append P (x ∷ xs) ys h k = (h.0, every-append P xs ys h.1 k)
-
-pub every-each : {A B : Type 0} (P : B → Type 0) (Q : A → Type 0) (f : A → B) → ((x : A) → Q x → P (f x)) → (xs : List A) → Every Q xs → Every P (each f xs)
-every-each P Q f g [] h = tt
-every-each P Q f g (x ∷ xs) h = (g x h.0, every-each P Q f g xs h.1)
-
-pub every-flat : {A B : Type 0} (P : B → Type 0) (Q : A → Type 0) (f : A → List B) → ((x : A) → Q x → Every P (f x)) → (xs : List A) → Every Q xs → Every P (flat_map f xs)
-every-flat P Q f g [] h = tt
-every-flat P Q f g (x ∷ xs) h = every-append P (f x) (flat_map f xs) (g x h.0) (every-flat P Q f g xs h.1)
-
-pub every-up : {A : Type 0} (P Q : A → Type 0) → ((x : A) → P x → Q x) → (xs : List A) → Every P xs → Every Q xs
-every-up P Q g [] h = tt
-every-up P Q g (x ∷ xs) h = (g x h.0, every-up P Q g xs h.1)
-
-member-left : {A : Type 0} (x : A) (xs ys : List A) → Member x xs → Member x (xs ++ ys)
-member-left x [] ys h = absurd h
-member-left x (y ∷ xs) ys (inl e) = inl e
-member-left x (y ∷ xs) ys (inr h) = inr (member-left x xs ys h)
-
-member-right : {A : Type 0} (x : A) (xs ys : List A) → Member x ys → Member x (xs ++ ys)
-member-right x [] ys h = h
-member-right x (y ∷ xs) ys h = inr (member-right x xs ys h)
-
-member-each : {A B : Type 0} (f : A → B) (x : A) (xs : List A) → Member x xs → Member (f x) (each f xs)
-member-each f x [] h = absurd h
-member-each f x (y ∷ xs) (inl e) = inl (ap f e)
-member-each f x (y ∷ xs) (inr h) = inr (member-each f x xs h)
-
-member-flat : {A B : Type 0} (f : A → List B) (x : A) (y : B) (xs : List A) → Member x xs → Member y (f x) → Member y (flat_map f xs)
-member-flat f x y [] h k = absurd h
-member-flat f x y (z ∷ xs) (inl e) k = member-left y (f z) (flat_map f xs) (subst (λ w. Member y (f w)) e k)
-member-flat f x y (z ∷ xs) (inr h) k = member-right y (f z) (flat_map f xs) (member-flat f x y xs h k)
 
 -- a value that an option's value gave
 pub and_then-inv : {A B : Type 0} (x : Option A) (f : A → Option B) (m : B) → option_and_then f x ≡ Some m → (y : A) × (x ≡ Some y) × (f y ≡ Some m)
@@ -67,7 +23,7 @@ map-inv None f m e = cc
 map-inv (Some y) f m e = (y, refl, cc e)
 
 -- what a held row is: a row of the bag with this id
-abbrev IsHeld : List Row → List ℕ → Held → Type 0
+abbrev IsHeld : List Row → List ℕ → PlacedRow → Type 0
 IsHeld b x h = Member h.1 b × (x ≡ h.1.id)
 
 with_id-held : (x : List ℕ) (i : ℕ) (b : List Row) → Every (IsHeld b x) (with_id x i b)
@@ -79,7 +35,7 @@ with_id-held x i (r ∷ rs) = go (every-up (IsHeld rs x) (IsHeld (r ∷ rs) x) (
     go up false e = up
 
 -- the rows of a choice have these ids, and are in the bag
-abbrev pub IsChoice : List Row → List (List ℕ) → List Held → Type 0
+abbrev pub IsChoice : List Row → List (List ℕ) → List PlacedRow → Type 0
 IsChoice b xs hs = (xs ≡ each (λ h. h.1.id) hs) × Every (λ h. Member h.1 b) hs
 
 pub row_choices-hold : (b : List Row) (xs : List (List ℕ)) → Every (IsChoice b xs) (row_choices b xs)
@@ -97,43 +53,43 @@ some-length : {A : Type 0} (xs ys : List A) → Some xs ≡ Some ys → length x
 unfolding count_in
 some-length xs ys e = ap count_in e
 
-as_data-length : (hs : List Held) (ds : List Datum) → as_data hs ≡ Some ds → length hs ≡ length ds
+as_data-length : (hs : List PlacedRow) (ds : List Datum) → as_data hs ≡ Some ds → length hs ≡ length ds
 as_data-length [] ds e = some-length [] ds e
 as_data-length (h ∷ hs) ds e =
     let i = and_then-inv (as_datum h.1.part) (λ d. option_and_then (λ zs. Some (d ∷ zs)) (as_data hs)) ds e in
     let j = and_then-inv (as_data hs) (λ zs. Some (i.0 ∷ zs)) ds i.2 in
     ap suc (as_data-length hs j.0 j.1) ∙ some-length (i.0 ∷ j.0) ds j.2
 
-all_taken-length : (bs : List Tree) (ds : List Datum) (xs : List Tree) → all_taken bs ds ≡ Some xs → length bs ≡ length ds
+all_taken-length : (bs : List Tree) (ds : List Datum) (xs : List Tree) → all_bindings bs ds ≡ Some xs → length bs ≡ length ds
 all_taken-length [] [] xs e = refl
 all_taken-length [] (d ∷ ds) xs e = cc
 all_taken-length (b ∷ bs) [] xs e = cc
 all_taken-length (b ∷ bs) (d ∷ ds) xs e =
-    let i = and_then-inv (taken b d) (λ ys. option_and_then (λ zs. Some (ys ++ zs)) (all_taken bs ds)) xs e in
-    let j = and_then-inv (all_taken bs ds) (λ zs. Some (i.0 ++ zs)) xs i.2 in
+    let i = and_then-inv (bindings_of b d) (λ ys. option_and_then (λ zs. Some (ys ++ zs)) (all_bindings bs ds)) xs e in
+    let j = and_then-inv (all_bindings bs ds) (λ zs. Some (i.0 ++ zs)) xs i.2 in
     ap suc (all_taken-length bs ds j.0 j.1)
 
 -- what a meeting shows of its receiver and the number of its data
-meet-shows : (h : Held) (hs : List Held) (m : Meeting) → meet_rows (h ∷ hs) ≡ Some m → (r : Receiver) × (as_receiver h.1.part ≡ Some r) × (length r.binds ≡ length hs)
+meet-shows : (h : PlacedRow) (hs : List PlacedRow) (m : Meeting) → meet_rows (h ∷ hs) ≡ Some m → (r : Receiver) × (as_receiver h.1.part ≡ Some r) × (length r.binds ≡ length hs)
 meet-shows h hs m e =
     let i = and_then-inv (as_receiver h.1.part) _ m e in
     let j = and_then-inv (as_data hs) (meet h hs i.0) m i.2 in
-    let k = and_then-inv (all_taken i.0.binds j.0) _ m j.2 in
+    let k = and_then-inv (all_bindings i.0.binds j.0) _ m j.2 in
     (i.0, i.1, all_taken-length i.0.binds j.0 k.0 k.1 ∙ sym (as_data-length hs j.0 j.1))
 
 -- the ids of rows of a bag are among the lists of as many ids
-ids-among : (b : List Row) (hs : List Held) → Every (λ h. Member h.1 b) hs → Member (each (λ h. h.1.id) hs) (id_lists (length hs) b)
+ids-among : (b : List Row) (hs : List PlacedRow) → Every (λ h. Member h.1 b) hs → Member (each (λ h. h.1.id) hs) (id_lists (length hs) b)
 ids-among b [] k = inl refl
 ids-among b (h ∷ hs) k =
     member-flat (λ r. each (λ xs. r.id ∷ xs) (id_lists (length hs) b)) h.1 (h.1.id ∷ each (λ g. g.1.id) hs) b k.0
     (member-each (λ xs. h.1.id ∷ xs) (each (λ g. g.1.id) hs) (id_lists (length hs) b) (ids-among b hs k.1))
 
 -- a choice that meets has what every choice has
-pub first-meets : (made : List Step) (s : Step) (Q : List Held → Type 0) (hss : List (List Held)) (m : Meeting) → Every Q hss → first_there (each (meet_for made s) hss) ≡ Some m → (hs : List Held) × Q hs × (meet_for made s hs ≡ Some m)
+pub first-meets : (made : List Step) (s : Step) (Q : List PlacedRow → Type 0) (hss : List (List PlacedRow)) (m : Meeting) → Every Q hss → first_there (each (meet_for made s) hss) ≡ Some m → (hs : List PlacedRow) × Q hs × (meet_for made s hs ≡ Some m)
 first-meets made s Q [] m k e = cc
 first-meets made s Q (hs ∷ hss) m k e = go (first-meets made s Q hss m k.1) (meet_for made s hs) refl e
   where
-    go : (first_there (each (meet_for made s) hss) ≡ Some m → (hs : List Held) × Q hs × (meet_for made s hs ≡ Some m)) → (o : Option Meeting) → meet_for made s hs ≡ o → first_there (o ∷ each (meet_for made s) hss) ≡ Some m → (hs : List Held) × Q hs × (meet_for made s hs ≡ Some m)
+    go : (first_there (each (meet_for made s) hss) ≡ Some m → (hs : List PlacedRow) × Q hs × (meet_for made s hs ≡ Some m)) → (o : Option Meeting) → meet_for made s hs ≡ o → first_there (o ∷ each (meet_for made s) hss) ≡ Some m → (hs : List PlacedRow) × Q hs × (meet_for made s hs ≡ Some m)
     go next None d f = next f
     go next (Some n) d f = (hs, k.0, d ∙ f)
 
@@ -150,7 +106,7 @@ pub record Names (b : List Row) (s : Step) : Type 0 where
   pub is : as_receiver row.part ≡ Some receiver
   pub ids : Member s.data_ids (id_lists (length receiver.binds) b)
 
-names-of-choice : (b : List Row) (s : Step) (hs : List Held) (m : Meeting) → IsChoice b (s.receiver ∷ s.data_ids) hs → meet_rows hs ≡ Some m → Names b s
+names-of-choice : (b : List Row) (s : Step) (hs : List PlacedRow) (m : Meeting) → IsChoice b (s.receiver ∷ s.data_ids) hs → meet_rows hs ≡ Some m → Names b s
 names-of-choice b s [] m k e = cc
 names-of-choice b s (h ∷ hs) m k e =
     let i = meet-shows h hs m e in

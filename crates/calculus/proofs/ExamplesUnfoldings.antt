@@ -4,12 +4,12 @@ use Rattle.std.specs.Prelude.{map as each}
 use Rattle.calculus.specs.ExamplesUnfoldings.{UnfoldingExamples}
 use Rattle.calculus.specs.Tree.{Tree}
 use Rattle.calculus.specs.Outcome.{Outcome, pure, after}
-use Rattle.calculus.specs.Unfolding.{Thing, rows_of}
+use Rattle.calculus.specs.Unfolding.{Product, rows_of}
 use Rattle.calculus.proofs.ByteLimits.{send-fits, send-too-big, send-not-writable, send-too-deep, body-fits, body-too-big}
 use Rattle.calculus.proofs.Opened.{computing}
 
 -- the parts of the rows that work offers
-abbrev shown : Outcome (List Thing) → Outcome (List Tree)
+abbrev shown : Outcome (List Product) → Outcome (List Tree)
 shown o = after o (λ ts. pure (each (λ r. r.part) (rows_of ts)))
 
 pub unfolding_examples : UnfoldingExamples

@@ -12,6 +12,7 @@ pub mod ExamplesUnfoldings
 pub mod ExamplesRuns
 pub mod ExamplesPrinted
 pub mod ExamplesSteps
+pub mod ExamplesStoring
 pub mod ExamplesBare
 pub mod ExamplesCongruence
 pub mod ExamplesForm

@@ -9,7 +9,7 @@ use Rattle.calculus.specs.Substitution.{put}
 use Rattle.calculus.specs.Seeds.{digest_of, Split, Body}
 use Rattle.calculus.specs.Matching.{Bindings, first_match}
 use Rattle.calculus.specs.Values.{value}
-use Rattle.calculus.specs.Unfolding.{Thing, Unfolder, names_made, fresh_names, unfold_within, unfold_under, fitting, cases_tried, part_unfolded, unfold_part, parts_unfolded, unfold_in}
+use Rattle.calculus.specs.Unfolding.{Product, Unfolder, names_made, fresh_names, unfold_within, unfold_under, fitting, cases_tried, part_unfolded, unfold_part, parts_unfolded, unfold_in}
 
 -- an answer is known
 abbrev pub IsKnown : {A : Type 0} → Answer A → Type 0
@@ -52,7 +52,7 @@ within_more f g h s unknown = same (free unknown)
 pub under_more : (f g : Unfolder) → RefinesAll f g → (s : List ℕ) (vs : List Tree) (body : Tree) → Refines (unfold_under f s vs body) (unfold_under g s vs body)
 under_more f g h s vs body = within_more f g h s (within_limits (put vs body))
 
-fitting_more : (f g : Unfolder) → RefinesAll f g → (s : List ℕ) (m : Option Bindings) (body : Tree) (o u : Outcome (List Thing)) → Refines o u → Refines (fitting f s m body o) (fitting g s m body u)
+fitting_more : (f g : Unfolder) → RefinesAll f g → (s : List ℕ) (m : Option Bindings) (body : Tree) (o u : Outcome (List Product)) → Refines o u → Refines (fitting f s m body o) (fitting g s m body u)
 fitting_more f g h s (Some vs) body o u k = under_more f g h s vs body
 fitting_more f g h s None body o u k = k
 
@@ -61,7 +61,7 @@ cases_more p f g h s v [] = same (pure [])
 cases_more p f g h s v (c ∷ cs) =
     charged_more p.case _ _ (fitting_more f g h s (first_match (at 0 (held c)) v) (at 1 (held c)) (cases_tried p f s v cs) (cases_tried p g s v cs) (cases_more p f g h s v cs))
 
-value_more : (o : Outcome Tree) (f g : Tree → Outcome (List Thing)) → ((v : Tree) → Refines (f v) (g v)) → Refines (after o f) (after o g)
+value_more : (o : Outcome Tree) (f g : Tree → Outcome (List Product)) → ((v : Tree) → Refines (f v) (g v)) → Refines (after o f) (after o g)
 value_more o f g h = after_more o o f g (same o) h
 
 part_more : (p : Prices) (f g : Unfolder) → RefinesAll f g → (t : List ℕ) (l : Label) (ts : Trees) → Refines (part_unfolded p f t l ts) (part_unfolded p g t l ts)

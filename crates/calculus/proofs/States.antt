@@ -1,15 +1,12 @@
 -- More room leaves a state as it is, so there is one at most.
 use Rattle.std.proofs.Common.{◌≡◌, ◌≤◌, ℕ, ◌+◌, List, [], ◌∷◌, ◌++◌, refl, sym, ◌∙◌, subst, arith}
 use Rattle.std.specs.Prelude.{Option, Some, None, option_map, option_and_then}
-use Rattle.calculus.specs.Tree.{Tree}
 use Rattle.calculus.specs.Outcome.{Prices}
-use Rattle.calculus.specs.Seeds.{digest_of, Start, Comm}
+use Rattle.calculus.specs.Seeds.{digest_of, Comm}
 use Rattle.calculus.specs.Log.{Step}
-use Rattle.calculus.specs.Rows.{Row}
-use Rattle.calculus.specs.Root.{root}
 use Rattle.calculus.specs.Unfolding.{unfold_in}
 use Rattle.calculus.specs.Steps.{Meeting, meeting}
-use Rattle.calculus.specs.Runs.{State, body_work, moved, step_from, steps_from, begun, first_state, state_after, Leads}
+use Rattle.calculus.specs.Runs.{Deploy, source_seed, State, body_work, moved, step_from, steps_from, begun, first_state, state_after, Leads}
 use Rattle.calculus.specs.Laws.{RoomKeepsWork, OneUnfolding, RoomKeepsState, OneState}
 use Rattle.calculus.proofs.Room.{under_more, unfold_more, capped_more}
 
@@ -51,17 +48,16 @@ steps_keep : (p : Prices) (cap n m : ℕ) → n ≤ m → (a : State) (ss : List
 steps_keep p cap n m h a [] = same_keeps (Some a)
 steps_keep p cap n m h a (s ∷ ss) = then_keeps _ _ (step_from p cap n a s) (step_from p cap m a s) (step_keeps p cap n m h a s) (λ b. steps_keep p cap n m h b ss)
 
-pub first_keeps : (p : Prices) (cap n m : ℕ) → n ≤ m → (rows : List Row) (t : Tree) (source : List ℕ) → Keeps (first_state p cap n rows t source) (first_state p cap m rows t source)
-first_keeps p cap n m h rows t source =
-    map_keeps (begun rows) _ _ (λ w e. room_keeps_work p cap n m t (digest_of (Start (root rows) source)) w h e)
+pub first_keeps : (d : Deploy) (n m : ℕ) → n ≤ m → Keeps (first_state d n) (first_state d m)
+first_keeps d n m h = map_keeps (begun d.rows) _ _ (λ w e. room_keeps_work d.prices d.limit n m d.process (source_seed d) w h e)
 
 pub room_keeps_state : RoomKeepsState
-room_keeps_state p cap n m rows t source ss a h e =
-    then_keeps _ _ (first_state p cap n rows t source) (first_state p cap m rows t source) (first_keeps p cap n m h rows t source) (λ b. steps_keep p cap n m h b ss) a e
+room_keeps_state d n m ss a h e =
+    then_keeps _ _ (first_state d n) (first_state d m) (first_keeps d n m h) (λ b. steps_keep d.prices d.limit n m h b ss) a e
 
 pub one_state : OneState
-one_state p cap rows t source ss a b h k =
-    some_one a b (sym (room_keeps_state p cap h.0 (h.0 + k.0) rows t source ss a (omega arith) h.1) ∙ room_keeps_state p cap k.0 (h.0 + k.0) rows t source ss b (omega arith) k.1)
+one_state d ss a b h k =
+    some_one a b (sym (room_keeps_state d h.0 (h.0 + k.0) ss a (omega arith) h.1) ∙ room_keeps_state d k.0 (h.0 + k.0) ss b (omega arith) k.1)
 
 -- what a function makes a value of, it makes it of some value
 pub mapped : {A B : Type 0} (f : A → B) (x : Option A) (v : B) → option_map f x ≡ Some v → (a : A) × ((x ≡ Some a) × (f a ≡ v))
@@ -69,11 +65,11 @@ mapped f None v e = cc e
 mapped f (Some a) v e = (a, (refl, cc e))
 
 -- what is computed in one room is so wherever the steps lead
-pub anyhow : {B : Type 0} (p : Prices) (cap room : ℕ) (rows : List Row) (t : Tree) (source : List ℕ) (ss : List Step) (f : State → B) (v : B)
-    → option_map f (state_after p cap room rows t source ss) ≡ Some v → (a : State) → Leads p cap rows t source ss a → f a ≡ v
-anyhow p cap room rows t source ss f v e a l =
-    let m = mapped f (state_after p cap room rows t source ss) v e in
-    subst (λ b. f b ≡ v) (one_state p cap rows t source ss m.0 a (room, m.1.0) l) m.1.1
+pub anyhow : {B : Type 0} (d : Deploy) (room : ℕ) (ss : List Step) (f : State → B) (v : B)
+    → option_map f (state_after d room ss) ≡ Some v → (a : State) → Leads d ss a → f a ≡ v
+anyhow d room ss f v e a l =
+    let m = mapped f (state_after d room ss) v e in
+    subst (λ b. f b ≡ v) (one_state d ss m.0 a (room, m.1.0) l) m.1.1
 
 -- what holds before a step and after it holds wherever it is on the way
 pub on_the_way : (P : List Step → Type 0) (s : Step) → P [] → P (s ∷ []) → (first rest : List Step) → s ∷ [] ≡ first ++ rest → P first

@@ -1,5 +1,7 @@
--- A finite list of steps that decides whether any step is allowed.
-use Rattle.std.specs.Prelude.{ℕ, zero, suc, Bool, true, false, not, ◌&&◌, ◌||◌, List, [], ◌∷◌, length, map as each, flat_map, count_by, Option, Some, None, is_none}
+-- A finite list of steps that decides whether any step is allowed, and the least step that is.
+use Rattle.std.specs.Prelude.{◌≡◌, ℕ, zero, suc, Bool, true, false, cond, not, ◌&&◌, ◌||◌, List, [], ◌∷◌, length, map as each, flat_map, count_by, Option, Some, None, is_none, IsSome}
+use Rattle.std.specs.Str.{bytes_eq}
+use Rattle.calculus.specs.Order.{up_to}
 use Rattle.calculus.specs.Outcome.{Prices}
 use Rattle.calculus.specs.Log.{Step}
 use Rattle.calculus.specs.Rows.{Row}
@@ -28,6 +30,17 @@ candidates b made = flat_map (λ r. row_steps (standing b) made r (as_receiver r
 abbrev pub none_allowed : Bag → List Step → List Step → Bool
 none_allowed b made [] = true
 none_allowed b made (s ∷ ss) = is_none (meeting b made s) && none_allowed b made ss
+
+-- whether a list of ids is no greater than another: the first two that differ decide
+abbrev pub ids_up_to : List (List ℕ) → List (List ℕ) → Bool
+ids_up_to [] ys = true
+ids_up_to (x ∷ xs) [] = false
+ids_up_to (x ∷ xs) (y ∷ ys) = cond (bytes_eq x y) (ids_up_to xs ys) (up_to x y)
+
+-- a step is the least that is allowed in a bag after these steps, by its receiver and then its data
+pub record IsLeastAllowed (b : Bag) (made : List Step) (s : Step) : Type 0 where
+  pub allowed : IsSome (meeting b made s)
+  pub least : (u : Step) → IsSome (meeting b made u) → ids_up_to (s.receiver ∷ s.data_ids) (u.receiver ∷ u.data_ids) ≡ true
 
 -- whether a verdict is done
 abbrev pub is_done : Verdict → Bool

@@ -10,7 +10,7 @@ use Rattle.calculus.specs.Examples.{whole, num, word, nil, the_var, the_name, op
 use Rattle.calculus.specs.Log.{Step}
 use Rattle.calculus.specs.Root.{root}
 use Rattle.calculus.specs.Candidates.{has_ended}
-use Rattle.calculus.specs.Runs.{State, Verdict, done, exhausted, faulted, verdict, cost, next_rows, state_after}
+use Rattle.calculus.specs.Runs.{deploy_of, State, Verdict, done, exhausted, faulted, verdict, cost, next_rows, state_after}
 
 -- the source of the first path
 abbrev pub first_path_source : Tree
@@ -30,21 +30,37 @@ result_of cap a = (verdict prices cap a, (cost prices cap a, root (next_rows [] 
 
 -- these steps of a deploy of a process under a limit, from the empty checkpoint, come to this verdict, this cost and this root
 abbrev pub Comes : ℕ → Tree → List ℕ → List Step → Verdict → ℕ → List ℕ → Type 0
-Comes cap t source ss v n r = option_map (result_of cap) (state_after prices cap 9 [] t source ss) ≡ Some (v, (n, r))
+Comes cap t source ss v n r = option_map (result_of cap) (state_after (deploy_of prices cap [] t source) 9 ss) ≡ Some (v, (n, r))
 
 -- these steps are allowed one after another
 abbrev pub IsAllowed : ℕ → Tree → List ℕ → List Step → Type 0
-IsAllowed cap t source ss = is_some (state_after prices cap 9 [] t source ss) ≡ true
+IsAllowed cap t source ss = is_some (state_after (deploy_of prices cap [] t source) 9 ss) ≡ true
 
 -- these steps are not allowed one after another, though there is room for the source's unfolding
 abbrev pub IsRefused : ℕ → Tree → List ℕ → List Step → Type 0
-IsRefused cap t source ss = (is_some (state_after prices cap 9 [] t source []) ≡ true) × (is_some (state_after prices cap 9 [] t source ss) ≡ false)
+IsRefused cap t source ss = (is_some (state_after (deploy_of prices cap [] t source) 9 []) ≡ true) × (is_some (state_after (deploy_of prices cap [] t source) 9 ss) ≡ false)
 
 -- whether a run may end after these steps
 abbrev pub HasEnded : ℕ → Tree → List ℕ → List Step → Bool → Type 0
-HasEnded cap t source ss b = option_map (has_ended prices cap) (state_after prices cap 9 [] t source ss) ≡ Some b
+HasEnded cap t source ss b = option_map (has_ended prices cap) (state_after (deploy_of prices cap [] t source) 9 ss) ≡ Some b
 
--- verdicts, costs and roots, and which steps are allowed
+-- the process of a source that prints a string and awaits the answer
+abbrev pub printing_process : Tree
+printing_process = only (one (new (origins.StdoutAck ∷ origins.Plain ∷ [])) (process (sent (the_name 1) (word (codes "a") ∷ the_name 0 ∷ []) ∷ heard (on (the_name 0) (thin (leaf any) ∷ []) ∷ []) (only (sent (num 2) (num 1 ∷ []))) ∷ [])))
+
+-- the digest of its text
+abbrev pub printing_digest : List ℕ
+printing_digest = hex (codes "fdf4dd0e06819257a724e7854f5b72a75505fc7457974a3b70fe0d63bdcfc6ff")
+
+-- its two steps
+abbrev pub printing_steps : List Step
+printing_steps = step (hex (codes "4e36f68d37c6e981c7299780de2efe2b3cef526ce317fae6a64c256328ba9905")) (hex (codes "111ddf502b3fea361535c4f8e931beff32566ca978d870a793cec389b4eccd50") ∷ []) 0 ∷ step (hex (codes "61e118cbafbd4c8d925e4003a689bd414c2cdf129726576a8828eb42f4074019")) (hex (codes "f64e3f49a2622057a4a3cff7222d8ed402ec385a4ef9968832bd48cfc6694294") ∷ []) 0 ∷ []
+
+-- these steps of a deploy of a process under a limit, from the empty checkpoint, print this text
+abbrev pub Prints : ℕ → Tree → List ℕ → List Step → List ℕ → Type 0
+Prints cap t source ss text = option_map (λ a. a.output) (state_after (deploy_of prices cap [] t source) 9 ss) ≡ Some text
+
+-- verdicts, costs and roots, what is printed, and which steps are allowed
 pub record RunExamples : Type 0 where
   -- `new c in { c!(5) | for (@x <- c) { @"out"!(x) } }` with a limit of 22
   pub first_path : Comes 22 first_path_source first_path_digest (first_path_step ∷ []) done 22 (hex (codes "6f62476791fb224f244f82b68b5997bde5a2d543e06d46dd4bc4e40369e948a1"))
@@ -61,7 +77,11 @@ pub record RunExamples : Type 0 where
   -- `@1!(7) | for (@x <<- @1) { @2!(x) }` leaves the datum
   pub peek : Comes 1000 (process (sent (num 1) (num 7 ∷ []) ∷ two (receive kinds.Peek) (many row (on (num 1) (a_var ∷ []) ∷ [])) (only (sent (num 2) (the_var 0 ∷ []))) ∷ [])) (hex (codes "98645435006b910129450d942232d6f03f3445f5abd515bc23dc23c23695cd79")) (step (hex (codes "96777cd5ef0740566f42d7716b91fc57565d8488ccbffb9b24789824d855a0b1")) (hex (codes "da821afabd223d0d388857bf95d9bf37e2b55584b75e41fc615decf05b269ff8") ∷ []) 0 ∷ []) done 20 (hex (codes "1de793d647c43770f9023d1a1f20018ed5a7c2d4e7b0049169221653b774311b"))
   -- ``new out(`rho:io:stdoutAck`), ack in { out!("a", *ack) | for (_ <- ack) { @2!(1) } }``
-  pub printing : Comes 1000 (only (one (new (origins.StdoutAck ∷ origins.Plain ∷ [])) (process (sent (the_name 1) (word (codes "a") ∷ the_name 0 ∷ []) ∷ heard (on (the_name 0) (thin (leaf any) ∷ []) ∷ []) (only (sent (num 2) (num 1 ∷ []))) ∷ [])))) (hex (codes "fdf4dd0e06819257a724e7854f5b72a75505fc7457974a3b70fe0d63bdcfc6ff")) (step (hex (codes "4e36f68d37c6e981c7299780de2efe2b3cef526ce317fae6a64c256328ba9905")) (hex (codes "111ddf502b3fea361535c4f8e931beff32566ca978d870a793cec389b4eccd50") ∷ []) 0 ∷ step (hex (codes "61e118cbafbd4c8d925e4003a689bd414c2cdf129726576a8828eb42f4074019")) (hex (codes "f64e3f49a2622057a4a3cff7222d8ed402ec385a4ef9968832bd48cfc6694294") ∷ []) 0 ∷ []) done 37 (hex (codes "ffa34c94d975e4eb500ff47d4fa19fe04fb78ef9cad1deb89228c7669ac594aa"))
+  pub printing : Comes 1000 printing_process printing_digest printing_steps done 37 (hex (codes "ffa34c94d975e4eb500ff47d4fa19fe04fb78ef9cad1deb89228c7669ac594aa"))
+  -- and prints its string
+  pub prints_a_line : Prints 1000 printing_process printing_digest printing_steps (codes "\"a\"\n")
+  -- before its steps nothing is printed
+  pub prints_nothing_yet : Prints 1000 printing_process printing_digest [] []
   -- `@1!(0) | for (@x <- @1) { @2!(1 / x) }`
   pub body_faults : Comes 1000 (process (sent (num 1) (num 0 ∷ []) ∷ heard (on (num 1) (a_var ∷ []) ∷ []) (only (sent (num 2) (op_on op.Div (num 1) (the_var 0) ∷ []))) ∷ [])) (hex (codes "1e1b0a6e99a1206d3e19dbc4f76a3aea6832645bca4b54e9fcfbe57ebbebd06d")) (step (hex (codes "4b78db2b67b3643bda639fedfc5b02a94d1a4604deebc98e3fb694767311bd4b")) (hex (codes "a5daade9b12a3bcfc1ece23d571c409ca3527d4f70dcbfcda68e15c6bc77416b") ∷ []) 0 ∷ []) (faulted (Some 0) fault.DivZero) 18 zeros
   -- `1 / 0`

@@ -7,11 +7,10 @@ use Rattle.calculus.specs.Congruence.{congruent}
 use Rattle.calculus.specs.Outcome.{Prices, within, pure, capped}
 use Rattle.calculus.specs.Matching.{all_matches}
 use Rattle.calculus.specs.Log.{Step}
-use Rattle.calculus.specs.Rows.{Row}
 use Rattle.calculus.specs.Unfolding.{unfold_in, Unfolds}
 use Rattle.calculus.specs.Steps.{Bag, differ, meeting}
 use Rattle.calculus.specs.Candidates.{candidates, none_allowed, has_ended}
-use Rattle.calculus.specs.Runs.{Work, State, Allowed, state_after, Leads, IsEnd}
+use Rattle.calculus.specs.Runs.{Deploy, Work, State, Allowed, state_after, Leads, IsEnd}
 
 -- each tree is congruent to itself
 abbrev pub CongruenceIsReflexive : Type 0
@@ -35,11 +34,11 @@ OneUnfolding = (p : Prices) (cap : ℕ) (t : Tree) (s : List ℕ) (v w : Work) �
 
 -- more room for a list of steps leaves the state that it leads to as it is
 abbrev pub RoomKeepsState : Type 0
-RoomKeepsState = (p : Prices) (cap n m : ℕ) (rows : List Row) (t : Tree) (source : List ℕ) (ss : List Step) (a : State) → n ≤ m → state_after p cap n rows t source ss ≡ Some a → state_after p cap m rows t source ss ≡ Some a
+RoomKeepsState = (d : Deploy) (n m : ℕ) (ss : List Step) (a : State) → n ≤ m → state_after d n ss ≡ Some a → state_after d m ss ≡ Some a
 
 -- a list of steps leads to one state at most
 abbrev pub OneState : Type 0
-OneState = (p : Prices) (cap : ℕ) (rows : List Row) (t : Tree) (source : List ℕ) (ss : List Step) (a b : State) → Leads p cap rows t source ss a → Leads p cap rows t source ss b → a ≡ b
+OneState = (d : Deploy) (ss : List Step) (a b : State) → Leads d ss a → Leads d ss b → a ≡ b
 
 -- the data of an allowed step differ
 abbrev pub DataDiffer : Type 0

@@ -24,13 +24,14 @@ pub mod Operators
 pub mod Methods
 pub mod Values
 pub mod Matching
+pub mod Printed
 pub mod Rows
 pub mod Unfolding
 pub mod Root
+pub mod Storing
 pub mod Steps
 pub mod Runs
 pub mod Candidates
-pub mod Printed
 pub mod Laws
 pub mod Examples
 pub mod ExamplesValues
@@ -39,6 +40,7 @@ pub mod ExamplesUnfoldings
 pub mod ExamplesRuns
 pub mod ExamplesPrinted
 pub mod ExamplesSteps
+pub mod ExamplesStoring
 pub mod ExamplesBare
 pub mod ExamplesCongruence
 pub mod ExamplesForm

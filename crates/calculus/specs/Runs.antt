@@ -7,23 +7,39 @@ use Rattle.calculus.specs.Seeds.{digest_of, Start, Comm}
 use Rattle.calculus.specs.Log.{Step}
 use Rattle.calculus.specs.Rows.{Row}
 use Rattle.calculus.specs.Root.{root}
-use Rattle.calculus.specs.Unfolding.{Thing, rows_of, digest, unfold_in, unfold_under}
-use Rattle.calculus.specs.Steps.{Bag, Meeting, meeting, bag_after, stored_rows}
+use Rattle.calculus.specs.Unfolding.{Product, rows_of, digest, unfold_in, unfold_under}
+use Rattle.calculus.specs.Steps.{Bag, Meeting, meeting, printed_line, bag_after, stored_rows}
+
+-- a deploy: its prices and its limit, the rows of the checkpoint that it starts from, its process, and the digest of its source
+pub record Deploy : Type 0 where
+  pub prices : Prices
+  pub limit : ℕ
+  pub rows : List Row
+  pub process : Tree
+  pub source : List ℕ
+
+-- the deploy of these
+abbrev pub deploy_of : Prices → ℕ → List Row → Tree → List ℕ → Deploy
+deploy_of p cap rows t source = record { prices = p; limit = cap; rows = rows; process = t; source = source }
+
+-- the seed that the process of a deploy is unfolded with
+abbrev pub source_seed : Deploy → List ℕ
+source_seed d = digest_of (Start (root d.rows) d.source)
 
 -- what an unfolding comes to under the cap
 abbrev pub Work : Type 0
-Work = Capped (List Thing)
+Work = Capped (List Product)
 
 -- what an answer makes: nothing with a fault
-abbrev pub answer_things : Answer (List Thing) → List Thing
-answer_things (gives ts) = ts
-answer_things (fails f) = []
-answer_things unknown = []
+abbrev pub answer_products : Answer (List Product) → List Product
+answer_products (gives ts) = ts
+answer_products (fails f) = []
+answer_products unknown = []
 
 -- what work makes: nothing beyond the cap
-abbrev pub work_things : Work → List Thing
-work_things over = []
-work_things (within o) = answer_things o.answer
+abbrev pub work_products : Work → List Product
+work_products over = []
+work_products (within o) = answer_products o.answer
 
 -- the price of work under this cap: one more than the cap beyond it
 abbrev pub work_price : ℕ → Work → ℕ
@@ -31,7 +47,7 @@ work_price cap over = cap + 1
 work_price cap (within o) = o.price
 
 -- the fault of an answer
-abbrev pub answer_fault : Answer (List Thing) → Option FaultKind
+abbrev pub answer_fault : Answer (List Product) → Option FaultKind
 answer_fault (gives ts) = None
 answer_fault (fails f) = Some f
 answer_fault unknown = None
@@ -41,11 +57,12 @@ abbrev pub work_fault : Work → Option FaultKind
 work_fault over = None
 work_fault (within o) = answer_fault o.answer
 
--- what a list of steps has come to: the bag, the steps made, and the work of the source and of each step's body, in order
+-- what a list of steps has come to: the bag, the steps made, the work of the source and of each step's body, in order, and what was printed
 pub record State : Type 0 where
   pub bag : Bag
   pub made : List Step
   pub works : List Work
+  pub output : List ℕ
 
 -- a step is allowed in a state
 abbrev pub Allowed : State → Step → Type 0
@@ -57,7 +74,7 @@ body_work p cap room s m = capped cap (unfold_under (unfold_in p room) (digest_o
 
 -- the state after a step that is made so and whose body comes to this
 abbrev pub moved : State → Step → Meeting → Work → State
-moved a s m w = record { bag = bag_after a.bag m (rows_of (work_things w)); made = a.made ++ s ∷ []; works = a.works ++ w ∷ [] }
+moved a s m w = record { bag = bag_after a.bag m (rows_of (work_products w)); made = a.made ++ s ∷ []; works = a.works ++ w ∷ []; output = a.output ++ printed_line a.bag m }
 
 -- the state after a step, where it is allowed and this room is enough
 abbrev pub step_from : Prices → ℕ → ℕ → State → Step → Option State
@@ -70,23 +87,23 @@ steps_from p cap room a (s ∷ ss) = option_and_then (λ b. steps_from p cap roo
 
 -- the state before the first step, where the source comes to this
 abbrev pub begun : List Row → Work → State
-begun rows w = record { bag = record { kept = rows; offered = rows_of (work_things w) }; made = []; works = w ∷ [] }
+begun rows w = record { bag = record { kept = rows; offered = rows_of (work_products w) }; made = []; works = w ∷ []; output = [] }
 
--- the state before the first step, from a checkpoint's rows, a process and the digest of its source, where this room is enough
-abbrev pub first_state : Prices → ℕ → ℕ → List Row → Tree → List ℕ → Option State
-first_state p cap room rows t source = option_map (begun rows) (capped cap (unfold_in p room t (digest_of (Start (root rows) source))))
+-- the state of a deploy before its first step, where this room is enough
+abbrev pub first_state : Deploy → ℕ → Option State
+first_state d room = option_map (begun d.rows) (capped d.limit (unfold_in d.prices room d.process (source_seed d)))
 
--- the state after a list of steps from there, where the list is legal and this room is enough
-abbrev pub state_after : Prices → ℕ → ℕ → List Row → Tree → List ℕ → List Step → Option State
-state_after p cap room rows t source ss = option_and_then (λ a. steps_from p cap room a ss) (first_state p cap room rows t source)
+-- the state of a deploy after a list of steps, where the list is legal and this room is enough
+abbrev pub state_after : Deploy → ℕ → List Step → Option State
+state_after d room ss = option_and_then (λ a. steps_from d.prices d.limit room a ss) (first_state d room)
 
--- a list of steps from there leads to this state
-abbrev pub Leads : Prices → ℕ → List Row → Tree → List ℕ → List Step → State → Type 0
-Leads p cap rows t source ss a = (room : ℕ) × state_after p cap room rows t source ss ≡ Some a
+-- a list of steps of a deploy leads to this state
+abbrev pub Leads : Deploy → List Step → State → Type 0
+Leads d ss a = (room : ℕ) × state_after d room ss ≡ Some a
 
--- a list of steps is legal: each is allowed after those before it
-abbrev pub IsLegal : Prices → ℕ → List Row → Tree → List ℕ → List Step → Type 0
-IsLegal p cap rows t source ss = (a : State) × Leads p cap rows t source ss a
+-- a list of steps of a deploy is legal: each is allowed after those before it
+abbrev pub IsLegal : Deploy → List Step → Type 0
+IsLegal d ss = (a : State) × Leads d ss a
 
 -- the price of all work and steps so far
 abbrev pub total : Prices → ℕ → State → ℕ
@@ -130,11 +147,11 @@ next_rows rows _ b = rows
 abbrev pub IsEnd : Prices → ℕ → State → Type 0
 IsEnd p cap a = verdict p cap a ≡ done → (s : Step) → meeting a.bag a.made s ≡ None
 
--- a run: a list of steps that leads to such a state
-pub record IsRun (p : Prices) (cap : ℕ) (rows : List Row) (t : Tree) (source : List ℕ) (ss : List Step) (a : State) : Type 0 where
-  pub leads : Leads p cap rows t source ss a
-  pub ends : IsEnd p cap a
+-- a run of a deploy: a list of steps that leads to such a state
+pub record IsRun (d : Deploy) (ss : List Step) (a : State) : Type 0 where
+  pub leads : Leads d ss a
+  pub ends : IsEnd d.prices d.limit a
 
 -- the ids and fresh names that the source and the bodies of the steps made
 abbrev pub made_digests : State → List (List ℕ)
-made_digests a = flat_map (λ w. each digest (work_things w)) a.works
+made_digests a = flat_map (λ w. each digest (work_products w)) a.works

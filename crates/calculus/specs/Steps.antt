@@ -7,6 +7,7 @@ use Rattle.calculus.specs.Tree.{send, receive, Tree, node}
 use Rattle.calculus.specs.Shape.{held, listed, at}
 use Rattle.calculus.specs.Congruence.{congruent}
 use Rattle.calculus.specs.Matching.{Bindings, bind_matches, first_of_all}
+use Rattle.calculus.specs.Printed.{printed_text}
 use Rattle.calculus.specs.Log.{Step}
 use Rattle.calculus.specs.Rows.{Row, stdout, stdout_ack}
 
@@ -24,16 +25,16 @@ abbrev pub stored_rows : Bag → List Row
 stored_rows b = b.kept ++ b.offered
 
 -- a row with its place among those of a bag
-abbrev pub Held : Type 0
-Held = ℕ × Row
+abbrev pub PlacedRow : Type 0
+PlacedRow = ℕ × Row
 
 -- the rows with this id, with their places, the first of these rows having place i
-abbrev pub with_id : List ℕ → ℕ → List Row → List Held
+abbrev pub with_id : List ℕ → ℕ → List Row → List PlacedRow
 with_id x i [] = []
 with_id x i (r ∷ rs) = cond (bytes_eq x r.id) ((i, r) ∷ with_id x (suc i) rs) (with_id x (suc i) rs)
 
 -- all choices of a row for each id, the oldest row first and the last id's choice changing fastest
-abbrev pub row_choices : List Row → List (List ℕ) → List (List Held)
+abbrev pub row_choices : List Row → List (List ℕ) → List (List PlacedRow)
 row_choices b [] = [] ∷ []
 row_choices b (x ∷ xs) = flat_map (λ r. each (λ rs. r ∷ rs) (row_choices b xs)) (with_id x 0 b)
 
@@ -70,25 +71,26 @@ as_datum (node (send q) ts) = Some (record { persistent = q; channel = at 0 (lis
 as_datum _ = None
 
 -- these rows as data, where each is one
-abbrev pub as_data : List Held → Option (List Datum)
+abbrev pub as_data : List PlacedRow → Option (List Datum)
 as_data [] = Some []
 as_data (h ∷ hs) = option_and_then (λ d. option_and_then (λ ds. Some (d ∷ ds)) (as_data hs)) (as_datum h.1.part)
 
 -- what a bind's first match binds of a datum on a congruent channel
-abbrev pub taken : Tree → Datum → Option Bindings
-taken b d = cond (congruent (at 0 (held b)) d.channel) (first_of_all (bind_matches b d.args)) None
+abbrev pub bindings_of : Tree → Datum → Option Bindings
+bindings_of b d = cond (congruent (at 0 (held b)) d.channel) (first_of_all (bind_matches b d.args)) None
 
 -- what binds bind of as many data, one bind after another
-abbrev pub all_taken : List Tree → List Datum → Option Bindings
-all_taken [] [] = Some []
-all_taken [] (d ∷ ds) = None
-all_taken (b ∷ bs) [] = None
-all_taken (b ∷ bs) (d ∷ ds) = option_and_then (λ xs. option_and_then (λ ys. Some (xs ++ ys)) (all_taken bs ds)) (taken b d)
+abbrev pub all_bindings : List Tree → List Datum → Option Bindings
+all_bindings [] [] = Some []
+all_bindings [] (d ∷ ds) = None
+all_bindings (b ∷ bs) [] = None
+all_bindings (b ∷ bs) (d ∷ ds) = option_and_then (λ xs. option_and_then (λ ys. Some (xs ++ ys)) (all_bindings bs ds)) (bindings_of b d)
 
--- a receiver with data that its binds match: what is bound, and the places of the rows that leave
+-- a receiver with data that its binds match: the receiver's place, what is bound, and the places of the rows that leave
 pub record Meeting : Type 0 where
   pub receiver : Receiver
-  pub facts : List Datum
+  pub place : ℕ
+  pub sends : List Datum
   pub bindings : Bindings
   pub leaving : List ℕ
 
@@ -103,21 +105,21 @@ peeks kinds.Peek = true
 peeks _ = false
 
 -- the place of a receiver, where it leaves
-abbrev pub receiver_leaving : Kind → Held → List ℕ
+abbrev pub receiver_leaving : Kind → PlacedRow → List ℕ
 receiver_leaving k h = cond (stays k) [] (h.0 ∷ [])
 
 -- the places of the data that leave: linear ones, where the receiver does not peek
-abbrev pub data_leaving : Kind → List Held → List Datum → List ℕ
+abbrev pub data_leaving : Kind → List PlacedRow → List Datum → List ℕ
 data_leaving k [] ds = []
 data_leaving k (h ∷ hs) [] = []
 data_leaving k (h ∷ hs) (d ∷ ds) = cond (peeks k || d.persistent) (data_leaving k hs ds) (h.0 ∷ data_leaving k hs ds)
 
 -- a receiver's row with these rows, where they are data that its binds match
-abbrev pub meet : Held → List Held → Receiver → List Datum → Option Meeting
-meet h hs r ds = option_and_then (λ xs. Some (record { receiver = r; facts = ds; bindings = xs; leaving = receiver_leaving r.kind h ++ data_leaving r.kind hs ds })) (all_taken r.binds ds)
+abbrev pub meet : PlacedRow → List PlacedRow → Receiver → List Datum → Option Meeting
+meet h hs r ds = option_and_then (λ xs. Some (record { receiver = r; place = h.0; sends = ds; bindings = xs; leaving = receiver_leaving r.kind h ++ data_leaving r.kind hs ds })) (all_bindings r.binds ds)
 
 -- a choice of rows as a meeting: the first is the receiver, and the others are its data
-abbrev pub meet_rows : List Held → Option Meeting
+abbrev pub meet_rows : List PlacedRow → Option Meeting
 meet_rows [] = None
 meet_rows (h ∷ hs) = option_and_then (λ r. option_and_then (meet h hs r) (as_data hs)) (as_receiver h.1.part)
 
@@ -138,10 +140,10 @@ all_persistent (d ∷ ds) = d.persistent && all_persistent ds
 
 -- whether a step's repeat number is right after these steps: how often the very same step was made, and 0 unless the receiver and all its data are persistent
 abbrev pub right_repeat : List Step → Step → Meeting → Bool
-right_repeat made s m = eqb s.repeat (count_by (same_meeting s) made) && (eqb s.repeat 0 || (stays m.receiver.kind && all_persistent m.facts))
+right_repeat made s m = eqb s.repeat (count_by (same_meeting s) made) && (eqb s.repeat 0 || (stays m.receiver.kind && all_persistent m.sends))
 
 -- a choice of rows for a step after these steps, where they meet and the repeat number is right
-abbrev pub meet_for : List Step → Step → List Held → Option Meeting
+abbrev pub meet_for : List Step → Step → List PlacedRow → Option Meeting
 meet_for made s hs = option_and_then (λ m. cond (right_repeat made s m) (Some m) None) (meet_rows hs)
 
 -- the first of these that is there
@@ -153,6 +155,18 @@ first_there (Some x ∷ xs) = Some x
 -- how a step is made in a bag after these steps, where it is allowed: its data differ, and some choice of rows meets, of which the first counts
 unfoldable pub meeting : Bag → List Step → Step → Option Meeting
 meeting b made s = cond (differ s.data_ids) (first_there (each (meet_for made s) (row_choices (standing b) (s.receiver ∷ s.data_ids)))) None
+
+-- whether a meeting in this bag has a built-in receiver, which is known by its place
+abbrev pub is_built_in : Bag → Meeting → Bool
+is_built_in b m = eqb m.place (length b.kept) || eqb m.place (suc (length b.kept))
+
+-- the line of a value
+abbrev pub line : Tree → List ℕ
+line t = printed_text t ++ 10 ∷ []
+
+-- what a step prints that is made so in this bag: the line of the value that a built-in receiver takes
+abbrev pub printed_line : Bag → Meeting → List ℕ
+printed_line b m = cond (is_built_in b m) (line (at 0 m.bindings)) []
 
 -- whether a place is one of these
 abbrev pub has_place : List ℕ → ℕ → Bool

@@ -21,18 +21,18 @@ use Rattle.calculus.specs.Seeds.{digest_of, Split, Body, Fresh}
 use Rattle.calculus.specs.Values.{value, values}
 
 -- what an unfolding makes: a row that it offers, or a fresh name
-pub data Thing : Type 0 where
-  a_row : Row → Thing
-  a_fresh : List ℕ → Thing
+pub data Product : Type 0 where
+  a_row : Row → Product
+  a_fresh : List ℕ → Product
 
 -- the rows among these
-abbrev pub rows_of : List Thing → List Row
+abbrev pub rows_of : List Product → List Row
 rows_of [] = []
 rows_of (a_row r ∷ ts) = r ∷ rows_of ts
 rows_of (a_fresh x ∷ ts) = rows_of ts
 
 -- the digest that a thing is known by: an id or a fresh name
-abbrev pub digest : Thing → List ℕ
+abbrev pub digest : Product → List ℕ
 digest (a_row r) = r.id
 digest (a_fresh x) = x
 
@@ -64,15 +64,15 @@ opened (node par (also (node (bundle r) (also t none)) none)) = bundled r (opene
 opened t = record { name = t; writable = true; readable = true }
 
 -- a row within the limits, or its fault: its part is too deep, or else its code is too big
-abbrev pub row_limits : Row → Answer (List Thing)
+abbrev pub row_limits : Row → Answer (List Product)
 row_limits r = cond (ltb 400 (height r.part)) (fails fault.TooDeep) (cond (ltb 1048576 (row_length r)) (fails fault.TooBig) (gives (a_row r ∷ [])))
 
 -- a row offered at this price and a price for each byte of its code, and then this answer
-abbrev pub offered : ℕ → ℕ → Row → Answer (List Thing) → Outcome (List Thing)
+abbrev pub offered : ℕ → ℕ → Row → Answer (List Product) → Outcome (List Product)
 offered base byte r a = charged (base + byte * row_length r) (free a)
 
 -- a send with this id on this channel with these arguments
-abbrev pub send_offered : Prices → List ℕ → Bool → Channel → List Tree → Outcome (List Thing)
+abbrev pub send_offered : Prices → List ℕ → Bool → Channel → List Tree → Outcome (List Product)
 send_offered p t q c xs =
     let r : Row = record { id = t; part = two (send q) c.name (many row xs) } in
     offered p.send p.byte r (cond c.writable (row_limits r) (fails fault.NotWritable))
@@ -136,7 +136,7 @@ sorted_receive k bs body =
     two (receive k) (many row (each (λ b. b.0) s)) (renumber (new_index (all_places s)) body)
 
 -- a receive with this id on these channels with these binds and this body
-abbrev pub receive_offered : Prices → List ℕ → Kind → List Channel → List Tree → Tree → Outcome (List Thing)
+abbrev pub receive_offered : Prices → List ℕ → Kind → List Channel → List Tree → Tree → Outcome (List Product)
 receive_offered p t k cs bs body =
     let r : Row = record { id = t; part = sorted_receive k (on_channels cs bs) body } in
     offered p.receive p.byte r (cond (all_readable cs) (cond (has_twins (each (λ c. c.name) cs)) (fails fault.SameChannel) (row_limits r)) (fails fault.NotReadable))
@@ -157,39 +157,39 @@ names_made t k [] = []
 names_made t k (o ∷ os) = name_made t k o ∷ names_made t (suc k) os
 
 -- the fresh names among them: those of names without a URI
-abbrev pub fresh_names : List ℕ → ℕ → List Origin → List Thing
+abbrev pub fresh_names : List ℕ → ℕ → List Origin → List Product
 fresh_names t k [] = []
 fresh_names t k (origins.Plain ∷ os) = a_fresh (digest_of (Fresh t k)) ∷ fresh_names t (suc k) os
 fresh_names t k (o ∷ os) = fresh_names t (suc k) os
 
 -- how a process is unfolded with a seed
 abbrev pub Unfolder : Type 0
-Unfolder = Tree → List ℕ → Outcome (List Thing)
+Unfolder = Tree → List ℕ → Outcome (List Product)
 
 -- a process unfolded where it is within the limits
-abbrev pub unfold_within : Unfolder → List ℕ → Answer Tree → Outcome (List Thing)
+abbrev pub unfold_within : Unfolder → List ℕ → Answer Tree → Outcome (List Product)
 unfold_within again s (gives t) = again t s
 unfold_within again s (fails f) = free (fails f)
 unfold_within again s unknown = free unknown
 
 -- a body unfolded under bindings: they are put in, and the limits are tested
-abbrev pub unfold_under : Unfolder → List ℕ → List Tree → Tree → Outcome (List Thing)
+abbrev pub unfold_under : Unfolder → List ℕ → List Tree → Tree → Outcome (List Product)
 unfold_under again s vs body = unfold_within again s (within_limits (put vs body))
 
 -- the work of a case with this first match and this body, or else the next work
-abbrev pub fitting : Unfolder → List ℕ → Option Bindings → Tree → Outcome (List Thing) → Outcome (List Thing)
+abbrev pub fitting : Unfolder → List ℕ → Option Bindings → Tree → Outcome (List Product) → Outcome (List Product)
 fitting again s (Some vs) body next = unfold_under again s vs body
 fitting again s None body next = next
 
 -- a target tried against the cases in order, each at its price, up to the first that fits
-abbrev pub cases_tried : Prices → Unfolder → List ℕ → Tree → List Tree → Outcome (List Thing)
+abbrev pub cases_tried : Prices → Unfolder → List ℕ → Tree → List Tree → Outcome (List Product)
 cases_tried p again s v [] = pure []
 cases_tried p again s v (c ∷ cs) =
-    let next : Outcome (List Thing) = cases_tried p again s v cs in
+    let next : Outcome (List Product) = cases_tried p again s v cs in
     charged p.case (fitting again s (first_match (at 0 (held c)) v) (at 1 (held c)) next)
 
 -- what a part of this form with these constituents offers, with its seed t, where what it holds is unfolded so
-abbrev pub part_unfolded : Prices → Unfolder → List ℕ → Label → Trees → Outcome (List Thing)
+abbrev pub part_unfolded : Prices → Unfolder → List ℕ → Label → Trees → Outcome (List Product)
 part_unfolded p again t (send q) (also c (also (node l xs) none)) =
     after (value p c) (λ v. after (in_order (values p xs)) (λ vs. send_offered p t q (opened v) vs))
 part_unfolded p again t (receive k) (also (node l bs) (also body none)) =
@@ -209,11 +209,11 @@ part_unfolded p again t dict ts = after (value p (node dict ts)) (λ v. pure [])
 part_unfolded p again t l ts = pure []
 
 -- what a part offers, with its seed t
-abbrev pub unfold_part : Prices → Unfolder → List ℕ → Tree → Outcome (List Thing)
+abbrev pub unfold_part : Prices → Unfolder → List ℕ → Tree → Outcome (List Product)
 unfold_part p again t (node l ts) = part_unfolded p again t l ts
 
 -- what these parts offer under the seed s, the first of them part number i
-abbrev pub parts_unfolded : Prices → Unfolder → List ℕ → ℕ → List Tree → Outcome (List Thing)
+abbrev pub parts_unfolded : Prices → Unfolder → List ℕ → ℕ → List Tree → Outcome (List Product)
 parts_unfolded p again s i [] = pure []
 parts_unfolded p again s i (t ∷ ts) =
     after (unfold_part p again (digest_of (Split s i)) t) (λ rs. after (parts_unfolded p again s (suc i) ts) (λ qs. pure (rs ++ qs)))
@@ -224,9 +224,9 @@ unfold_in p zero t s = free unknown
 unfold_in p (suc room) t s = parts_unfolded p (unfold_in p room) s 0 (ascending (held t))
 
 -- a closed process with this seed comes to this under the cap, where there is room enough
-abbrev pub Unfolds : Prices → ℕ → Tree → List ℕ → Capped (List Thing) → Type 0
+abbrev pub Unfolds : Prices → ℕ → Tree → List ℕ → Capped (List Product) → Type 0
 Unfolds p cap t s w = (room : ℕ) × capped cap (unfold_in p room t s) ≡ Some w
 
 -- a body under these values, with this seed, comes to this under the cap, where there is room enough
-abbrev pub UnfoldsUnder : Prices → ℕ → List Tree → Tree → List ℕ → Capped (List Thing) → Type 0
+abbrev pub UnfoldsUnder : Prices → ℕ → List Tree → Tree → List ℕ → Capped (List Product) → Type 0
 UnfoldsUnder p cap vs body s w = (room : ℕ) × capped cap (unfold_under (unfold_in p room) s vs body) ≡ Some w

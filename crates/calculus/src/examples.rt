@@ -8,6 +8,7 @@ ghost use Rattle.calculus.specs.ExamplesValues.{ValueExamples};
 ghost use Rattle.calculus.specs.ExamplesMatches.{MatchExamples};
 ghost use Rattle.calculus.specs.ExamplesUnfoldings.{UnfoldingExamples};
 ghost use Rattle.calculus.specs.ExamplesSteps.{StepExamples};
+ghost use Rattle.calculus.specs.ExamplesStoring.{StoringExamples};
 ghost use Rattle.calculus.specs.ExamplesRuns.{RunExamples};
 ghost use Rattle.calculus.specs.ExamplesPrinted.{PrintedExamples};
 
@@ -49,6 +50,11 @@ pub fn unfolding_examples()
 /// Worked examples of allowed steps.
 pub fn step_examples()
     ensures examples { StepExamples }
+{}
+
+/// Worked examples of rows that may be stored.
+pub fn storing_examples()
+    ensures examples { StoringExamples }
 {}
 
 /// Worked examples of whole deploys, with SHA-256 computed.

@@ -1,6 +1,7 @@
 -- What a pattern binds of a closed process is closed, and so is a body with closed values put in.
 use Rattle.std.proofs.Common.{ℕ, zero, suc, List, [], ◌∷◌, reverse}
 use Rattle.std.specs.Prelude.{⊤}
+use Rattle.list_laws.proofs.Members.{Every, every-reverse}
 use Rattle.calculus.specs.declared.plain.Origin.{Origin}
 use Rattle.calculus.specs.declared.plain.Origin.TheVariants as origins
 use Rattle.calculus.specs.Tree.{par, row, bool, int, str, uri, bytes, fresh, list, tuple, set, dict, pair, send, receive, new, match, bundle, unary, binary, method, var, name_var, Tree, node, Trees, none, also}
@@ -9,10 +10,8 @@ use Rattle.calculus.specs.Form.{term, part, row_of, pair_of, all, IsDigest, Scop
 use Rattle.calculus.specs.Substitution.{put}
 use Rattle.calculus.specs.Matching.{Bindings, all_matches}
 use Rattle.calculus.specs.Unfolding.{write_only, names_made}
-use Rattle.calculus.proofs.Candidates.{Every}
 use Rattle.calculus.proofs.Closing.{put_closed}
 use Rattle.calculus.proofs.Digests.{digest-fits}
-use Rattle.unfolding_laws.proofs.Lists.{every-reverse}
 use Rattle.unfolding_laws.proofs.Patterns.{a_pat, IsTidy}
 use Rattle.unfolding_laws.proofs.Goodness.{a_term, a_part, a_pair, the_terms, each_is, IsGood, AreGoodKids, AreGood}
 use Rattle.unfolding_laws.proofs.Making.{HasCollections}

@@ -2,6 +2,7 @@
 use Rattle.std.proofs.Common.{◌≡◌, ℕ, zero, suc, Bool, true, false, cond, ltb, List, [], ◌∷◌, ◌++◌, length, reverse, map as each, refl, sym, ap, ◌∙◌, subst, arith}
 use Rattle.std.specs.Prelude.{⊤}
 use Rattle.std.proofs.lemmas.List.{length-map}
+use Rattle.list_laws.proofs.Members.{Every, every-append}
 use Rattle.calculus.specs.declared.fault.FaultKind.TheVariants as fault
 use Rattle.calculus.specs.declared.plain.Kind.{Kind}
 use Rattle.calculus.specs.declared.plain.Origin.{Origin}
@@ -19,8 +20,7 @@ use Rattle.calculus.specs.Seeds.{digest_of, Split, Body}
 use Rattle.calculus.specs.Values.{value, values}
 use Rattle.calculus.specs.Matching.{Bindings, first_of_all, all_matches}
 use Rattle.calculus.specs.Rows.{Row, row_length}
-use Rattle.calculus.specs.Unfolding.{Thing, a_row, a_fresh, Channel, opened, row_limits, send_offered, receive_offered, sorted_receive, on_channel, on_channels, all_readable, has_twins, names_made, fresh_names, unfold_within, fitting, cases_tried, unfold_part, parts_unfolded, unfold_in}
-use Rattle.calculus.proofs.Candidates.{Every, every-append}
+use Rattle.calculus.specs.Unfolding.{Product, a_row, a_fresh, Channel, opened, row_limits, send_offered, receive_offered, sorted_receive, on_channel, on_channels, all_readable, has_twins, names_made, fresh_names, unfold_within, fitting, cases_tried, unfold_part, parts_unfolded, unfold_in}
 use Rattle.calculus.proofs.Changed.{no_variables}
 use Rattle.calculus.proofs.Placing.{listed-trees, trees-listed}
 use Rattle.calculus.proofs.Results.{Gives, after-gives}
@@ -32,15 +32,15 @@ use Rattle.closed_row_laws.proofs.Closing.{FirstIsClosed, first-closed, put-clos
 use Rattle.closed_row_laws.proofs.Ordering.{IsBind, every-bind, hold-binds, sorted_receives_are_closed}
 
 -- a closed row, or a fresh name
-abbrev pub IsClosedThing : Thing → Type 0
+abbrev pub IsClosedThing : Product → Type 0
 IsClosedThing (a_row r) = Fits part [] r.part
 IsClosedThing (a_fresh x) = ⊤
 
 -- work that offers such things alone
-abbrev pub OffersClosed : Outcome (List Thing) → Type 0
+abbrev pub OffersClosed : Outcome (List Product) → Type 0
 OffersClosed o = Gives (Every IsClosedThing) o.answer
 
-chosen : (b : Bool) (x y : Answer (List Thing)) → Gives (Every IsClosedThing) x → Gives (Every IsClosedThing) y → Gives (Every IsClosedThing) (cond b x y)
+chosen : (b : Bool) (x y : Answer (List Product)) → Gives (Every IsClosedThing) x → Gives (Every IsClosedThing) y → Gives (Every IsClosedThing) (cond b x y)
 chosen true x y h k = h
 chosen false x y h k = k
 
@@ -128,7 +128,7 @@ module _ (p : Prices) where
         go false true = tt
         go false false = ih u s w
 
-    fitting-offers : (v : Scope) (s : List ℕ) (ms : List Bindings) (body : Tree) (next : Outcome (List Thing)) → FirstIsClosed ms → Fits term v body → OffersClosed next → OffersClosed (fitting (unfold_in p room) s (first_of_all ms) body next)
+    fitting-offers : (v : Scope) (s : List ℕ) (ms : List Bindings) (body : Tree) (next : Outcome (List Product)) → FirstIsClosed ms → Fits term v body → OffersClosed next → OffersClosed (fitting (unfold_in p room) s (first_of_all ms) body next)
     fitting-offers v s [] body next b f k = k
     fitting-offers v s (c ∷ ms) body next b f k = within-offers (put c body) s (put-closed v body c f b)
 

@@ -2,6 +2,7 @@
 use Rattle.std.proofs.Common.{ℕ, suc, Bool, true, false, cond, List, [], ◌∷◌, ◌++◌, reverse, map as each, refl, arith}
 use Rattle.std.specs.Prelude.{⊤, Option, Some, None, option_and_then}
 use Rattle.std.specs.Str.{bytes_eq}
+use Rattle.list_laws.proofs.Members.{Every, every-append, every-each, every-flat}
 use Rattle.calculus.specs.Tree.{row, send, receive, bind, Tree, node, Trees, none, also}
 use Rattle.calculus.specs.Shape.{held, listed, at}
 use Rattle.calculus.specs.Congruence.{congruent}
@@ -11,8 +12,7 @@ use Rattle.calculus.specs.Substitution.{put}
 use Rattle.calculus.specs.Matching.{Bindings, bind_matches, first_of_all}
 use Rattle.calculus.specs.Log.{Step}
 use Rattle.calculus.specs.Rows.{Row, stdout, stdout_ack}
-use Rattle.calculus.specs.Steps.{Bag, standing, Held, with_id, row_choices, differ, Receiver, Datum, as_receiver, as_datum, as_data, taken, all_taken, Meeting, receiver_leaving, data_leaving, meet, meet_rows, right_repeat, meet_for, first_there, meeting}
-use Rattle.calculus.proofs.Candidates.{Every, every-append, every-each, every-flat}
+use Rattle.calculus.specs.Steps.{Bag, standing, PlacedRow, with_id, row_choices, differ, Receiver, Datum, as_receiver, as_datum, as_data, bindings_of, all_bindings, Meeting, receiver_leaving, data_leaving, meet, meet_rows, right_repeat, meet_for, first_there, meeting}
 use Rattle.calculus.proofs.Digests.{digest-fits}
 use Rattle.unfolding_laws.proofs.Patterns.{the_pats, IsTidy}
 use Rattle.unfolding_laws.proofs.Goodness.{a_term, IsGood, AreGood}
@@ -43,7 +43,7 @@ abbrev pub IsClosedRow : Row → Type 0
 IsClosedRow r = Fits part [] r.part
 
 -- a closed row, at any place
-abbrev IsClosedHeld : Held → Type 0
+abbrev IsClosedHeld : PlacedRow → Type 0
 IsClosedHeld h = IsClosedRow h.1
 
 -- the built-in receivers
@@ -117,7 +117,7 @@ datum-closed (node (send q) (also c (also (node _ xs) none))) h = absurd h.1.1.0
 datum-closed (node (send q) (also c (also x (also y ys)))) h = absurd h.1.1.1
 datum-closed (node _ ts) h = tt
 
-data-closed : (hs : List Held) → Every IsClosedHeld hs → IfThere (Every HasClosedArguments) (as_data hs)
+data-closed : (hs : List PlacedRow) → Every IsClosedHeld hs → IfThere (Every HasClosedArguments) (as_data hs)
 data-closed [] h = tt
 data-closed (x ∷ hs) h =
     then-if HasClosedArguments (Every HasClosedArguments) (as_datum x.1.part) (λ d. option_and_then (λ ds. Some (d ∷ ds)) (as_data hs)) (datum-closed x.1.part h.0)
@@ -127,32 +127,32 @@ first-good : (ms : List Bindings) → BindGood IsClosedPart closed-collections m
 first-good [] h = tt
 first-good (b ∷ ms) h = h.0
 
-taken-good : (b : Tree) (d : Datum) → IsTidy the_pats (at 1 (held b)) → HasClosedArguments d → IfThere (AreGood IsClosedPart a_term) (taken b d)
+taken-good : (b : Tree) (d : Datum) → IsTidy the_pats (at 1 (held b)) → HasClosedArguments d → IfThere (AreGood IsClosedPart a_term) (bindings_of b d)
 taken-good b d h k = cond-if (AreGood IsClosedPart a_term) (congruent (at 0 (held b)) d.channel) (first_of_all (bind_matches b d.args)) (first-good (bind_matches b d.args) (bind-binds IsClosedPart closed-collections b d.args h k))
 
-all-taken-good : (bs : List Tree) (ds : List Datum) → HaveTidyPatterns bs → Every HasClosedArguments ds → IfThere (AreGood IsClosedPart a_term) (all_taken bs ds)
+all-taken-good : (bs : List Tree) (ds : List Datum) → HaveTidyPatterns bs → Every HasClosedArguments ds → IfThere (AreGood IsClosedPart a_term) (all_bindings bs ds)
 all-taken-good [] [] h k = tt
 all-taken-good [] (d ∷ ds) h k = tt
 all-taken-good (b ∷ bs) [] h k = tt
 all-taken-good (b ∷ bs) (d ∷ ds) h k =
-    then-if (AreGood IsClosedPart a_term) (AreGood IsClosedPart a_term) (taken b d) (λ xs. option_and_then (λ ys. Some (xs ++ ys)) (all_taken bs ds)) (taken-good b d h.0 k.0)
-    (λ xs x. then-if (AreGood IsClosedPart a_term) (AreGood IsClosedPart a_term) (all_taken bs ds) (λ ys. Some (xs ++ ys)) (all-taken-good bs ds h.1 k.1) (λ ys y. every-append (IsGood IsClosedPart a_term) xs ys x y))
+    then-if (AreGood IsClosedPart a_term) (AreGood IsClosedPart a_term) (bindings_of b d) (λ xs. option_and_then (λ ys. Some (xs ++ ys)) (all_bindings bs ds)) (taken-good b d h.0 k.0)
+    (λ xs x. then-if (AreGood IsClosedPart a_term) (AreGood IsClosedPart a_term) (all_bindings bs ds) (λ ys. Some (xs ++ ys)) (all-taken-good bs ds h.1 k.1) (λ ys y. every-append (IsGood IsClosedPart a_term) xs ys x y))
 
 -- a meeting's body and what is bound for it
 abbrev MeetingFits : Meeting → Type 0
 MeetingFits m = BodyFits m.receiver.body × AreGood IsClosedPart a_term m.bindings
 
-meet-fits : (h : Held) (hs : List Held) (r : Receiver) (ds : List Datum) → ReceiverFits r → Every HasClosedArguments ds → IfThere MeetingFits (meet h hs r ds)
+meet-fits : (h : PlacedRow) (hs : List PlacedRow) (r : Receiver) (ds : List Datum) → ReceiverFits r → Every HasClosedArguments ds → IfThere MeetingFits (meet h hs r ds)
 meet-fits h hs r ds k l =
-    then-if (AreGood IsClosedPart a_term) MeetingFits (all_taken r.binds ds) (λ xs. Some (record { receiver = r; facts = ds; bindings = xs; leaving = receiver_leaving r.kind h ++ data_leaving r.kind hs ds })) (all-taken-good r.binds ds k.0 l) (λ xs x. (k.1, x))
+    then-if (AreGood IsClosedPart a_term) MeetingFits (all_bindings r.binds ds) (λ xs. Some (record { receiver = r; place = h.0; sends = ds; bindings = xs; leaving = receiver_leaving r.kind h ++ data_leaving r.kind hs ds })) (all-taken-good r.binds ds k.0 l) (λ xs x. (k.1, x))
 
-rows-meet-fits : (hs : List Held) → Every IsClosedHeld hs → IfThere MeetingFits (meet_rows hs)
+rows-meet-fits : (hs : List PlacedRow) → Every IsClosedHeld hs → IfThere MeetingFits (meet_rows hs)
 rows-meet-fits [] k = tt
 rows-meet-fits (h ∷ hs) k =
     then-if ReceiverFits MeetingFits (as_receiver h.1.part) (λ r. option_and_then (meet h hs r) (as_data hs)) (receiver-fits h.1.part k.0)
     (λ r x. then-if (Every HasClosedArguments) MeetingFits (as_data hs) (meet h hs r) (data-closed hs k.1) (λ ds y. meet-fits h hs r ds x y))
 
-meet-for-fits : (made : List Step) (s : Step) (hs : List Held) → Every IsClosedHeld hs → IfThere MeetingFits (meet_for made s hs)
+meet-for-fits : (made : List Step) (s : Step) (hs : List PlacedRow) → Every IsClosedHeld hs → IfThere MeetingFits (meet_for made s hs)
 meet-for-fits made s hs k = then-if MeetingFits MeetingFits (meet_rows hs) (λ m. cond (right_repeat made s m) (Some m) None) (rows-meet-fits hs k) (λ m x. cond-if MeetingFits (right_repeat made s m) (Some m) x)
 
 pub standing-closed : (b : Bag) → Every IsClosedRow b.kept → Every IsClosedRow b.offered → Every IsClosedRow (standing b)
@@ -176,3 +176,7 @@ meeting-closes b made s h =
     (cond-if MeetingFits (differ s.data_ids) (first_there (each (meet_for made s) (row_choices (standing b) (s.receiver ∷ s.data_ids))))
     (first-if MeetingFits (each (meet_for made s) (row_choices (standing b) (s.receiver ∷ s.data_ids)))
     (every-each (IfThere MeetingFits) (Every IsClosedHeld) (meet_for made s) (λ hs k. meet-for-fits made s hs k) (row_choices (standing b) (s.receiver ∷ s.data_ids)) (choices-closed (standing b) (s.receiver ∷ s.data_ids) h))))
+
+-- of rows that meet, wherever they stand
+pub rows-close : (hs : List PlacedRow) → Every (λ h. IsClosedRow h.1) hs → IfThere MeetingCloses (meet_rows hs)
+rows-close hs k = if-up MeetingFits MeetingCloses (meet_rows hs) closes (rows-meet-fits hs k)

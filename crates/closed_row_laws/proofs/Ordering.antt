@@ -1,6 +1,7 @@
 -- A receive is closed with its binds in the order of their channels' codes.
 use Rattle.std.proofs.Common.{◌≡◌, ℕ, suc, ◌+◌, Bool, true, false, cond, List, [], ◌∷◌, ◌++◌, length, reverse, map as each, refl, sym, ap, ◌∙◌, subst, arith, append-nil}
 use Rattle.std.proofs.lemmas.List.{length-map}
+use Rattle.list_laws.proofs.Members.{Every, every-each}
 use Rattle.calculus.specs.Tree.{row, Tree, none, also, trees}
 use Rattle.calculus.specs.Shape.{at, held, listed, many}
 use Rattle.calculus.specs.Order.{up_to}
@@ -13,7 +14,6 @@ use Rattle.calculus.specs.Unfolding.{Placed, placed_from, sorted_binds, all_plac
 use Rattle.calculus.proofs.Changed.{no_variables}
 use Rattle.calculus.proofs.Closing.{renumber_fits}
 use Rattle.calculus.proofs.Placing.{listed-trees}
-use Rattle.calculus.proofs.Candidates.{Every, every-each}
 use Rattle.closed_row_laws.specs.Laws.{SortedReceivesAreClosed}
 use Rattle.unfolding_laws.proofs.Lists.{arranged-every}
 use Rattle.closed_row_laws.proofs.Renumbering.{senses, CodedBind, senses-kept}

@@ -1,18 +1,16 @@
 -- Rows of states that lists of steps lead to are closed.
 use Rattle.std.proofs.Common.{◌≡◌, ℕ, suc, Bool, true, false, cond, ltb, List, [], ◌∷◌, ◌++◌, length, refl, subst}
 use Rattle.std.specs.Prelude.{Option, Some, None, option_map, option_and_then}
-use Rattle.calculus.specs.Tree.{Tree}
+use Rattle.list_laws.proofs.Members.{Every, every-append}
 use Rattle.calculus.specs.Form.{IsClosed}
 use Rattle.calculus.specs.Outcome.{Prices, Answer, gives, fails, unknown, Outcome, over, within, known, capped}
 use Rattle.calculus.specs.Substitution.{put}
-use Rattle.calculus.specs.Seeds.{digest_of, Start, Comm}
+use Rattle.calculus.specs.Seeds.{digest_of, Comm}
 use Rattle.calculus.specs.Log.{Step}
 use Rattle.calculus.specs.Rows.{Row}
-use Rattle.calculus.specs.Root.{root}
-use Rattle.calculus.specs.Unfolding.{Thing, a_row, a_fresh, rows_of, unfold_under, unfold_in}
+use Rattle.calculus.specs.Unfolding.{Product, a_row, a_fresh, rows_of, unfold_under, unfold_in}
 use Rattle.calculus.specs.Steps.{Bag, Meeting, meeting, has_place, but_places, bag_after, stored_rows}
-use Rattle.calculus.specs.Runs.{Work, work_things, State, body_work, moved, step_from, steps_from, begun, first_state, Leads}
-use Rattle.calculus.proofs.Candidates.{Every, every-append}
+use Rattle.calculus.specs.Runs.{source_seed, Deploy, Work, work_products, State, body_work, moved, step_from, steps_from, begun, first_state, Leads}
 use Rattle.calculus.proofs.Results.{Gives}
 use Rattle.closed_row_laws.specs.Laws.{AreClosedRows, OffersAreClosed, BodiesAreClosed, ClosedRowsStay}
 use Rattle.closed_row_laws.proofs.Keeping.{IsClosedThing, OffersClosed, within-offers, unfold-offers}
@@ -34,26 +32,26 @@ after-closed : (b : Bag) (m : Meeting) (rs : List Row) → IsClosedBag b → Eve
 after-closed b m rs h k =
     (but-closed m.leaving 0 b.kept h.0, every-append IsClosedRow (but_places m.leaving (suc (suc (length b.kept))) b.offered) rs (but-closed m.leaving (suc (suc (length b.kept))) b.offered h.1) k)
 
-things-rows : (ts : List Thing) → Every IsClosedThing ts → Every IsClosedRow (rows_of ts)
+things-rows : (ts : List Product) → Every IsClosedThing ts → Every IsClosedRow (rows_of ts)
 things-rows [] h = tt
 things-rows (a_row r ∷ ts) h = (h.0, things-rows ts h.1)
 things-rows (a_fresh x ∷ ts) h = things-rows ts h.1
 
-work-closed : (most : ℕ) (o : Outcome (List Thing)) (w : Work) → OffersClosed o → capped most o ≡ Some w → Every IsClosedRow (rows_of (work_things w))
+work-closed : (most : ℕ) (o : Outcome (List Product)) (w : Work) → OffersClosed o → capped most o ≡ Some w → Every IsClosedRow (rows_of (work_products w))
 work-closed most o w h e = go (ltb most o.price) o.price o.answer h e
   where
-    over-closed : Some over ≡ Some w → Every IsClosedRow (rows_of (work_things w))
-    over-closed e = let q : over ≡ w = cc (e) in subst (λ (v : Work). Every IsClosedRow (rows_of (work_things v))) q tt
+    over-closed : Some over ≡ Some w → Every IsClosedRow (rows_of (work_products w))
+    over-closed e = let q : over ≡ w = cc (e) in subst (λ (v : Work). Every IsClosedRow (rows_of (work_products v))) q tt
 
-    within-closed : (n : ℕ) (a : Answer (List Thing)) → Gives (Every IsClosedThing) a → Some (within (record { price = n; answer = a })) ≡ Some w → Every IsClosedRow (rows_of (work_things w))
-    within-closed n a g e = let q : within (record { price = n; answer = a }) ≡ w = cc (e) in subst (λ (v : Work). Every IsClosedRow (rows_of (work_things v))) q (of-answer a g)
+    within-closed : (n : ℕ) (a : Answer (List Product)) → Gives (Every IsClosedThing) a → Some (within (record { price = n; answer = a })) ≡ Some w → Every IsClosedRow (rows_of (work_products w))
+    within-closed n a g e = let q : within (record { price = n; answer = a }) ≡ w = cc (e) in subst (λ (v : Work). Every IsClosedRow (rows_of (work_products v))) q (of-answer a g)
       where
-        of-answer : (a : Answer (List Thing)) → Gives (Every IsClosedThing) a → Every IsClosedRow (rows_of (work_things (within (record { price = n; answer = a }))))
+        of-answer : (a : Answer (List Product)) → Gives (Every IsClosedThing) a → Every IsClosedRow (rows_of (work_products (within (record { price = n; answer = a }))))
         of-answer (gives ts) g = things-rows ts g
         of-answer (fails f) g = tt
         of-answer unknown g = tt
 
-    go : (b : Bool) (n : ℕ) (a : Answer (List Thing)) → Gives (Every IsClosedThing) a → cond b (Some over) (option_map within (known a (record { price = n; answer = a }))) ≡ Some w → Every IsClosedRow (rows_of (work_things w))
+    go : (b : Bool) (n : ℕ) (a : Answer (List Product)) → Gives (Every IsClosedThing) a → cond b (Some over) (option_map within (known a (record { price = n; answer = a }))) ≡ Some w → Every IsClosedRow (rows_of (work_products w))
     go true n a g e = over-closed e
     go false n (gives ts) g e = within-closed n (gives ts) g e
     go false n (fails f) g e = within-closed n (fails f) g e
@@ -68,7 +66,7 @@ are-closed [] h = tt
 are-closed (r ∷ rs) h = (h.0, are-closed rs h.1)
 
 pub offers_are_closed : OffersAreClosed
-offers_are_closed p most t s w is u = are-closed (rows_of (work_things w)) (work-closed most (unfold_in p u.0 t s) w (unfold-offers p u.0 t s is) u.1)
+offers_are_closed p most t s w is u = are-closed (rows_of (work_products w)) (work-closed most (unfold_in p u.0 t s) w (unfold-offers p u.0 t s is) u.1)
 
 -- the rows of a bag, one list after the other
 split-rows : (xs ys : List Row) → AreClosedRows (xs ++ ys) → Every IsClosedRow xs × Every IsClosedRow ys
@@ -83,13 +81,13 @@ abbrev IsClosedState : State → Type 0
 IsClosedState a = IsClosedBag a.bag
 
 module _ (p : Prices) (most : ℕ) where
-  body-closed : (room : ℕ) (s : Step) (m : Meeting) (w : Work) → MeetingCloses m → body_work p most room s m ≡ Some w → Every IsClosedRow (rows_of (work_things w))
+  body-closed : (room : ℕ) (s : Step) (m : Meeting) (w : Work) → MeetingCloses m → body_work p most room s m ≡ Some w → Every IsClosedRow (rows_of (work_products w))
   body-closed room s m w k e =
       let seed = digest_of (Comm s.receiver s.data_ids s.repeat) in
       work-closed most (unfold_under (unfold_in p room) seed m.bindings m.receiver.body) w (within-offers p room (unfold-offers p room) (put m.bindings m.receiver.body) seed k) e
 
-  moved-closed : (a : State) (s : Step) (m : Meeting) (w : Work) → IsClosedState a → Every IsClosedRow (rows_of (work_things w)) → IsClosedState (moved a s m w)
-  moved-closed a s m w h k = after-closed a.bag m (rows_of (work_things w)) h k
+  moved-closed : (a : State) (s : Step) (m : Meeting) (w : Work) → IsClosedState a → Every IsClosedRow (rows_of (work_products w)) → IsClosedState (moved a s m w)
+  moved-closed a s m w h k = after-closed a.bag m (rows_of (work_products w)) h k
 
   step-closed : (room : ℕ) (a b : State) (s : Step) → IsClosedState a → step_from p most room a s ≡ Some b → IsClosedState b
   step-closed room a b s h e = go (meeting a.bag a.made s) (bodies-close a.bag a.made s h) e
@@ -110,27 +108,27 @@ module _ (p : Prices) (most : ℕ) where
       go next None d e = cc
       go next (Some x) d e = next x (step-closed room a x s h d) e
 
-module _ (p : Prices) (most : ℕ) (rows : List Row) (t : Tree) (source : List ℕ) (closed : AreClosedRows rows) (is : IsClosed t) where
-  begin-closed : (room : ℕ) (a : State) → first_state p most room rows t source ≡ Some a → IsClosedState a
-  begin-closed room a e = go (capped most (unfold_in p room t (digest_of (Start (root rows) source)))) refl e
+module _ (deploy : Deploy) (closed : AreClosedRows deploy.rows) (is : IsClosed deploy.process) where
+  begin-closed : (room : ℕ) (a : State) → first_state deploy room ≡ Some a → IsClosedState a
+  begin-closed room a e = go (capped deploy.limit (unfold_in deploy.prices room deploy.process (source_seed deploy))) refl e
     where
-      begun-closed : (w : Work) → Every IsClosedRow (rows_of (work_things w)) → IsClosedState (begun rows w)
-      begun-closed w k = (closed-rows rows closed, k)
+      begun-closed : (w : Work) → Every IsClosedRow (rows_of (work_products w)) → IsClosedState (begun deploy.rows w)
+      begun-closed w k = (closed-rows deploy.rows closed, k)
 
-      go : (o : Option Work) → capped most (unfold_in p room t (digest_of (Start (root rows) source))) ≡ o → option_map (begun rows) o ≡ Some a → IsClosedState a
+      go : (o : Option Work) → capped deploy.limit (unfold_in deploy.prices room deploy.process (source_seed deploy)) ≡ o → option_map (begun deploy.rows) o ≡ Some a → IsClosedState a
       go None d e = cc
       go (Some w) d e =
-          let q : begun rows w ≡ a = cc (e) in
-          subst (λ (x : State). IsClosedState x) q (begun-closed w (work-closed most (unfold_in p room t (digest_of (Start (root rows) source))) w (unfold-offers p room t (digest_of (Start (root rows) source)) is) d))
+          let q : begun deploy.rows w ≡ a = cc (e) in
+          subst (λ (x : State). IsClosedState x) q (begun-closed w (work-closed deploy.limit (unfold_in deploy.prices room deploy.process (source_seed deploy)) w (unfold-offers deploy.prices room deploy.process (source_seed deploy) is) d))
 
-  leads-closed : (ss : List Step) (a : State) → Leads p most rows t source ss a → IsClosedState a
-  leads-closed ss a h = go (first_state p most h.0 rows t source) refl h.1
+  leads-closed : (ss : List Step) (a : State) → Leads deploy ss a → IsClosedState a
+  leads-closed ss a h = go (first_state deploy h.0) refl h.1
     where
-      go : (o : Option State) → first_state p most h.0 rows t source ≡ o → option_and_then (λ x. steps_from p most h.0 x ss) o ≡ Some a → IsClosedState a
+      go : (o : Option State) → first_state deploy h.0 ≡ o → option_and_then (λ x. steps_from deploy.prices deploy.limit h.0 x ss) o ≡ Some a → IsClosedState a
       go None d e = cc
-      go (Some x) d e = steps-closed p most h.0 x a ss (begin-closed h.0 x d) e
+      go (Some x) d e = steps-closed deploy.prices deploy.limit h.0 x a ss (begin-closed h.0 x d) e
 
 pub closed_rows_stay : ClosedRowsStay
-closed_rows_stay p most rows t source closed is ss a h =
-    let k = leads-closed p most rows t source closed is ss a h in
+closed_rows_stay deploy closed is ss a h =
+    let k = leads-closed deploy closed is ss a h in
     are-closed (stored_rows a.bag) (every-append IsClosedRow a.bag.kept a.bag.offered k.0 k.1)

@@ -10,7 +10,7 @@ use Rattle.calculus.specs.Log.{Step}
 use Rattle.calculus.specs.Rows.{Row}
 use Rattle.calculus.specs.Unfolding.{rows_of, Unfolds, sorted_receive}
 use Rattle.calculus.specs.Steps.{Bag, stored_rows, Meeting, meeting}
-use Rattle.calculus.specs.Runs.{Work, work_things, State, Leads}
+use Rattle.calculus.specs.Runs.{Deploy, Work, work_products, State, Leads}
 
 -- the part of each of these rows is a part of a closed process
 abbrev pub AreClosedRows : List Row → Type 0
@@ -23,7 +23,7 @@ SortedReceivesAreClosed = (k : Kind) (bs : List Tree) (body : Tree) → Fits par
 
 -- the rows that a closed process offers are closed
 abbrev pub OffersAreClosed : Type 0
-OffersAreClosed = (p : Prices) (cap : ℕ) (t : Tree) (s : List ℕ) (w : Work) → IsClosed t → Unfolds p cap t s w → AreClosedRows (rows_of (work_things w))
+OffersAreClosed = (p : Prices) (cap : ℕ) (t : Tree) (s : List ℕ) (w : Work) → IsClosed t → Unfolds p cap t s w → AreClosedRows (rows_of (work_products w))
 
 -- where the rows of a bag are closed, the body of each allowed step with its bindings put in is closed
 abbrev pub BodiesAreClosed : Type 0
@@ -31,4 +31,4 @@ BodiesAreClosed = (b : Bag) (made : List Step) (s : Step) (m : Meeting) → AreC
 
 -- from closed rows and a closed process, the rows of each state that a list of steps leads to are closed
 abbrev pub ClosedRowsStay : Type 0
-ClosedRowsStay = (p : Prices) (cap : ℕ) (rows : List Row) (t : Tree) (source : List ℕ) → AreClosedRows rows → IsClosed t → (ss : List Step) (a : State) → Leads p cap rows t source ss a → AreClosedRows (stored_rows a.bag)
+ClosedRowsStay = (deploy : Deploy) → AreClosedRows deploy.rows → IsClosed deploy.process → (ss : List Step) (a : State) → Leads deploy ss a → AreClosedRows (stored_rows a.bag)

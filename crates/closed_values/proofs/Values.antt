@@ -2,6 +2,7 @@
 use Rattle.std.proofs.Common.{◌≡◌, ℕ, zero, suc, ◌≤◌, Bool, true, false, cond, ltb, List, [], ◌∷◌, length, map as each, zip, flat_map, refl, subst, arith, length-append}
 use Rattle.std.specs.Prelude.{⊤}
 use Rattle.std.proofs.lemmas.Bool.{ltb-false}
+use Rattle.list_laws.proofs.Members.{Every}
 use Rattle.calculus.specs.declared.plain.UnaryOp.{UnaryOp}
 use Rattle.calculus.specs.declared.plain.BinaryOp.{BinaryOp}
 use Rattle.calculus.specs.declared.plain.Rights.{Rights}
@@ -22,7 +23,6 @@ use Rattle.calculus.specs.Methods.{method_answer}
 use Rattle.calculus.specs.Values.{in_code_order, checked, operated, value, values}
 use Rattle.calculus.proofs.Placing.{ascending_hold}
 use Rattle.calculus.proofs.Tails.{length-be32}
-use Rattle.calculus.proofs.Candidates.{Every}
 use Rattle.calculus.proofs.Results.{Gives, after-gives, IsOne, AreTwo, two-of}
 use Rattle.closed_values.specs.Laws.{GivesClosed, AreClosed, ValueIsClosed, ValueIsWithin}
 use Rattle.closed_values.proofs.Members.{AllFit, held-fit, set-closed, map-closed, flat-fit}

@@ -2,7 +2,7 @@
 use Rattle.std.proofs.Common.{◌≡◌, ℕ, ◌+◌, Bool, true, false, cond, ltb, List, refl, sym, ap, subst, arith}
 use Rattle.std.specs.Prelude.{Some, option_map}
 use Rattle.calculus.specs.Outcome.{Answer, gives, fails, unknown, Outcome, over, within, known, capped}
-use Rattle.calculus.specs.Unfolding.{Thing, unfold_in}
+use Rattle.calculus.specs.Unfolding.{Product, unfold_in}
 use Rattle.calculus.proofs.Equivalence.{agree}
 use Rattle.congruent_values.proofs.Outcomes.{Answers, Ends}
 use Rattle.calculus.specs.Runs.{Work}
@@ -13,10 +13,10 @@ use Rattle.congruent_unfolding_laws.proofs.Likeness.{AreSameThings}
 use Rattle.congruent_unfolding_laws.proofs.Likely.{unfold-alike}
 
 -- outcomes alike are alike under each cap
-capped-alike : (most : ℕ) (o q : Outcome (List Thing)) (v w : Work) → Ends AreSameThings o q → capped most o ≡ Some v → capped most q ≡ Some w → IsSameWork v w
+capped-alike : (most : ℕ) (o q : Outcome (List Product)) (v w : Work) → Ends AreSameThings o q → capped most o ≡ Some v → capped most q ≡ Some w → IsSameWork v w
 capped-alike most o q v w h e f = go (ltb most o.price) o.price q.price o.answer q.answer h.0 h.1 refl e (subst (λ b. cond b (Some over) (option_map within (known q.answer q)) ≡ Some w) (sym (ap (ltb most) h.0)) f)
   where
-    both-within : (m n : ℕ) (a b : Answer (List Thing)) → m ≡ n → IsSameOffer a b → Some (within (record { price = m; answer = a })) ≡ Some v → Some (within (record { price = n; answer = b })) ≡ Some w → IsSameWork v w
+    both-within : (m n : ℕ) (a b : Answer (List Product)) → m ≡ n → IsSameOffer a b → Some (within (record { price = m; answer = a })) ≡ Some v → Some (within (record { price = n; answer = b })) ≡ Some w → IsSameWork v w
     both-within m n a b c d e f =
         let x : within (record { price = m; answer = a }) ≡ v = cc (e) in
         let y : within (record { price = n; answer = b }) ≡ w = cc (f) in
@@ -28,7 +28,7 @@ capped-alike most o q v w h e f = go (ltb most o.price) o.price q.price o.answer
         let y : over ≡ w = cc (f) in
         subst (λ z. IsSameWork z w) x (subst (λ z. IsSameWork over z) y tt)
 
-    go : (c : Bool) (m n : ℕ) (a b : Answer (List Thing)) → m ≡ n → Answers AreSameThings a b → c ≡ c → cond c (Some over) (option_map within (known a (record { price = m; answer = a }))) ≡ Some v
+    go : (c : Bool) (m n : ℕ) (a b : Answer (List Product)) → m ≡ n → Answers AreSameThings a b → c ≡ c → cond c (Some over) (option_map within (known a (record { price = m; answer = a }))) ≡ Some v
         → cond c (Some over) (option_map within (known b (record { price = n; answer = b }))) ≡ Some w → IsSameWork v w
     go true m n a b i j d e f = both-over e f
     go false m n (gives x) (gives y) i j d e f = both-within m n (gives x) (gives y) i j e f

@@ -11,7 +11,7 @@ use Rattle.calculus.specs.Form.{term, a_case, pat, all, Scope, Fits, Hold, IsClo
 use Rattle.calculus.specs.Outcome.{Prices, gives, fails, Outcome, after, within_limits}
 use Rattle.calculus.specs.Substitution.{put}
 use Rattle.calculus.specs.Matching.{Bindings, first_of_all, all_matches}
-use Rattle.calculus.specs.Unfolding.{Thing, unfold_within, fitting, cases_tried, unfold_in}
+use Rattle.calculus.specs.Unfolding.{Product, unfold_within, fitting, cases_tried, unfold_in}
 use Rattle.calculus.proofs.Keys.{key, key_all, equal_nodes}
 use Rattle.calculus.proofs.Equivalence.{agree, heights_equal}
 use Rattle.congruent_matches.specs.Laws.{IsSameMatch}
@@ -50,7 +50,7 @@ module _ (p : Prices) where
             let m : length (code u) ≤ 1048576 = subst (λ x. length x ≤ 1048576) (code-kept t u e) n in
             ih t u s (to-pair t u (f, (d, n)) (g, (subst (λ x. x ≤ 400) q d, m)) e)
 
-    fitting-alike : (v v' : Scope) (s : List ℕ) (ms ns : List Bindings) (body other : Tree) (next after : Outcome (List Thing)) → FirstIsClosed ms → FirstIsClosed ns → IsSameMatch (first_of_all ms) (first_of_all ns) → Fits term v body → Fits term v' other → key body ≡ key other → Ends AreSameThings next after
+    fitting-alike : (v v' : Scope) (s : List ℕ) (ms ns : List Bindings) (body other : Tree) (next after : Outcome (List Product)) → FirstIsClosed ms → FirstIsClosed ns → IsSameMatch (first_of_all ms) (first_of_all ns) → Fits term v body → Fits term v' other → key body ≡ key other → Ends AreSameThings next after
         → Ends AreSameThings (fitting (unfold_in p room) s (first_of_all ms) body next) (fitting (unfold_in p room) s (first_of_all ns) other after)
     fitting-alike v v' s [] [] body other next after a b m f g e k = k
     fitting-alike v v' s [] (c ∷ ns) body other next after a b m f g e k = absurd m

@@ -2,6 +2,7 @@
 use Rattle.std.proofs.Common.{◌≡◌, ℕ, zero, suc, ◌+◌, ◌*◌, ◌<◌, Bool, List, [], ◌∷◌, ◌++◌, length, reverse, map as each, refl, subst, arith}
 use Rattle.std.specs.Prelude.{⊤}
 use Rattle.std.specs.List.{AllZip}
+use Rattle.list_laws.proofs.Members.{Every}
 use Rattle.calculus.specs.declared.plain.Kind.{Kind}
 use Rattle.calculus.specs.declared.plain.Origin.{Origin}
 use Rattle.calculus.specs.declared.plain.Rights.{Rights}
@@ -18,7 +19,6 @@ use Rattle.calculus.specs.Values.{value, values}
 use Rattle.calculus.specs.Unfolding.{opened, send_offered, receive_offered, names_made, fresh_names, cases_tried, unfold_part, parts_unfolded, unfold_in}
 use Rattle.calculus.proofs.Keys.{key, equal_nodes}
 use Rattle.calculus.proofs.Equivalence.{agree}
-use Rattle.calculus.proofs.Candidates.{Every}
 use Rattle.calculus.proofs.Results.{Gives}
 use Rattle.closed_values.proofs.Values.{IsValue, part-value as part-closed, unary-small, binary-small, method-small}
 use Rattle.congruent_values.proofs.Outcomes.{Answers, Ends, after-ends, in_order-ends}

@@ -8,7 +8,7 @@ use Rattle.calculus.specs.Code.{arranged}
 use Rattle.calculus.specs.Form.{part, Fits, IsClosed}
 use Rattle.calculus.specs.Outcome.{Prices, Answer, gives, fails, unknown}
 use Rattle.calculus.specs.Values.{value}
-use Rattle.calculus.specs.Unfolding.{Thing, Channel, writes, reads, bundled, opened}
+use Rattle.calculus.specs.Unfolding.{Product, Channel, writes, reads, bundled, opened}
 use Rattle.calculus.proofs.Keys.{key, key_all, equal_nodes}
 use Rattle.calculus.proofs.Equivalence.{agree}
 use Rattle.calculus.proofs.Results.{Gives}
@@ -30,10 +30,10 @@ pub record AreRoomyTwins (t u : Tree) : Type 0 where
   pub same : key t ≡ key u
 
 -- things alike one by one
-abbrev pub AreSameThings : List Thing → List Thing → Type 0
+abbrev pub AreSameThings : List Product → List Product → Type 0
 AreSameThings ts us = AllZip IsSameThing ts us
 
-pub things-append : (ts us vs ws : List Thing) → AreSameThings ts us → AreSameThings vs ws → AreSameThings (ts ++ vs) (us ++ ws)
+pub things-append : (ts us vs ws : List Product) → AreSameThings ts us → AreSameThings vs ws → AreSameThings (ts ++ vs) (us ++ ws)
 things-append [] [] vs ws h k = k
 things-append [] (u ∷ us) vs ws h k = absurd h
 things-append (t ∷ ts) [] vs ws h k = absurd h

@@ -1,6 +1,7 @@
 -- Congruent arguments, binds and bindings, one by one.
 use Rattle.std.proofs.Common.{◌≡◌, ℕ, suc, ◌+◌, ◌<◌, List, [], ◌∷◌, map as each, refl, ap, arith}
 use Rattle.std.specs.List.{AllZip}
+use Rattle.list_laws.proofs.Members.{Every}
 use Rattle.calculus.specs.declared.plain.Origin.{Origin}
 use Rattle.calculus.specs.declared.plain.Origin.TheVariants as origins
 use Rattle.calculus.specs.Tree.{Label, bind, Tree, node, Trees, none, also, trees}
@@ -9,10 +10,9 @@ use Rattle.calculus.specs.CongruenceLaws.{AreCongruent}
 use Rattle.calculus.specs.Form.{term, a_bind, all, Fits, Hold, IsClosed}
 use Rattle.calculus.specs.Outcome.{Prices, Outcome, charged}
 use Rattle.calculus.specs.Values.{value, values}
-use Rattle.calculus.specs.Unfolding.{Thing, opened, fresh_names}
+use Rattle.calculus.specs.Unfolding.{Product, opened, fresh_names}
 use Rattle.calculus.proofs.Keys.{key, key_all, equal_nodes}
 use Rattle.calculus.proofs.Equivalence.{agree}
-use Rattle.calculus.proofs.Candidates.{Every}
 use Rattle.congruent_values.proofs.Outcomes.{Ends}
 use Rattle.congruent_unfolding_laws.proofs.Putting.{AreLevel, closed-level}
 use Rattle.congruent_unfolding_laws.proofs.Exchanging.{even-self}
@@ -49,7 +49,7 @@ fresh-self s k (origins.Plain ∷ os) = (refl, fresh-self s (suc k) os)
 fresh-self s k (origins.Stdout ∷ os) = fresh-self s (suc k) os
 fresh-self s k (origins.StdoutAck ∷ os) = fresh-self s (suc k) os
 
-pub again-charged : (n : ℕ) (o q : Outcome (List Thing)) → Ends AreSameThings o q → Ends AreSameThings (charged n o) (charged n q)
+pub again-charged : (n : ℕ) (o q : Outcome (List Product)) → Ends AreSameThings o q → Ends AreSameThings (charged n o) (charged n q)
 again-charged n o q h = (ap (λ x. n + x) h.0, h.1)
 
 module _ (p : Prices) where

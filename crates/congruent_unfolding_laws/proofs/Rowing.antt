@@ -16,7 +16,7 @@ use Rattle.calculus.specs.Substitution.{renumber}
 use Rattle.calculus.specs.Outcome.{Prices, Answer, gives, fails}
 use Rattle.calculus.specs.Operators.{is_among}
 use Rattle.calculus.specs.Rows.{Row, coded_part, row_length, row_code}
-use Rattle.calculus.specs.Unfolding.{Thing, a_row, Channel, row_limits, offered, send_offered, receive_offered, sorted_receive, sorted_binds, placed_from, Placed, from_on, all_places, new_index, on_channels, has_twins, all_readable}
+use Rattle.calculus.specs.Unfolding.{Product, a_row, Channel, row_limits, offered, send_offered, receive_offered, sorted_receive, sorted_binds, placed_from, Placed, from_on, all_places, new_index, on_channels, has_twins, all_readable}
 use Rattle.calculus.proofs.Keys.{key, key_all, equal_keys}
 use Rattle.calculus.proofs.Equivalence.{agree, heights_equal}
 use Rattle.congruent_matches.proofs.Targets.{same_answer}
@@ -60,7 +60,7 @@ module _ (p : ℕ) (byte : ℕ) (r q : Row) (id : r.id ≡ q.id) (same : key r.p
       (cond (ltb 1048576 (row_length q)) (fails fault.TooBig) (gives (a_row q ∷ []))) (ap (ltb 400) (heights_equal r.part q.part c)) refl
       (answers-cond AreSameThings (ltb 1048576 (row_length r)) (ltb 1048576 (row_length q)) (fails fault.TooBig) (gives (a_row r ∷ [])) (fails fault.TooBig) (gives (a_row q ∷ [])) (ap (ltb 1048576) lengths) refl ((id, c, code-same), tt))
 
-  pub offered-alike : (a b : Answer (List Thing)) → Answers AreSameThings a b → Ends AreSameThings (offered p byte r a) (offered p byte q b)
+  pub offered-alike : (a b : Answer (List Product)) → Answers AreSameThings a b → Ends AreSameThings (offered p byte r a) (offered p byte q b)
   offered-alike a b h = (ap (λ n. p + byte * n + 0) lengths, h)
 
 -- sends

@@ -1,6 +1,7 @@
 -- Names put in place of variables leave a code short: a use of a variable is reckoned as long as a name.
 use Rattle.std.proofs.Common.{◌≡◌, ℕ, zero, suc, ◌+◌, ◌-◌, ◌*◌, ◌<◌, ◌≤◌, ◌^◌, Bool, true, false, cond, List, [], ◌∷◌, length, reverse, refl, ap, ◌∙◌, arith, length-append}
 use Rattle.std.specs.Prelude.{leb}
+use Rattle.list_laws.proofs.Members.{Every, every-reverse}
 use Rattle.calculus.specs.declared.plain.Origin.{Origin}
 use Rattle.calculus.specs.declared.plain.Origin.TheVariants as origins
 use Rattle.calculus.specs.Tree.{Label, par, row, list, tuple, set, dict, pattern, var, name_var, fresh, Tree, node, Trees, none, also, trees}
@@ -16,9 +17,7 @@ use Rattle.calculus.specs.Unfolding.{write_only, names_made}
 use Rattle.calculus.proofs.Formed.{length-code}
 use Rattle.calculus.proofs.Tails.{length-be32}
 use Rattle.calculus.proofs.Placing.{trees-listed}
-use Rattle.calculus.proofs.Candidates.{Every}
 use Rattle.calculus.proofs.Digests.{digest-fits}
-use Rattle.unfolding_laws.proofs.Lists.{every-reverse}
 use Rattle.congruent_unfolding_laws.proofs.Tallies.{total, total-ascending, total-joined}
 
 -- what a form's own bytes are reckoned at

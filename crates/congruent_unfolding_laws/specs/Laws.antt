@@ -7,17 +7,17 @@ use Rattle.calculus.specs.Congruence.{congruent}
 use Rattle.calculus.specs.Code.{code}
 use Rattle.calculus.specs.Outcome.{Prices, Answer, gives, fails, over, within}
 use Rattle.calculus.specs.Rows.{row_code}
-use Rattle.calculus.specs.Unfolding.{Thing, a_row, a_fresh, Unfolds}
+use Rattle.calculus.specs.Unfolding.{Product, a_row, a_fresh, Unfolds}
 use Rattle.calculus.specs.Runs.{Work}
 
 -- one fresh name, or rows with one id and one code, whose parts are congruent
-abbrev pub IsSameThing : Thing → Thing → Type 0
+abbrev pub IsSameThing : Product → Product → Type 0
 IsSameThing (a_row r) (a_row q) = (r.id ≡ q.id) × IsTrue (congruent r.part q.part) × (row_code r ≡ row_code q)
 IsSameThing (a_fresh x) (a_fresh y) = x ≡ y
 IsSameThing _ _ = ⊥
 
 -- as many such things in one order, or one fault
-abbrev pub IsSameOffer : Answer (List Thing) → Answer (List Thing) → Type 0
+abbrev pub IsSameOffer : Answer (List Product) → Answer (List Product) → Type 0
 IsSameOffer (gives ts) (gives us) = AllZip IsSameThing ts us
 IsSameOffer (fails f) (fails g) = f ≡ g
 IsSameOffer _ _ = ⊥

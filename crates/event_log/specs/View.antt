@@ -15,9 +15,13 @@ header_of h = record { base = h.base.0; source = h.source.0; prices = h.prices.0
 abbrev pub step_of : LogStep → Step
 step_of s = record { receiver = s.cont.0; data_ids = map (λ (id : Digest). id.0) s.taken.items; repeat = s.repeat }
 
+-- what steps stand for
+abbrev pub steps_of : List LogStep → List Step
+steps_of ss = map step_of ss
+
 -- the text of a log, version 1
 abbrev pub text_of : Log → List ℕ
-text_of log = log_text (header_of log.header) (map step_of log.steps.items)
+text_of log = log_text (header_of log.header) (steps_of log.steps.items)
 
 -- a step takes at least one datum, and no more than a receiver has binds
 abbrev pub TakesInRange : LogStep → Type 0

@@ -2,23 +2,20 @@
 use Rattle.std.proofs.Common.{◌≡◌, ◌≤◌, ℕ, suc, ◌+◌, Bool, true, false, ◌||◌, cond, List, [], ◌∷◌, ◌++◌, length, refl, ap, sym, ◌∙◌, subst, arith, inl, inr, append_assoc}
 use Rattle.std.specs.Prelude.{◌⊎◌, Option, Some, None, map as each, flat_map, option_map, option_and_then}
 use Rattle.std.specs.Str.{bytes_eq}
-use Rattle.calculus.specs.Tree.{Tree}
-use Rattle.calculus.specs.Outcome.{Prices, capped}
-use Rattle.calculus.specs.Seeds.{digest_of, Start}
+use Rattle.list_laws.proofs.Members.{Member, Every, member-split, member-left, member-right}
+use Rattle.calculus.specs.Outcome.{capped}
 use Rattle.calculus.specs.Log.{Step}
 use Rattle.calculus.specs.Rows.{Row}
-use Rattle.calculus.specs.Root.{root}
 use Rattle.calculus.specs.Unfolding.{rows_of, digest, unfold_in}
 use Rattle.calculus.specs.Steps.{Bag, Meeting, is_one_of, standing, stored_rows, as_receiver, stays, meeting, bag_after, but_places, has_place}
-use Rattle.calculus.specs.Runs.{Work, work_things, State, body_work, moved, steps_from, begun, Leads}
-use Rattle.calculus.proofs.Candidates.{Member, Every}
+use Rattle.calculus.specs.Runs.{source_seed, Deploy, Work, work_products, State, body_work, moved, steps_from, begun, Leads}
 use Rattle.events.specs.Events.{first_ids, AreFresh, digests}
-use Rattle.events.specs.Found.{without, leaving_rows, leaving_facts}
+use Rattle.events.specs.Found.{without, leaving_rows, leaving_sends}
 use Rattle.events.proofs.Counts.{ids, times, one_if, same_bytes, AreDistinct, differ-distinct, member-times, times-append}
 use Rattle.events.proofs.Lookups.{row_with, row_with-there}
 use Rattle.events.proofs.Meetings.{MadeBy, made_by}
 use Rattle.events.proofs.Lasting.{stays_if, Joins, joins-of}
-use Rattle.events.proofs.Standing.{built_ins, ids-times, standing-times, in-standing, member-split, member-left, member-right, rows-times, digests-more}
+use Rattle.events.proofs.Standing.{built_ins, ids-times, standing-times, in-standing, rows-times, digests-more}
 use Rattle.events.proofs.Following.{append_nothing, bag-left}
 use Rattle.events.proofs.Legal.{leads-none, leads-more}
 
@@ -56,52 +53,52 @@ left-member ns (r ∷ rs) z m = go (left-member ns rs z) (is_one_of r.id ns) ref
 
 -- the rows that these works offer
 abbrev pub offered_by : List Work → List Row
-offered_by ws = flat_map (λ w. rows_of (work_things w)) ws
+offered_by ws = flat_map (λ w. rows_of (work_products w)) ws
 
-offered-more : (ws : List Work) (w : Work) → offered_by (ws ++ w ∷ []) ≡ offered_by ws ++ rows_of (work_things w)
-offered-more [] w = append_nothing (rows_of (work_things w))
-offered-more (v ∷ ws) w = ap (λ l. rows_of (work_things v) ++ l) (offered-more ws w) ∙ sym (append_assoc (rows_of (work_things v)) (offered_by ws) (rows_of (work_things w)))
+offered-more : (ws : List Work) (w : Work) → offered_by (ws ++ w ∷ []) ≡ offered_by ws ++ rows_of (work_products w)
+offered-more [] w = append_nothing (rows_of (work_products w))
+offered-more (v ∷ ws) w = ap (λ l. rows_of (work_products v) ++ l) (offered-more ws w) ∙ sym (append_assoc (rows_of (work_products v)) (offered_by ws) (rows_of (work_products w)))
 
 -- what was offered before is offered with one more work
 pub offered-still : (ws : List Work) (w : Work) (z : Row) → Member z (offered_by ws) → Member z (offered_by (ws ++ w ∷ []))
-offered-still ws w z m = subst (Member z) (sym (offered-more ws w)) (member-left z (offered_by ws) (rows_of (work_things w)) m)
+offered-still ws w z m = subst (Member z) (sym (offered-more ws w)) (member-left z (offered_by ws) (rows_of (work_products w)) m)
 
-offered-last : (ws : List Work) (w : Work) (z : Row) → Member z (rows_of (work_things w)) → Member z (offered_by (ws ++ w ∷ []))
-offered-last ws w z m = subst (Member z) (sym (offered-more ws w)) (member-right z (offered_by ws) (rows_of (work_things w)) m)
+offered-last : (ws : List Work) (w : Work) (z : Row) → Member z (rows_of (work_products w)) → Member z (offered_by (ws ++ w ∷ []))
+offered-last ws w z m = subst (Member z) (sym (offered-more ws w)) (member-right z (offered_by ws) (rows_of (work_products w)) m)
 
 -- a row is no receiver that leaves when it acts
 abbrev pub remains : Row → Bool
 remains z = stays_if (as_receiver z.part)
 
-module _ (p : Prices) (cap : ℕ) (rows : List Row) (t : Tree) (source : List ℕ) where
+module _ (deploy : Deploy) where
   -- this id was made, and what has it now is no receiver that leaves when it acts
   pub record Spent (a : State) (x : List ℕ) : Type 0 where
-    pub used : 1 ≤ times x (first_ids rows ++ digests a.works)
+    pub used : 1 ≤ times x (first_ids deploy.rows ++ digests a.works)
     pub remain : (z : Row) → Member z (stored_rows a.bag) → x ≡ z.id → remains z ≡ true
 
   -- no id is at hand more often than it was made, what is stored was there at first or offered, and the receivers of the steps made are spent
   pub record Accounted (a : State) : Type 0 where
-    pub counts : (x : List ℕ) → times x (ids (stored_rows a.bag)) + times x (ids built_ins) ≤ times x (first_ids rows ++ digests a.works)
-    pub arrived : (z : Row) → Member z (stored_rows a.bag) → Member z rows ⊎ Member z (offered_by a.works)
+    pub counts : (x : List ℕ) → times x (ids (stored_rows a.bag)) + times x (ids built_ins) ≤ times x (first_ids deploy.rows ++ digests a.works)
+    pub arrived : (z : Row) → Member z (stored_rows a.bag) → Member z deploy.rows ⊎ Member z (offered_by a.works)
     pub spent : (u : Step) → Member u a.made → Spent a u.receiver
 
-  pub distinct-at : (a : State) → AreDistinct (first_ids rows ++ digests a.works) → Accounted a → AreDistinct (ids (standing a.bag))
+  pub distinct-at : (a : State) → AreDistinct (first_ids deploy.rows ++ digests a.works) → Accounted a → AreDistinct (ids (standing a.bag))
   distinct-at a d k x = omega (arith, standing-times x a.bag, k.counts x, d x)
 
   -- what is made with one more work
-  pub all-next : (a : State) (w : Work) (x : List ℕ) → times x (first_ids rows ++ digests (a.works ++ w ∷ [])) ≡ times x (first_ids rows ++ digests a.works) + times x (each digest (work_things w))
-  all-next a w x = omega (arith, times-append x (first_ids rows) (digests a.works), times-append x (first_ids rows) (digests (a.works ++ w ∷ [])), digests-more x a.works w)
+  pub all-next : (a : State) (w : Work) (x : List ℕ) → times x (first_ids deploy.rows ++ digests (a.works ++ w ∷ [])) ≡ times x (first_ids deploy.rows ++ digests a.works) + times x (each digest (work_products w))
+  all-next a w x = omega (arith, times-append x (first_ids deploy.rows) (digests a.works), times-append x (first_ids deploy.rows) (digests (a.works ++ w ∷ [])), digests-more x a.works w)
 
   -- one more step
-  module _ (a : State) (s : Step) (m : Meeting) (w : Work) (meets : meeting a.bag a.made s ≡ Some m) (d : AreDistinct (first_ids rows ++ digests a.works)) (e : AreDistinct (first_ids rows ++ digests (a.works ++ w ∷ []))) (k : Accounted a) where
+  module _ (a : State) (s : Step) (m : Meeting) (w : Work) (meets : meeting a.bag a.made s ≡ Some m) (d : AreDistinct (first_ids deploy.rows ++ digests a.works)) (e : AreDistinct (first_ids deploy.rows ++ digests (a.works ++ w ∷ []))) (k : Accounted a) where
     how : MadeBy (standing a.bag) a.made s m
     how = made_by a.bag a.made s m (distinct-at a d k) meets
 
     abbrev new : List Row
-    new = rows_of (work_things w)
+    new = rows_of (work_products w)
 
     abbrev gone : List (List ℕ)
-    gone = ids (leaving_rows how.joined.receiver.kind how.joined.facts how.taken)
+    gone = ids (leaving_rows how.joined.receiver.kind how.joined.sends how.taken)
 
     left : bag_after a.bag m new ≡ record { kept = without gone a.bag.kept; offered = without gone a.bag.offered ++ new }
     left = ap (λ z. bag_after a.bag z new) how.is ∙ bag-left a.bag how.taken how.joined new (distinct-at a d k)
@@ -119,8 +116,8 @@ module _ (p : Prices) (cap : ℕ) (rows : List Row) (t : Tree) (source : List �
         kept (inr j) = offered (member-split z (without gone a.bag.offered) new j)
 
     -- a new row has none of the ids made before
-    new-apart : (x : List ℕ) → 1 ≤ times x (first_ids rows ++ digests a.works) → (z : Row) → Member z new → x ≡ z.id → ⊥
-    new-apart x u z i f = omega (arith, u, e x, all-next a w x, rows-times x (work_things w), subst (λ y. 1 ≤ times y (ids new)) (sym f) (member-times z new i))
+    new-apart : (x : List ℕ) → 1 ≤ times x (first_ids deploy.rows ++ digests a.works) → (z : Row) → Member z new → x ≡ z.id → ⊥
+    new-apart x u z i f = omega (arith, u, e x, all-next a w x, rows-times x (work_products w), subst (λ y. 1 ≤ times y (ids new)) (sym f) (member-times z new i))
 
     spent-still : (x : List ℕ) → Spent a x → Spent (moved a s m w) x
     spent-still x h = record { used = omega (arith, h.used, all-next a w x); remain = λ z i f. go z f (next-member z i) }
@@ -141,15 +138,15 @@ module _ (p : Prices) (cap : ℕ) (rows : List Row) (t : Tree) (source : List �
     -- a receiver that does not stay leaves
     first-gone : stays how.joined.receiver.kind ≡ false → is_one_of joined.first.id gone ≡ true
     first-gone h =
-        ap (λ l. is_one_of joined.first.id (ids (leaving_rows how.joined.receiver.kind how.joined.facts l))) joined.is
-        ∙ ap (λ b. is_one_of joined.first.id (ids (cond b [] (joined.first ∷ []) ++ leaving_facts how.joined.receiver.kind joined.others how.joined.facts))) h
-        ∙ ap (λ b. b || is_one_of joined.first.id (ids (leaving_facts how.joined.receiver.kind joined.others how.joined.facts))) (same_bytes joined.first.id joined.first.id refl)
+        ap (λ l. is_one_of joined.first.id (ids (leaving_rows how.joined.receiver.kind how.joined.sends l))) joined.is
+        ∙ ap (λ b. is_one_of joined.first.id (ids (cond b [] (joined.first ∷ []) ++ leaving_sends how.joined.receiver.kind joined.others how.joined.sends))) h
+        ∙ ap (λ b. b || is_one_of joined.first.id (ids (leaving_sends how.joined.receiver.kind joined.others how.joined.sends))) (same_bytes joined.first.id joined.first.id refl)
 
     -- the receiver of the step is spent
     spent-now : Spent (moved a s m w) s.receiver
     spent-now = record { used = omega (arith, used, all-next a w s.receiver); remain = λ z i f. go z f (next-member z i) }
       where
-        used : 1 ≤ times s.receiver (first_ids rows ++ digests a.works)
+        used : 1 ≤ times s.receiver (first_ids deploy.rows ++ digests a.works)
         used = omega (arith, subst (λ y. 1 ≤ times y (ids (standing a.bag))) (sym first-id) (member-times joined.first (standing a.bag) first-there), standing-times s.receiver a.bag, k.counts s.receiver)
 
         same : (z : Row) → s.receiver ≡ z.id → Member z (stored_rows a.bag) → z ≡ joined.first
@@ -168,16 +165,16 @@ module _ (p : Prices) (cap : ℕ) (rows : List Row) (t : Tree) (source : List �
 
     pub accounted-step : Accounted (moved a s m w)
     accounted-step = record {
-      counts = λ x. omega (arith, k.counts x, all-next a w x, rows-times x (work_things w), stored-next a.bag m new x);
+      counts = λ x. omega (arith, k.counts x, all-next a w x, rows-times x (work_products w), stored-next a.bag m new x);
       arrived = λ z i. come z (next-member z i);
       spent = λ u i. go u (member-split u a.made (s ∷ []) i);
     }
       where
-        before : (z : Row) → Member z rows ⊎ Member z (offered_by a.works) → Member z rows ⊎ Member z (offered_by (a.works ++ w ∷ []))
+        before : (z : Row) → Member z deploy.rows ⊎ Member z (offered_by a.works) → Member z deploy.rows ⊎ Member z (offered_by (a.works ++ w ∷ []))
         before z (inl i) = inl i
         before z (inr i) = inr (offered-still a.works w z i)
 
-        come : (z : Row) → (Member z (stored_rows a.bag) × (is_one_of z.id gone ≡ false)) ⊎ Member z new → Member z rows ⊎ Member z (offered_by (a.works ++ w ∷ []))
+        come : (z : Row) → (Member z (stored_rows a.bag) × (is_one_of z.id gone ≡ false)) ⊎ Member z new → Member z deploy.rows ⊎ Member z (offered_by (a.works ++ w ∷ []))
         come z (inl j) = before z (k.arrived z j.0)
         come z (inr j) = inr (offered-last a.works w z j)
 
@@ -187,59 +184,59 @@ module _ (p : Prices) (cap : ℕ) (rows : List Row) (t : Tree) (source : List �
         go u (inr (inr i)) = absurd i
 
   -- where the first steps lead, the digests made so far are fresh
-  pub fresh-at : (first rest : List Step) (a : State) → AreFresh p cap rows t source (first ++ rest) → Leads p cap rows t source first a → AreDistinct (first_ids rows ++ digests a.works)
+  pub fresh-at : (first rest : List Step) (a : State) → AreFresh deploy (first ++ rest) → Leads deploy first a → AreDistinct (first_ids deploy.rows ++ digests a.works)
   fresh-at first rest a f l = differ-distinct _ (f first rest refl a l)
 
-  accounted-begun : (w : Work) → Accounted (begun rows w)
+  accounted-begun : (w : Work) → Accounted (begun deploy.rows w)
   accounted-begun w = record {
     counts = λ x. omega (
       arith,
-      ids-times x rows (rows_of (work_things w)),
-      rows-times x (work_things w),
-      ids-times x rows built_ins,
-      times-append x (first_ids rows) (digests (w ∷ [])),
-      times-append x (each digest (work_things w)) [],
+      ids-times x deploy.rows (rows_of (work_products w)),
+      rows-times x (work_products w),
+      ids-times x deploy.rows built_ins,
+      times-append x (first_ids deploy.rows) (digests (w ∷ [])),
+      times-append x (each digest (work_products w)) [],
     );
-    arrived = λ z i. come z (member-split z rows (rows_of (work_things w)) i);
+    arrived = λ z i. come z (member-split z deploy.rows (rows_of (work_products w)) i);
     spent = λ u i. absurd i;
   }
     where
-      come : (z : Row) → Member z rows ⊎ Member z (rows_of (work_things w)) → Member z rows ⊎ Member z (offered_by (w ∷ []))
+      come : (z : Row) → Member z deploy.rows ⊎ Member z (rows_of (work_products w)) → Member z deploy.rows ⊎ Member z (offered_by (w ∷ []))
       come z (inl i) = inl i
       come z (inr i) = inr (offered-last [] w z i)
 
   -- from wherever these steps lead, those steps lead to such a state
   abbrev Continues : ℕ → List Step → List Step → State → Type 0
-  Continues room first ss b = (x : State) → AreFresh p cap rows t source (first ++ ss) → Leads p cap rows t source first x → Accounted x → steps_from p cap room x ss ≡ Some b → Accounted b
+  Continues room first ss b = (x : State) → AreFresh deploy (first ++ ss) → Leads deploy first x → Accounted x → steps_from deploy.prices deploy.limit room x ss ≡ Some b → Accounted b
 
-  accounted-steps : (room : ℕ) (before ss : List Step) (a b : State) → AreFresh p cap rows t source (before ++ ss) → Leads p cap rows t source before a → Accounted a
-      → steps_from p cap room a ss ≡ Some b → Accounted b
+  accounted-steps : (room : ℕ) (before ss : List Step) (a b : State) → AreFresh deploy (before ++ ss) → Leads deploy before a → Accounted a
+      → steps_from deploy.prices deploy.limit room a ss ≡ Some b → Accounted b
   accounted-steps room before [] a b f l k e = let same : a ≡ b = cc e in subst Accounted same k
   accounted-steps room before (s ∷ ss) a b f l k e = allowed (λ x g i j h. accounted-steps room (before ++ s ∷ []) ss x b g i j h) (meeting a.bag a.made s) refl e
     where
-      fresh : AreFresh p cap rows t source ((before ++ s ∷ []) ++ ss)
-      fresh = subst (AreFresh p cap rows t source) (sym (append_assoc before (s ∷ []) ss)) f
+      fresh : AreFresh deploy ((before ++ s ∷ []) ++ ss)
+      fresh = subst (AreFresh deploy) (sym (append_assoc before (s ∷ []) ss)) f
 
-      works : Continues room (before ++ s ∷ []) ss b → (m : Meeting) → meeting a.bag a.made s ≡ Some m → (o : Option Work) → body_work p cap room s m ≡ o
-          → option_and_then (λ x. steps_from p cap room x ss) (option_map (moved a s m) o) ≡ Some b → Accounted b
+      works : Continues room (before ++ s ∷ []) ss b → (m : Meeting) → meeting a.bag a.made s ≡ Some m → (o : Option Work) → body_work deploy.prices deploy.limit room s m ≡ o
+          → option_and_then (λ x. steps_from deploy.prices deploy.limit room x ss) (option_map (moved a s m) o) ≡ Some b → Accounted b
       works next m d None g e = cc
       works next m d (Some w) g e =
-          let there : Leads p cap rows t source (before ++ s ∷ []) (moved a s m w) = leads-more p cap rows t source before a s m room w l d g in
+          let there : Leads deploy (before ++ s ∷ []) (moved a s m w) = leads-more deploy before a s m room w l d g in
           next (moved a s m w) fresh there (accounted-step a s m w d (fresh-at before (s ∷ ss) a f l) (fresh-at (before ++ s ∷ []) ss (moved a s m w) fresh there) k) e
 
       allowed : Continues room (before ++ s ∷ []) ss b → (o : Option Meeting) → meeting a.bag a.made s ≡ o
-          → option_and_then (λ x. steps_from p cap room x ss) (option_and_then (λ m. option_map (moved a s m) (body_work p cap room s m)) o) ≡ Some b → Accounted b
+          → option_and_then (λ x. steps_from deploy.prices deploy.limit room x ss) (option_and_then (λ m. option_map (moved a s m) (body_work deploy.prices deploy.limit room s m)) o) ≡ Some b → Accounted b
       allowed next None d e = cc
-      allowed next (Some m) d e = works next m d (body_work p cap room s m) refl e
+      allowed next (Some m) d e = works next m d (body_work deploy.prices deploy.limit room s m) refl e
 
   -- wherever a legal list leads
-  pub accounted : (ss : List Step) (a : State) → AreFresh p cap rows t source ss → Leads p cap rows t source ss a → Accounted a
-  accounted ss a f l = go (capped cap (unfold_in p l.0 t (digest_of (Start (root rows) source)))) refl l.1
+  pub accounted : (ss : List Step) (a : State) → AreFresh deploy ss → Leads deploy ss a → Accounted a
+  accounted ss a f l = go (capped deploy.limit (unfold_in deploy.prices l.0 deploy.process (source_seed deploy))) refl l.1
     where
-      go : (o : Option Work) → capped cap (unfold_in p l.0 t (digest_of (Start (root rows) source))) ≡ o → option_and_then (λ x. steps_from p cap l.0 x ss) (option_map (begun rows) o) ≡ Some a → Accounted a
+      go : (o : Option Work) → capped deploy.limit (unfold_in deploy.prices l.0 deploy.process (source_seed deploy)) ≡ o → option_and_then (λ x. steps_from deploy.prices deploy.limit l.0 x ss) (option_map (begun deploy.rows) o) ≡ Some a → Accounted a
       go None d e = cc
-      go (Some w) d e = accounted-steps l.0 [] ss (begun rows w) a f (leads-none p cap rows t source w (l.0, d)) (accounted-begun w) e
+      go (Some w) d e = accounted-steps l.0 [] ss (begun deploy.rows w) a f (leads-none deploy w (l.0, d)) (accounted-begun w) e
 
   -- no id stands twice at hand
-  pub distinct : (ss : List Step) (a : State) → AreFresh p cap rows t source ss → Leads p cap rows t source ss a → AreDistinct (ids (standing a.bag))
-  distinct ss a f l = distinct-at a (fresh-at ss [] a (subst (AreFresh p cap rows t source) (sym (append_nothing ss)) f) l) (accounted ss a f l)
+  pub distinct : (ss : List Step) (a : State) → AreFresh deploy ss → Leads deploy ss a → AreDistinct (ids (standing a.bag))
+  distinct ss a f l = distinct-at a (fresh-at ss [] a (subst (AreFresh deploy) (sym (append_nothing ss)) f) l) (accounted ss a f l)

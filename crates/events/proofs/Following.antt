@@ -1,42 +1,41 @@
 -- What each event keeps: the steps lead to a state whose rows are those stored and pending.
 use Rattle.std.proofs.Common.{◌≡◌, ◌≤◌, ℕ, suc, ◌+◌, Bool, true, false, ◌&&◌, ◌||◌, cond, List, [], ◌∷◌, ◌++◌, length, map as each, refl, ap, sym, ◌∙◌, subst, arith, inl, inr, append_assoc, length-append}
-use Rattle.std.specs.Prelude.{◌⊎◌, Option, Some, None, eqb, count_by}
+use Rattle.std.specs.Prelude.{◌⊎◌, Option, Some, None, eqb, count_by, IsPermutation}
 use Rattle.std.proofs.lemmas.Bool.{eqb-true, eq-eqb}
 use Rattle.std.proofs.lemmas.List.Sums.{sum_by-append}
-use Rattle.calculus.specs.Tree.{Tree}
-use Rattle.calculus.specs.Outcome.{Prices}
+use Rattle.list_laws.proofs.Members.{Member, member-split, member-left, member-right, each-there}
 use Rattle.calculus.specs.Log.{Step}
 use Rattle.calculus.specs.Rows.{Row, stdout, stdout_ack}
 use Rattle.calculus.specs.Steps.{Bag, Meeting, standing, stored_rows, is_one_of, same_meeting, stays, all_persistent, right_repeat, meeting, but_places, bag_after}
-use Rattle.calculus.specs.Runs.{State, Leads}
-use Rattle.calculus.proofs.Candidates.{Member}
+use Rattle.calculus.specs.Runs.{Deploy, State, Leads}
 use Rattle.events.specs.Events.{Core, stored, with_operation, takes_part, first_ids, AreFresh, digests}
 use Rattle.events.proofs.Counts.{ids, times, AreDistinct, differ-distinct, member-times, times-one_of}
 use Rattle.events.proofs.Meetings.{Joined, place_in, meeting_at, MadeBy, made_by, makes}
 use Rattle.events.specs.Found.{without, leaving_rows}
 use Rattle.events.proofs.Leaving.{places-leave}
-use Rattle.events.specs.Orders.{Moved}
-use Rattle.events.proofs.Orders.{moved_so, member-moved, times-moved}
-use Rattle.events.proofs.Standing.{built_ins, ids-times, standing-times, member-split, member-left, member-right, no-more, each-there, left-there}
+use Rattle.events.proofs.Orders.{member-moved, times-moved}
+use Rattle.events.proofs.Standing.{built_ins, ids-times, standing-times, no-more, left-there}
+use Rattle.list_laws.proofs.Permutations.{moved_so}
 
 pub append_nothing : {A : Type 0} (l : List A) → l ++ [] ≡ l
 append_nothing [] = refl
 append_nothing (x ∷ l) = ap (λ m. x ∷ m) (append_nothing l)
 
 -- what holds after each list of events
-pub record Kept (p : Prices) (cap : ℕ) (rows : List Row) (t : Tree) (source : List ℕ) (c : Core) : Type 0 where
+pub record Kept (deploy : Deploy) (c : Core) : Type 0 where
   pub state : State
-  pub leads : Leads p cap rows t source c.made state
+  pub leads : Leads deploy c.made state
   pub made : state.made ≡ c.made
   pub works : state.works ≡ c.works
-  pub rows_moved : Moved (stored_rows state.bag) (c.store ++ c.pending)
-  pub counts : (x : List ℕ) → times x (ids (c.store ++ c.pending)) + times x (ids built_ins) ≤ times x (first_ids rows ++ digests c.works)
+  pub output : state.output ≡ c.output
+  pub rows_moved : IsPermutation (stored_rows state.bag) (c.store ++ c.pending)
+  pub counts : (x : List ℕ) → times x (ids (c.store ++ c.pending)) + times x (ids built_ins) ≤ times x (first_ids deploy.rows ++ digests c.works)
   pub quiet : (s : Step) → meeting (stored c.store) c.made s ≡ None
 
-module _ (p : Prices) (cap : ℕ) (rows : List Row) (t : Tree) (source : List ℕ) (c : Core) (k : Kept p cap rows t source c) (fresh : AreFresh p cap rows t source c.made) where
+module _ (deploy : Deploy) (c : Core) (k : Kept deploy c) (fresh : AreFresh deploy c.made) where
   -- no digest stands twice
-  pub all-distinct : AreDistinct (first_ids rows ++ digests c.works)
-  all-distinct = subst (λ ws. AreDistinct (first_ids rows ++ digests ws)) k.works (differ-distinct _ (fresh c.made [] (sym (append_nothing c.made)) k.state k.leads))
+  pub all-distinct : AreDistinct (first_ids deploy.rows ++ digests c.works)
+  all-distinct = subst (λ ws. AreDistinct (first_ids deploy.rows ++ digests ws)) k.works (differ-distinct _ (fresh c.made [] (sym (append_nothing c.made)) k.state k.leads))
 
   -- no id stands twice in a bag of such rows
   pub bag-distinct : (b : Bag) → ((x : List ℕ) → times x (ids (stored_rows b)) ≤ times x (ids (c.store ++ c.pending))) → AreDistinct (ids (standing b))
@@ -133,7 +132,7 @@ quiet-step store made ns u quiet d e s = go (meeting (stored (without ns store))
       quiet (again made s),
       makes (stored store) made (again made s) h.taken h.joined d h.differs h.ids
           (each-there _ _ h.taken (λ z i. no-more (stored (without ns store)) (stored store) z (there z)) h.there) h.joins
-          (either-way (count_by (same_meeting s) (made ++ u ∷ [])) (count_by (same_meeting s) made) (stays h.joined.receiver.kind && all_persistent h.joined.facts)
+          (either-way (count_by (same_meeting s) (made ++ u ∷ [])) (count_by (same_meeting s) made) (stays h.joined.receiver.kind && all_persistent h.joined.sends)
           (counts-more (same_meeting s) made u) s.repeat (subst (λ x. right_repeat (made ++ u ∷ []) s x ≡ true) h.is h.repeats)),
     )
 
@@ -143,14 +142,14 @@ quiet-step store made ns u quiet d e s = go (meeting (stored (without ns store))
 
 -- a bag after a meeting of its rows: those leave that have the ids of the rows that leave
 pub bag-left : (b : Bag) (qs : List Row) (q : Joined) (new : List Row) → AreDistinct (ids (standing b))
-    → bag_after b (meeting_at (standing b) qs q) new ≡ record { kept = without (ids (leaving_rows q.receiver.kind q.facts qs)) b.kept; offered = without (ids (leaving_rows q.receiver.kind q.facts qs)) b.offered ++ new }
+    → bag_after b (meeting_at (standing b) qs q) new ≡ record { kept = without (ids (leaving_rows q.receiver.kind q.sends qs)) b.kept; offered = without (ids (leaving_rows q.receiver.kind q.sends qs)) b.offered ++ new }
 bag-left b qs q new h = cc (first, second)
   where
     ls : List Row
-    ls = leaving_rows q.receiver.kind q.facts qs
+    ls = leaving_rows q.receiver.kind q.sends qs
 
-    first : but_places (each (place_in (standing b)) (leaving_rows q.receiver.kind q.facts qs)) 0 b.kept ≡ without (ids (leaving_rows q.receiver.kind q.facts qs)) b.kept
-    first = places-leave (leaving_rows q.receiver.kind q.facts qs) [] b.kept (stdout ∷ stdout_ack ∷ b.offered) h
+    first : but_places (each (place_in (standing b)) (leaving_rows q.receiver.kind q.sends qs)) 0 b.kept ≡ without (ids (leaving_rows q.receiver.kind q.sends qs)) b.kept
+    first = places-leave (leaving_rows q.receiver.kind q.sends qs) [] b.kept (stdout ∷ stdout_ack ∷ b.offered) h
 
     whole : (b.kept ++ (stdout ∷ stdout_ack ∷ [])) ++ (b.offered ++ []) ≡ standing b
     whole = append_assoc b.kept (stdout ∷ stdout_ack ∷ []) (b.offered ++ []) ∙ ap (λ l. b.kept ++ (stdout ∷ stdout_ack ∷ l)) (append_nothing b.offered)
@@ -158,7 +157,7 @@ bag-left b qs q new h = cc (first, second)
     far : length (b.kept ++ (stdout ∷ stdout_ack ∷ [])) ≡ suc (suc (length b.kept))
     far = length-append b.kept (stdout ∷ stdout_ack ∷ []) ∙ omega arith
 
-    second : but_places (each (place_in (standing b)) (leaving_rows q.receiver.kind q.facts qs)) (suc (suc (length b.kept))) b.offered ≡ without (ids (leaving_rows q.receiver.kind q.facts qs)) b.offered
-    second = subst (λ n. but_places (each (place_in (standing b)) (leaving_rows q.receiver.kind q.facts qs)) n b.offered ≡ without (ids (leaving_rows q.receiver.kind q.facts qs)) b.offered) far
-        (subst (λ l. but_places (each (place_in l) (leaving_rows q.receiver.kind q.facts qs)) (length (b.kept ++ (stdout ∷ stdout_ack ∷ []))) b.offered ≡ without (ids (leaving_rows q.receiver.kind q.facts qs)) b.offered) whole
-        (places-leave (leaving_rows q.receiver.kind q.facts qs) (b.kept ++ (stdout ∷ stdout_ack ∷ [])) b.offered [] (subst (λ l. AreDistinct (ids l)) (sym whole) h)))
+    second : but_places (each (place_in (standing b)) (leaving_rows q.receiver.kind q.sends qs)) (suc (suc (length b.kept))) b.offered ≡ without (ids (leaving_rows q.receiver.kind q.sends qs)) b.offered
+    second = subst (λ n. but_places (each (place_in (standing b)) (leaving_rows q.receiver.kind q.sends qs)) n b.offered ≡ without (ids (leaving_rows q.receiver.kind q.sends qs)) b.offered) far
+        (subst (λ l. but_places (each (place_in l) (leaving_rows q.receiver.kind q.sends qs)) (length (b.kept ++ (stdout ∷ stdout_ack ∷ []))) b.offered ≡ without (ids (leaving_rows q.receiver.kind q.sends qs)) b.offered) whole
+        (places-leave (leaving_rows q.receiver.kind q.sends qs) (b.kept ++ (stdout ∷ stdout_ack ∷ [])) b.offered [] (subst (λ l. AreDistinct (ids l)) (sym whole) h)))

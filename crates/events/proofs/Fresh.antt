@@ -3,7 +3,7 @@ use Rattle.std.proofs.Common.{◌≡◌, ◌≤◌, ℕ, true, List, [], ◌∷�
 use Rattle.std.specs.Prelude.{map as each, flat_map}
 use Rattle.calculus.specs.Rows.{Row}
 use Rattle.calculus.specs.Unfolding.{rows_of, digest}
-use Rattle.calculus.specs.Runs.{Work, work_things}
+use Rattle.calculus.specs.Runs.{Work, work_products}
 use Rattle.calculus.specs.Steps.{differ}
 use Rattle.calculus.specs.Runs.{made_digests}
 use Rattle.events.specs.Events.{first_ids, digests, built_in_names, built_in_digests}
@@ -14,19 +14,19 @@ use Rattle.events.proofs.Following.{append_nothing}
 
 -- the rows that these works offer
 abbrev offered : List Work → List Row
-offered ws = flat_map (λ w. rows_of (work_things w)) ws
+offered ws = flat_map (λ w. rows_of (work_products w)) ws
 
 offered-times : (x : List ℕ) (ws : List Work) → times x (ids (offered ws)) ≤ times x (digests ws)
 offered-times x [] = omega arith
-offered-times x (w ∷ ws) = omega (arith, ids-times x (rows_of (work_things w)) (offered ws), times-append x (each digest (work_things w)) (digests ws), rows-times x (work_things w), offered-times x ws)
+offered-times x (w ∷ ws) = omega (arith, ids-times x (rows_of (work_products w)) (offered ws), times-append x (each digest (work_products w)) (digests ws), rows-times x (work_products w), offered-times x ws)
 
 pub ids_are_offered_once : IdsAreOfferedOnce
-ids_are_offered_once p cap rows t source ss a l f =
-    distinct-differ (first_ids rows ++ ids (offered a.works)) (λ x. omega (
+ids_are_offered_once deploy ss a l f =
+    distinct-differ (first_ids deploy.rows ++ ids (offered a.works)) (λ x. omega (
       arith,
-      differ-distinct (first_ids rows ++ digests a.works) (f ss [] (sym (append_nothing ss)) a l) x,
-      times-append x (first_ids rows) (ids (offered a.works)),
-      times-append x (first_ids rows) (digests a.works),
+      differ-distinct (first_ids deploy.rows ++ digests a.works) (f ss [] (sym (append_nothing ss)) a l) x,
+      times-append x (first_ids deploy.rows) (ids (offered a.works)),
+      times-append x (first_ids deploy.rows) (digests a.works),
       offered-times x a.works,
     ))
 

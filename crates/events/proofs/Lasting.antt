@@ -1,14 +1,14 @@
 -- Rows that last, and which rows a meeting takes away.
 use Rattle.std.proofs.Common.{◌≡◌, Bool, true, false, ◌&&◌, ◌||◌, cond, List, [], ◌∷◌, ◌++◌, refl, ap, sym, ◌∙◌, subst, inl, inr}
 use Rattle.std.specs.Prelude.{Option, Some, None, option_and_then}
+use Rattle.list_laws.proofs.Members.{Member, Every}
 use Rattle.calculus.specs.declared.plain.Kind.{Kind}
 use Rattle.calculus.specs.declared.plain.Kind.TheVariants.{Linear, Persistent, Peek}
 use Rattle.calculus.specs.Tree.{Tree, node, send, receive}
 use Rattle.calculus.specs.Rows.{Row}
 use Rattle.calculus.specs.Matching.{Bindings}
-use Rattle.calculus.specs.Steps.{Receiver, Datum, as_receiver, as_datum, all_taken, stays, peeks, all_persistent}
-use Rattle.calculus.proofs.Candidates.{Member, Every}
-use Rattle.events.specs.Found.{leaving_rows, leaving_facts}
+use Rattle.calculus.specs.Steps.{Receiver, Datum, as_receiver, as_datum, all_bindings, stays, peeks, all_persistent}
+use Rattle.events.specs.Found.{leaving_rows, leaving_sends}
 use Rattle.events.proofs.Standing.{built_ins}
 use Rattle.events.proofs.Meetings.{Joined, as_facts, join}
 
@@ -34,7 +34,7 @@ built-lasts z (inr (inr m)) = absurd m
 
 -- a meeting takes nothing away
 abbrev pub takes_none : Joined → Bool
-takes_none q = stays q.receiver.kind && all_persistent q.facts
+takes_none q = stays q.receiver.kind && all_persistent q.sends
 
 receiver-no-datum : (t : Tree) (c : Receiver) → as_receiver t ≡ Some c → as_datum t ≡ None
 receiver-no-datum (node (receive k) ts) c e = refl
@@ -70,24 +70,24 @@ pub record Joins (rs : List Row) (q : Joined) : Type 0 where
   pub others : List Row
   pub is : rs ≡ first ∷ others
   pub receiver : as_receiver first.part ≡ Some q.receiver
-  pub facts : as_facts others ≡ Some q.facts
+  pub sends : as_facts others ≡ Some q.sends
 
 pub joins-of : (rs : List Row) (q : Joined) → join rs ≡ Some q → Joins rs q
 joins-of [] q e = cc
 joins-of (r ∷ rs) q e = go (as_receiver r.part) refl (as_facts rs) refl e
   where
     bound : (c : Receiver) (ds : List Datum) → as_receiver r.part ≡ Some c → as_facts rs ≡ Some ds → (o : Option Bindings)
-        → option_and_then (λ xs. Some (record { receiver = c; facts = ds; bindings = xs })) o ≡ Some q → Joins (r ∷ rs) q
+        → option_and_then (λ xs. Some (record { receiver = c; sends = ds; bindings = xs })) o ≡ Some q → Joins (r ∷ rs) q
     bound c ds f g None e = cc
     bound c ds f g (Some xs) e =
-        let same : record { receiver = c; facts = ds; bindings = xs } ≡ q = cc e in
-        record { first = r; others = rs; is = refl; receiver = f ∙ ap (λ x. Some x) (ap (λ j. j.receiver) same); facts = g ∙ ap (λ x. Some x) (ap (λ j. j.facts) same) }
+        let same : record { receiver = c; sends = ds; bindings = xs } ≡ q = cc e in
+        record { first = r; others = rs; is = refl; receiver = f ∙ ap (λ x. Some x) (ap (λ j. j.receiver) same); sends = g ∙ ap (λ x. Some x) (ap (λ j. j.sends) same) }
 
     go : (o : Option Receiver) → as_receiver r.part ≡ o → (os : Option (List Datum)) → as_facts rs ≡ os
-        → option_and_then (λ c. option_and_then (λ ds. option_and_then (λ xs. Some (record { receiver = c; facts = ds; bindings = xs })) (all_taken c.binds ds)) os) o ≡ Some q → Joins (r ∷ rs) q
+        → option_and_then (λ c. option_and_then (λ ds. option_and_then (λ xs. Some (record { receiver = c; sends = ds; bindings = xs })) (all_bindings c.binds ds)) os) o ≡ Some q → Joins (r ∷ rs) q
     go None f os g e = cc
     go (Some c) f None g e = cc
-    go (Some c) f (Some ds) g e = bound c ds f g (all_taken c.binds ds) e
+    go (Some c) f (Some ds) g e = bound c ds f g (all_bindings c.binds ds) e
 
 facts-last : (rs : List Row) (ds : List Datum) → as_facts rs ≡ Some ds → all_persistent ds ≡ true → Every (λ r. lasts r ≡ true) rs
 facts-last [] ds e h = tt
@@ -109,7 +109,7 @@ pub all-last : (rs : List Row) (q : Joined) → join rs ≡ Some q → takes_non
 all-last rs q e h =
     let j = joins-of rs q e in
     subst (λ l. Every (λ r. lasts r ≡ true) l) (sym j.is)
-    (receiver-lasts j.first q.receiver j.receiver ∙ first (stays q.receiver.kind) (all_persistent q.facts) h, facts-last j.others q.facts j.facts (second (stays q.receiver.kind) (all_persistent q.facts) h))
+    (receiver-lasts j.first q.receiver j.receiver ∙ first (stays q.receiver.kind) (all_persistent q.sends) h, facts-last j.others q.sends j.sends (second (stays q.receiver.kind) (all_persistent q.sends) h))
   where
     first : (a b : Bool) → a && b ≡ true → a ≡ true
     first true b h = refl
@@ -119,7 +119,7 @@ all-last rs q e h =
     second true b h = h
     second false b h = cc
 
-leaving-facts-fade : (k : Kind) (rs : List Row) (ds : List Datum) → as_facts rs ≡ Some ds → Every (λ r. lasts r ≡ false) (leaving_facts k rs ds)
+leaving-facts-fade : (k : Kind) (rs : List Row) (ds : List Datum) → as_facts rs ≡ Some ds → Every (λ r. lasts r ≡ false) (leaving_sends k rs ds)
 leaving-facts-fade k [] ds e = tt
 leaving-facts-fade k (r ∷ rs) [] e = tt
 leaving-facts-fade k (r ∷ rs) (d ∷ ds) e =
@@ -134,20 +134,20 @@ leaving-facts-fade k (r ∷ rs) (d ∷ ds) e =
     heads : {a b : Datum} {us vs : List Datum} → a ∷ us ≡ b ∷ vs → a ≡ b
     heads e = cc e
 
-    go : (b c : Bool) → d.persistent ≡ c → lasts r ≡ d.persistent → Every (λ r. lasts r ≡ false) (leaving_facts k rs ds) → Every (λ r. lasts r ≡ false) (cond (b || c) (leaving_facts k rs ds) (r ∷ leaving_facts k rs ds))
+    go : (b c : Bool) → d.persistent ≡ c → lasts r ≡ d.persistent → Every (λ r. lasts r ≡ false) (leaving_sends k rs ds) → Every (λ r. lasts r ≡ false) (cond (b || c) (leaving_sends k rs ds) (r ∷ leaving_sends k rs ds))
     go true c p l h = h
     go false true p l h = h
     go false false p l h = (l ∙ p, h)
 
 -- the rows that a meeting takes away do not last
-pub leaving-fade : (rs : List Row) (q : Joined) → join rs ≡ Some q → Every (λ r. lasts r ≡ false) (leaving_rows q.receiver.kind q.facts rs)
+pub leaving-fade : (rs : List Row) (q : Joined) → join rs ≡ Some q → Every (λ r. lasts r ≡ false) (leaving_rows q.receiver.kind q.sends rs)
 leaving-fade rs q e =
     let j = joins-of rs q e in
-    subst (λ l. Every (λ r. lasts r ≡ false) (leaving_rows q.receiver.kind q.facts l)) (sym j.is)
-    (go j.first j.others (stays q.receiver.kind) refl (receiver-lasts j.first q.receiver j.receiver) (leaving-facts-fade q.receiver.kind j.others q.facts j.facts))
+    subst (λ l. Every (λ r. lasts r ≡ false) (leaving_rows q.receiver.kind q.sends l)) (sym j.is)
+    (go j.first j.others (stays q.receiver.kind) refl (receiver-lasts j.first q.receiver j.receiver) (leaving-facts-fade q.receiver.kind j.others q.sends j.sends))
   where
-    go : (r : Row) (rs : List Row) (b : Bool) → stays q.receiver.kind ≡ b → lasts r ≡ stays q.receiver.kind → Every (λ r. lasts r ≡ false) (leaving_facts q.receiver.kind rs q.facts)
-        → Every (λ r. lasts r ≡ false) (cond b [] (r ∷ []) ++ leaving_facts q.receiver.kind rs q.facts)
+    go : (r : Row) (rs : List Row) (b : Bool) → stays q.receiver.kind ≡ b → lasts r ≡ stays q.receiver.kind → Every (λ r. lasts r ≡ false) (leaving_sends q.receiver.kind rs q.sends)
+        → Every (λ r. lasts r ≡ false) (cond b [] (r ∷ []) ++ leaving_sends q.receiver.kind rs q.sends)
     go r rs true p l h = h
     go r rs false p l h = (l ∙ p, h)
 
@@ -156,7 +156,7 @@ stays-no-peek Persistent e = refl
 stays-no-peek Linear e = cc
 stays-no-peek Peek e = cc
 
-some-fact-leaves : (k : Kind) (rs : List Row) (ds : List Datum) → peeks k ≡ false → as_facts rs ≡ Some ds → all_persistent ds ≡ false → (r : Row) × Member r (leaving_facts k rs ds)
+some-fact-leaves : (k : Kind) (rs : List Row) (ds : List Datum) → peeks k ≡ false → as_facts rs ≡ Some ds → all_persistent ds ≡ false → (r : Row) × Member r (leaving_sends k rs ds)
 some-fact-leaves k [] ds n e h = absurd (none ds e h)
   where
     none : (ds : List Datum) → Some [] ≡ Some ds → all_persistent ds ≡ false → ⊥
@@ -171,19 +171,19 @@ some-fact-leaves k (r ∷ rs) (d ∷ ds) n e h =
     tails : {a b : Datum} {us vs : List Datum} → a ∷ us ≡ b ∷ vs → us ≡ vs
     tails e = cc e
 
-    go : (all_persistent ds ≡ false → (z : Row) × Member z (leaving_facts k rs ds)) → (b : Bool) → b ≡ false → (c : Bool) → c && all_persistent ds ≡ false
-        → (z : Row) × Member z (cond (b || c) (leaving_facts k rs ds) (r ∷ leaving_facts k rs ds))
+    go : (all_persistent ds ≡ false → (z : Row) × Member z (leaving_sends k rs ds)) → (b : Bool) → b ≡ false → (c : Bool) → c && all_persistent ds ≡ false
+        → (z : Row) × Member z (cond (b || c) (leaving_sends k rs ds) (r ∷ leaving_sends k rs ds))
     go next true p c h = cc
     go next false p true h = next h
     go next false p false h = (r, inl refl)
 
 -- a meeting that takes something away takes a row away
-pub one-leaves : (rs : List Row) (q : Joined) → join rs ≡ Some q → takes_none q ≡ false → (r : Row) × Member r (leaving_rows q.receiver.kind q.facts rs)
+pub one-leaves : (rs : List Row) (q : Joined) → join rs ≡ Some q → takes_none q ≡ false → (r : Row) × Member r (leaving_rows q.receiver.kind q.sends rs)
 one-leaves rs q e h =
     let j = joins-of rs q e in
-    subst (λ l. (r : Row) × Member r (leaving_rows q.receiver.kind q.facts l)) (sym j.is) (go j.first j.others j.facts (stays q.receiver.kind) refl h)
+    subst (λ l. (r : Row) × Member r (leaving_rows q.receiver.kind q.sends l)) (sym j.is) (go j.first j.others j.sends (stays q.receiver.kind) refl h)
   where
-    go : (f : Row) (rs : List Row) → as_facts rs ≡ Some q.facts → (b : Bool) → stays q.receiver.kind ≡ b → b && all_persistent q.facts ≡ false
-        → (r : Row) × Member r (cond b [] (f ∷ []) ++ leaving_facts q.receiver.kind rs q.facts)
-    go f rs g true p h = some-fact-leaves q.receiver.kind rs q.facts (stays-no-peek q.receiver.kind p) g h
+    go : (f : Row) (rs : List Row) → as_facts rs ≡ Some q.sends → (b : Bool) → stays q.receiver.kind ≡ b → b && all_persistent q.sends ≡ false
+        → (r : Row) × Member r (cond b [] (f ∷ []) ++ leaving_sends q.receiver.kind rs q.sends)
+    go f rs g true p h = some-fact-leaves q.receiver.kind rs q.sends (stays-no-peek q.receiver.kind p) g h
     go f rs g false p h = (f, inl refl)

@@ -53,7 +53,7 @@ own-place x i (p ∷ pre) r post h e = go (own-place x (suc i) pre r post) (byte
     go next false h = omega (arith, next (omega (arith, h)) e)
 
 -- a place is the one of an id exactly where the row there has it
-place-is : (x : List ℕ) (pre : List Row) (r : Row) (post : List Row) → AreDistinct (ids (pre ++ r ∷ post)) → eqb (place_of x 0 (pre ++ r ∷ post)) (length pre) ≡ bytes_eq r.id x
+pub place-is : (x : List ℕ) (pre : List Row) (r : Row) (post : List Row) → AreDistinct (ids (pre ++ r ∷ post)) → eqb (place_of x 0 (pre ++ r ∷ post)) (length pre) ≡ bytes_eq r.id x
 place-is x pre r post h = go (bytes_eq r.id x) refl (eqb (place_of x 0 (pre ++ r ∷ post)) (length pre)) refl
   where
     go : (b : Bool) → bytes_eq r.id x ≡ b → (c : Bool) → eqb (place_of x 0 (pre ++ r ∷ post)) (length pre) ≡ c → c ≡ b

@@ -1,15 +1,11 @@
 -- Lists of steps with one more at their end, or cut in two.
 use Rattle.std.proofs.Common.{◌≡◌, ℕ, ◌+◌, List, [], ◌∷◌, ◌++◌, refl, ap, sym, ◌∙◌, subst, arith}
 use Rattle.std.specs.Prelude.{Option, Some, None, option_map, option_and_then}
-use Rattle.calculus.specs.Tree.{Tree}
 use Rattle.calculus.specs.Outcome.{Prices}
-use Rattle.calculus.specs.Seeds.{digest_of, Start}
 use Rattle.calculus.specs.Log.{Step}
-use Rattle.calculus.specs.Rows.{Row}
-use Rattle.calculus.specs.Root.{root}
 use Rattle.calculus.specs.Unfolding.{Unfolds}
 use Rattle.calculus.specs.Steps.{Meeting, meeting}
-use Rattle.calculus.specs.Runs.{Work, State, body_work, moved, step_from, steps_from, begun, first_state, state_after, Leads}
+use Rattle.calculus.specs.Runs.{source_seed, Deploy, Work, State, body_work, moved, step_from, steps_from, begun, first_state, state_after, Leads}
 use Rattle.calculus.proofs.Candidates.{and_then-inv}
 use Rattle.calculus.proofs.States.{body_keeps, room_keeps_state}
 
@@ -25,26 +21,26 @@ steps-append p cap room a b (u ∷ ss) s e = go (λ x f. steps-append p cap room
     go next (Some x) f = next x f
 
 -- the source alone leads to its own state
-pub leads-none : (p : Prices) (cap : ℕ) (rows : List Row) (t : Tree) (source : List ℕ) (w : Work) → Unfolds p cap t (digest_of (Start (root rows) source)) w → Leads p cap rows t source [] (begun rows w)
-leads-none p cap rows t source w u = (u.0, rw u.1 refl)
+pub leads-none : (deploy : Deploy) (w : Work) → Unfolds deploy.prices deploy.limit deploy.process (source_seed deploy) w → Leads deploy [] (begun deploy.rows w)
+leads-none deploy w u = (u.0, rw u.1 refl)
 
 -- one more step that is allowed leads to the state after it
-pub leads-more : (p : Prices) (cap : ℕ) (rows : List Row) (t : Tree) (source : List ℕ) (ss : List Step) (a : State) (s : Step) (f : Meeting) (room : ℕ) (w : Work)
-    → Leads p cap rows t source ss a → meeting a.bag a.made s ≡ Some f → body_work p cap room s f ≡ Some w → Leads p cap rows t source (ss ++ s ∷ []) (moved a s f w)
-leads-more p cap rows t source ss a s f room w h e k = (h.0 + room, go (first_state p cap (h.0 + room) rows t source) refl)
+pub leads-more : (deploy : Deploy) (ss : List Step) (a : State) (s : Step) (f : Meeting) (room : ℕ) (w : Work)
+    → Leads deploy ss a → meeting a.bag a.made s ≡ Some f → body_work deploy.prices deploy.limit room s f ≡ Some w → Leads deploy (ss ++ s ∷ []) (moved a s f w)
+leads-more deploy ss a s f room w h e k = (h.0 + room, go (first_state deploy (h.0 + room)) refl)
   where
-    before : state_after p cap (h.0 + room) rows t source ss ≡ Some a
-    before = room_keeps_state p cap h.0 (h.0 + room) rows t source ss a (omega arith) h.1
+    before : state_after deploy (h.0 + room) ss ≡ Some a
+    before = room_keeps_state deploy h.0 (h.0 + room) ss a (omega arith) h.1
 
-    work : body_work p cap (h.0 + room) s f ≡ Some w
-    work = body_keeps p cap room (h.0 + room) (omega arith) s f w k
+    work : body_work deploy.prices deploy.limit (h.0 + room) s f ≡ Some w
+    work = body_keeps deploy.prices deploy.limit room (h.0 + room) (omega arith) s f w k
 
-    last : steps_from p cap (h.0 + room) a (s ∷ []) ≡ Some (moved a s f w)
-    last = ap (λ o. option_and_then (λ b. Some b) (option_and_then (λ m. option_map (moved a s m) (body_work p cap (h.0 + room) s m)) o)) e ∙ ap (λ o. option_and_then (λ b. Some b) (option_map (moved a s f) o)) work
+    last : steps_from deploy.prices deploy.limit (h.0 + room) a (s ∷ []) ≡ Some (moved a s f w)
+    last = ap (λ o. option_and_then (λ b. Some b) (option_and_then (λ m. option_map (moved a s m) (body_work deploy.prices deploy.limit (h.0 + room) s m)) o)) e ∙ ap (λ o. option_and_then (λ b. Some b) (option_map (moved a s f) o)) work
 
-    go : (o : Option State) → first_state p cap (h.0 + room) rows t source ≡ o → option_and_then (λ b. steps_from p cap (h.0 + room) b (ss ++ s ∷ [])) o ≡ Some (moved a s f w)
-    go None d = cc (before, ap (λ o. option_and_then (λ b. steps_from p cap (h.0 + room) b ss) o) d)
-    go (Some b) d = steps-append p cap (h.0 + room) b a ss s (sym (ap (λ o. option_and_then (λ x. steps_from p cap (h.0 + room) x ss) o) d) ∙ before) ∙ last
+    go : (o : Option State) → first_state deploy (h.0 + room) ≡ o → option_and_then (λ b. steps_from deploy.prices deploy.limit (h.0 + room) b (ss ++ s ∷ [])) o ≡ Some (moved a s f w)
+    go None d = cc (before, ap (λ o. option_and_then (λ b. steps_from deploy.prices deploy.limit (h.0 + room) b ss) o) d)
+    go (Some b) d = steps-append deploy.prices deploy.limit (h.0 + room) b a ss s (sym (ap (λ o. option_and_then (λ x. steps_from deploy.prices deploy.limit (h.0 + room) x ss) o) d) ∙ before) ∙ last
 
 steps-split : (p : Prices) (cap room : ℕ) (xs ys : List Step) (a b c : State) → steps_from p cap room a xs ≡ Some b → steps_from p cap room a (xs ++ ys) ≡ Some c → steps_from p cap room b ys ≡ Some c
 steps-split p cap room [] ys a b c e f = let same : a ≡ b = cc e in subst (λ z. steps_from p cap room z ys ≡ Some c) same f
@@ -55,13 +51,13 @@ steps-split p cap room (x ∷ xs) ys a b c e f =
     steps-split p cap room xs ys i.0 b c i.2 (subst (λ z. steps_from p cap room z (xs ++ ys) ≡ Some c) same j.2)
 
 -- from where the first steps lead, the others lead to where all do
-pub leads-rest : (p : Prices) (cap : ℕ) (rows : List Row) (t : Tree) (source : List ℕ) (xs ys : List Step) (b c : State) → Leads p cap rows t source xs b → Leads p cap rows t source (xs ++ ys) c
-    → (room : ℕ) × (steps_from p cap room b ys ≡ Some c)
-leads-rest p cap rows t source xs ys b c k l =
+pub leads-rest : (deploy : Deploy) (xs ys : List Step) (b c : State) → Leads deploy xs b → Leads deploy (xs ++ ys) c
+    → (room : ℕ) × (steps_from deploy.prices deploy.limit room b ys ≡ Some c)
+leads-rest deploy xs ys b c k l =
     let room : ℕ = l.0 + k.0 in
-    let whole : state_after p cap room rows t source (xs ++ ys) ≡ Some c = room_keeps_state p cap l.0 room rows t source (xs ++ ys) c (omega arith) l.1 in
-    let part : state_after p cap room rows t source xs ≡ Some b = room_keeps_state p cap k.0 room rows t source xs b (omega arith) k.1 in
-    let i = and_then-inv (first_state p cap room rows t source) (λ d. steps_from p cap room d (xs ++ ys)) c whole in
-    let j = and_then-inv (first_state p cap room rows t source) (λ d. steps_from p cap room d xs) b part in
+    let whole : state_after deploy room (xs ++ ys) ≡ Some c = room_keeps_state deploy l.0 room (xs ++ ys) c (omega arith) l.1 in
+    let part : state_after deploy room xs ≡ Some b = room_keeps_state deploy k.0 room xs b (omega arith) k.1 in
+    let i = and_then-inv (first_state deploy room) (λ d. steps_from deploy.prices deploy.limit room d (xs ++ ys)) c whole in
+    let j = and_then-inv (first_state deploy room) (λ d. steps_from deploy.prices deploy.limit room d xs) b part in
     let same : i.0 ≡ j.0 = cc (i.1, j.1) in
-    (room, steps-split p cap room xs ys j.0 b c j.2 (subst (λ d. steps_from p cap room d (xs ++ ys) ≡ Some c) same i.2))
+    (room, steps-split deploy.prices deploy.limit room xs ys j.0 b c j.2 (subst (λ d. steps_from deploy.prices deploy.limit room d (xs ++ ys) ≡ Some c) same i.2))

@@ -3,6 +3,7 @@ pub mod Lookups
 pub mod Meetings
 pub mod Lasting
 pub mod Leaving
+pub mod Printing
 pub mod Orders
 pub mod Legal
 pub mod Standing

@@ -2,10 +2,10 @@
 use Rattle.std.proofs.Common.{◌≡◌, ◌≤◌, ℕ, suc, ◌+◌, Bool, true, false, cond, List, [], ◌∷◌, map as each, refl, ap, sym, ◌∙◌, subst, arith, inl, inr}
 use Rattle.std.specs.Prelude.{flat_map, Option, Some, None, option_map, option_and_then}
 use Rattle.std.specs.Str.{bytes_eq}
+use Rattle.list_laws.proofs.Members.{Member, Every}
 use Rattle.calculus.specs.Log.{Step}
 use Rattle.calculus.specs.Rows.{Row}
-use Rattle.calculus.specs.Steps.{Bag, Held, standing, with_id, row_choices, differ, meet_for, first_there, meeting}
-use Rattle.calculus.proofs.Candidates.{Member, Every}
+use Rattle.calculus.specs.Steps.{Bag, PlacedRow, standing, with_id, row_choices, differ, meet_for, first_there, meeting}
 use Rattle.events.proofs.Counts.{ids, times, one_if, same_bytes, bytes_same, AreDistinct, member-times}
 
 -- the row with this id that stands first
@@ -24,7 +24,7 @@ rows_with [] rs = Some []
 rows_with (x ∷ xs) rs = option_and_then (λ r. option_map (λ qs. r ∷ qs) (rows_with xs rs)) (row_with x rs)
 
 -- a row with its place among rows
-abbrev pub held_in : List Row → Row → Held
+abbrev pub held_in : List Row → Row → PlacedRow
 held_in rs r = (place_of r.id 0 rs, r)
 
 -- what an option holds, as a list

@@ -2,23 +2,23 @@
 use Rattle.std.proofs.Common.{◌≡◌, ℕ, Bool, true, false, ◌&&◌, ◌||◌, List, [], ◌∷◌, ◌++◌, refl, ap, sym, ◌∙◌, subst, inl, inr}
 use Rattle.std.specs.Prelude.{Option, Some, None, option_map, eqb, count_by}
 use Rattle.std.proofs.lemmas.Bool.{eq-eqb}
+use Rattle.list_laws.proofs.Members.{Member, Every, each-there, every-at}
 use Rattle.calculus.specs.Log.{Step}
 use Rattle.calculus.specs.Rows.{Row, stdout, stdout_ack}
 use Rattle.calculus.specs.Unfolding.{rows_of}
-use Rattle.calculus.specs.Steps.{Meeting, is_one_of, standing, differ, same_meeting, meeting, bag_after}
-use Rattle.calculus.specs.Runs.{work_things, body_work}
-use Rattle.calculus.proofs.Candidates.{Member, Every}
+use Rattle.calculus.specs.Steps.{Bag, Meeting, is_one_of, standing, differ, same_meeting, meeting, printed_line, bag_after}
+use Rattle.calculus.specs.Runs.{work_products, body_work}
 use Rattle.events.specs.Events.{with_operation, takes_part, Meets}
-use Rattle.events.specs.Found.{met, Among, AreAtHand, without, leaving_rows, is_lasting, after_meeting, step_of}
+use Rattle.events.specs.Found.{met, Among, AreAtHand, without, leaving_rows, is_lasting, printed_by, after_meeting, step_of}
+use Rattle.events.proofs.Printing.{line-of}
 use Rattle.events.specs.Laws.{MeetingsAreSteps, LonelyOperationsAreStored}
 use Rattle.events.proofs.Counts.{ids, AreDistinct, member-times, times-one_of}
 use Rattle.events.proofs.Lookups.{row_with, row_with-there}
 use Rattle.events.proofs.Meetings.{Joined, join, meeting_with, meeting_at, meet_rows-of, MadeBy, made_by, makes}
 use Rattle.events.proofs.Lasting.{takes_none, joins-of}
-use Rattle.events.proofs.Standing.{each-there}
 use Rattle.events.proofs.Following.{Kept, operation-distinct, operation-there, bag-left}
 use Rattle.events.proofs.Keeping.{kept-all}
-use Rattle.events.proofs.Spent.{every-at, row-of-id, all-past, not-made}
+use Rattle.events.proofs.Spent.{row-of-id, all-past, not-made}
 
 pub among : (r : Row) (qs : List Row) → Member r qs → Among r qs
 among r [] m = m
@@ -44,7 +44,7 @@ pub record Met (qs : List Row) (m : Meeting) : Type 0 where
   pub joins : join qs ≡ Some joined
   pub is : m ≡ meeting_with (λ r. 0) qs joined
 
-met-joins : (qs : List Row) (m : Meeting) → met qs ≡ Some m → Met qs m
+pub met-joins : (qs : List Row) (m : Meeting) → met qs ≡ Some m → Met qs m
 met-joins qs m e = go (join qs) refl (sym (meet_rows-of (λ r. 0) qs) ∙ e)
   where
     go : (o : Option Joined) → join qs ≡ o → option_map (meeting_with (λ r. 0) qs) o ≡ Some m → Met qs m
@@ -55,11 +55,11 @@ joined-met : (qs : List Row) (q : Joined) → join qs ≡ Some q → met qs ≡ 
 joined-met qs q j = meet_rows-of (λ r. 0) qs ∙ ap (option_map (meeting_with (λ r. 0) qs)) j
 
 pub lonely_operations_are_stored : LonelyOperationsAreStored
-lonely_operations_are_stored p cap rows t source w c b es f operation before after e lonely =
+lonely_operations_are_stored deploy w c b es f operation before after e lonely =
     inl (record { operation = operation; before = before; after = after; pending = e; alone = λ s k. go s k (meeting (with_operation c.store operation) c.made s) refl; is = refl })
   where
     d : AreDistinct (ids (standing (with_operation c.store operation)))
-    d = operation-distinct p cap rows t source c (kept-all p cap rows t source w c b es f) f operation before after e
+    d = operation-distinct deploy c (kept-all deploy w c b es f) f operation before after e
 
     here : (store : List Row) → Member operation (store ++ (stdout ∷ stdout_ack ∷ operation ∷ []))
     here [] = inr (inr (inl refl))
@@ -94,13 +94,13 @@ right-number n true h = ap (λ x. x && (eqb n 0 || true)) (eq-eqb n n refl) ∙ 
 right-number n false h = ap (λ x. x && (eqb n 0 || false)) (eq-eqb n n refl) ∙ ap (λ x. x || false) (eq-eqb n 0 (h refl))
 
 pub meetings_are_steps : MeetingsAreSteps
-meetings_are_steps p cap rows t source w c b es f operation before after e r ds hand part d m h v room body = (inr step, zero-for)
+meetings_are_steps deploy w c b es f operation before after e r ds hand part d m h v room body = (inr step, zero-for)
   where
-    k : Kept p cap rows t source c
-    k = kept-all p cap rows t source w c b es f
+    k : Kept deploy c
+    k = kept-all deploy w c b es f
 
     one : AreDistinct (ids (standing (with_operation c.store operation)))
-    one = operation-distinct p cap rows t source c (kept-all p cap rows t source w c b es f) f operation before after e
+    one = operation-distinct deploy c (kept-all deploy w c b es f) f operation before after e
 
     j : Met (r ∷ ds) m
     j = met-joins (r ∷ ds) m h
@@ -109,10 +109,10 @@ meetings_are_steps p cap rows t source w c b es f operation before after e r ds 
     there = all-at-hand c.store operation (r ∷ ds) hand
 
     in-state : Every (λ z. Member z (standing k.state.bag)) (r ∷ ds)
-    in-state = each-there _ _ (r ∷ ds) (λ z i l. operation-there p cap rows t source c k f operation before after e z l) there
+    in-state = each-there _ _ (r ∷ ds) (λ z i l. operation-there deploy c k f operation before after e z l) there
 
     once : takes_none j.joined ≡ false → count_by (same_meeting (step_of c.made r ds)) c.made ≡ 0
-    once = not-made p cap rows t source c k f (all-past p cap rows t source w c b es f) (step_of c.made r ds) (r ∷ ds) j.joined refl in-state j.joins
+    once = not-made deploy c k f (all-past deploy w c b es f) (step_of c.made r ds) (r ∷ ds) j.joined refl in-state j.joins
 
     zero-for : is_lasting m ≡ false → (step_of c.made r ds).repeat ≡ 0
     zero-for l = once (sym (ap is_lasting j.is) ∙ l)
@@ -123,15 +123,21 @@ meetings_are_steps p cap rows t source w c b es f operation before after e r ds 
     takes : takes_part operation (step_of c.made r ds) ≡ true
     takes = times-one_of operation.id (ids (r ∷ ds)) (member-times operation (r ∷ ds) (member operation (r ∷ ds) part))
 
-    work : body_work p cap room (step_of c.made r ds) (meeting_at (standing (with_operation c.store operation)) (r ∷ ds) j.joined) ≡ Some v
-    work = subst (λ x. body_work p cap room (step_of c.made r ds) x ≡ Some v) j.is body
+    work : body_work deploy.prices deploy.limit room (step_of c.made r ds) (meeting_at (standing (with_operation c.store operation)) (r ∷ ds) j.joined) ≡ Some v
+    work = subst (λ x. body_work deploy.prices deploy.limit room (step_of c.made r ds) x ≡ Some v) j.is body
 
-    left : bag_after (with_operation c.store operation) (meeting_at (standing (with_operation c.store operation)) (r ∷ ds) j.joined) (rows_of (work_things v))
-        ≡ record { kept = without (ids (leaving_rows m.receiver.kind m.facts (r ∷ ds))) c.store; offered = without (ids (leaving_rows m.receiver.kind m.facts (r ∷ ds))) (operation ∷ []) ++ rows_of (work_things v) }
-    left = bag-left (with_operation c.store operation) (r ∷ ds) j.joined (rows_of (work_things v)) one
-        ∙ ap (λ x. record { kept = without (ids (leaving_rows x.receiver.kind x.facts (r ∷ ds))) c.store; offered = without (ids (leaving_rows x.receiver.kind x.facts (r ∷ ds))) (operation ∷ []) ++ rows_of (work_things v) }) (sym j.is)
+    printed : printed_line (with_operation c.store operation) (meeting_at (standing (with_operation c.store operation)) (r ∷ ds) j.joined) ≡ printed_by (r ∷ ds) m
+    printed = line-of (with_operation c.store operation) (r ∷ ds) j.joined one j.joins ∙ ap (λ x. printed_by (r ∷ ds) x) (sym j.is)
 
-    step : Meets p cap c (after_meeting c operation before after (r ∷ ds) m (step_of c.made r ds) v)
+    bag : Bag
+    bag = bag_after (with_operation c.store operation) (meeting_at (standing (with_operation c.store operation)) (r ∷ ds) j.joined) (rows_of (work_products v))
+
+    left : bag
+        ≡ record { kept = without (ids (leaving_rows m.receiver.kind m.sends (r ∷ ds))) c.store; offered = without (ids (leaving_rows m.receiver.kind m.sends (r ∷ ds))) (operation ∷ []) ++ rows_of (work_products v) }
+    left = bag-left (with_operation c.store operation) (r ∷ ds) j.joined (rows_of (work_products v)) one
+        ∙ ap (λ x. record { kept = without (ids (leaving_rows x.receiver.kind x.sends (r ∷ ds))) c.store; offered = without (ids (leaving_rows x.receiver.kind x.sends (r ∷ ds))) (operation ∷ []) ++ rows_of (work_products v) }) (sym j.is)
+
+    step : Meets deploy.prices deploy.limit c (after_meeting c operation before after (r ∷ ds) m (step_of c.made r ds) v)
     step = record {
       operation = operation;
       before = before;
@@ -144,5 +150,6 @@ meetings_are_steps p cap rows t source w c b es f operation before after e r ds 
       room = room;
       work = v;
       works = work;
-      is = ap (λ x. record { store = x.kept; pending = before ++ (x.offered ++ after); made = c.made ++ step_of c.made r ds ∷ []; works = c.works ++ v ∷ [] }) (sym left);
+      is = ap (λ x. record { store = x.kept; pending = before ++ (x.offered ++ after); made = c.made ++ step_of c.made r ds ∷ []; works = c.works ++ v ∷ []; output = c.output ++ printed_by (r ∷ ds) m }) (sym left)
+          ∙ ap (λ l. record { store = bag.kept; pending = before ++ (bag.offered ++ after); made = c.made ++ step_of c.made r ds ∷ []; works = c.works ++ v ∷ []; output = c.output ++ l }) (sym printed);
     }

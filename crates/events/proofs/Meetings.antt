@@ -1,20 +1,20 @@
 -- How rows meet, whatever bag they stand in.
 use Rattle.std.proofs.Common.{◌≡◌, ℕ, Bool, true, false, ◌||◌, cond, List, [], ◌∷◌, ◌++◌, map as each, refl, ap, sym, ◌∙◌, subst}
 use Rattle.std.specs.Prelude.{Option, Some, None, option_map, option_and_then}
+use Rattle.list_laws.proofs.Members.{Member, Every}
 use Rattle.calculus.specs.declared.plain.Kind.{Kind}
 use Rattle.calculus.specs.Log.{Step}
 use Rattle.calculus.specs.Rows.{Row}
 use Rattle.calculus.specs.Matching.{Bindings}
-use Rattle.calculus.specs.Steps.{Bag, Held, Receiver, Datum, Meeting, standing, differ, as_receiver, as_datum, as_data, all_taken, stays, peeks, receiver_leaving, data_leaving, meet, meet_rows, right_repeat, meet_for, meeting}
-use Rattle.calculus.proofs.Candidates.{Member, Every}
+use Rattle.calculus.specs.Steps.{Bag, PlacedRow, Receiver, Datum, Meeting, standing, differ, as_receiver, as_datum, as_data, all_bindings, stays, peeks, receiver_leaving, data_leaving, meet, meet_rows, right_repeat, meet_for, meeting}
 use Rattle.events.proofs.Counts.{ids, AreDistinct}
-use Rattle.events.specs.Found.{leaving_rows, leaving_facts}
+use Rattle.events.specs.Found.{leaving_rows, leaving_sends}
 use Rattle.events.proofs.Lookups.{place_of, rows_with, held_in, rows_with-have, rows_with-there, meeting-of-rows}
 
 -- a receiver with data that its binds match, and what is bound
 pub record Joined : Type 0 where
   pub receiver : Receiver
-  pub facts : List Datum
+  pub sends : List Datum
   pub bindings : Bindings
 
 -- rows as data, where each is one
@@ -25,44 +25,49 @@ as_facts (r ∷ rs) = option_and_then (λ d. option_and_then (λ ds. Some (d ∷
 -- a row with other rows as its data, where they meet
 abbrev pub join : List Row → Option Joined
 join [] = None
-join (r ∷ rs) = option_and_then (λ c. option_and_then (λ ds. option_and_then (λ xs. Some (record { receiver = c; facts = ds; bindings = xs })) (all_taken c.binds ds)) (as_facts rs)) (as_receiver r.part)
+join (r ∷ rs) = option_and_then (λ c. option_and_then (λ ds. option_and_then (λ xs. Some (record { receiver = c; sends = ds; bindings = xs })) (all_bindings c.binds ds)) (as_facts rs)) (as_receiver r.part)
 
 -- the place of a row among rows
 abbrev pub place_in : List Row → Row → ℕ
 place_in b r = place_of r.id 0 b
 
+-- the place of the first of these rows
+abbrev pub first_place : (Row → ℕ) → List Row → ℕ
+first_place g [] = 0
+first_place g (r ∷ rs) = g r
+
 -- a meeting of rows that stand at these places
 abbrev pub meeting_with : (Row → ℕ) → List Row → Joined → Meeting
-meeting_with g rs q = record { receiver = q.receiver; facts = q.facts; bindings = q.bindings; leaving = each g (leaving_rows q.receiver.kind q.facts rs) }
+meeting_with g rs q = record { receiver = q.receiver; place = first_place g rs; sends = q.sends; bindings = q.bindings; leaving = each g (leaving_rows q.receiver.kind q.sends rs) }
 
 -- a meeting of rows of a bag
 abbrev pub meeting_at : List Row → List Row → Joined → Meeting
 meeting_at b rs q = meeting_with (place_in b) rs q
 
 -- a row with its place
-abbrev pub held_by : (Row → ℕ) → Row → Held
+abbrev pub held_by : (Row → ℕ) → Row → PlacedRow
 held_by g r = (g r, r)
 
 facts-of : (g : Row → ℕ) (rs : List Row) → as_data (each (held_by g) rs) ≡ as_facts rs
 facts-of g [] = refl
 facts-of g (r ∷ rs) = ap (λ o. option_and_then (λ d. option_and_then (λ ds. Some (d ∷ ds)) o) (as_datum r.part)) (facts-of g rs)
 
-leaving-of : (g : Row → ℕ) (k : Kind) (rs : List Row) (ds : List Datum) → data_leaving k (each (held_by g) rs) ds ≡ each g (leaving_facts k rs ds)
+leaving-of : (g : Row → ℕ) (k : Kind) (rs : List Row) (ds : List Datum) → data_leaving k (each (held_by g) rs) ds ≡ each g (leaving_sends k rs ds)
 leaving-of g k [] ds = refl
 leaving-of g k (r ∷ rs) [] = refl
 leaving-of g k (r ∷ rs) (d ∷ ds) = go (peeks k || d.persistent) (leaving-of g k rs ds)
   where
-    go : (c : Bool) → data_leaving k (each (held_by g) rs) ds ≡ each g (leaving_facts k rs ds)
-        → cond c (data_leaving k (each (held_by g) rs) ds) (g r ∷ data_leaving k (each (held_by g) rs) ds) ≡ each g (cond c (leaving_facts k rs ds) (r ∷ leaving_facts k rs ds))
+    go : (c : Bool) → data_leaving k (each (held_by g) rs) ds ≡ each g (leaving_sends k rs ds)
+        → cond c (data_leaving k (each (held_by g) rs) ds) (g r ∷ data_leaving k (each (held_by g) rs) ds) ≡ each g (cond c (leaving_sends k rs ds) (r ∷ leaving_sends k rs ds))
     go true e = e
     go false e = ap (λ l. g r ∷ l) e
 
 all-leaving-of : (g : Row → ℕ) (q : Joined) (r : Row) (rs : List Row)
-    → receiver_leaving q.receiver.kind (held_by g r) ++ data_leaving q.receiver.kind (each (held_by g) rs) q.facts ≡ each g (leaving_rows q.receiver.kind q.facts (r ∷ rs))
-all-leaving-of g q r rs = go (stays q.receiver.kind) (leaving-of g q.receiver.kind rs q.facts)
+    → receiver_leaving q.receiver.kind (held_by g r) ++ data_leaving q.receiver.kind (each (held_by g) rs) q.sends ≡ each g (leaving_rows q.receiver.kind q.sends (r ∷ rs))
+all-leaving-of g q r rs = go (stays q.receiver.kind) (leaving-of g q.receiver.kind rs q.sends)
   where
-    go : (c : Bool) → data_leaving q.receiver.kind (each (held_by g) rs) q.facts ≡ each g (leaving_facts q.receiver.kind rs q.facts)
-        → cond c [] (g r ∷ []) ++ data_leaving q.receiver.kind (each (held_by g) rs) q.facts ≡ each g (cond c [] (r ∷ []) ++ leaving_facts q.receiver.kind rs q.facts)
+    go : (c : Bool) → data_leaving q.receiver.kind (each (held_by g) rs) q.sends ≡ each g (leaving_sends q.receiver.kind rs q.sends)
+        → cond c [] (g r ∷ []) ++ data_leaving q.receiver.kind (each (held_by g) rs) q.sends ≡ each g (cond c [] (r ∷ []) ++ leaving_sends q.receiver.kind rs q.sends)
     go true e = e
     go false e = ap (λ l. g r ∷ l) e
 
@@ -72,22 +77,22 @@ meet_rows-of g [] = refl
 meet_rows-of g (r ∷ rs) = go (as_receiver r.part)
   where
     taken : (c : Receiver) (ds : List Datum) (o : Option Bindings)
-        → option_and_then (λ xs. Some (record { receiver = c; facts = ds; bindings = xs; leaving = receiver_leaving c.kind (held_by g r) ++ data_leaving c.kind (each (held_by g) rs) ds })) o
-        ≡ option_map (meeting_with g (r ∷ rs)) (option_and_then (λ xs. Some (record { receiver = c; facts = ds; bindings = xs })) o)
+        → option_and_then (λ xs. Some (record { receiver = c; place = g r; sends = ds; bindings = xs; leaving = receiver_leaving c.kind (held_by g r) ++ data_leaving c.kind (each (held_by g) rs) ds })) o
+        ≡ option_map (meeting_with g (r ∷ rs)) (option_and_then (λ xs. Some (record { receiver = c; sends = ds; bindings = xs })) o)
     taken c ds None = refl
-    taken c ds (Some xs) = ap (λ l. Some (record { receiver = c; facts = ds; bindings = xs; leaving = l })) (all-leaving-of g (record { receiver = c; facts = ds; bindings = xs }) r rs)
+    taken c ds (Some xs) = ap (λ l. Some (record { receiver = c; place = g r; sends = ds; bindings = xs; leaving = l })) (all-leaving-of g (record { receiver = c; sends = ds; bindings = xs }) r rs)
 
-    facts : (c : Receiver) (o : Option (List Datum))
+    sends : (c : Receiver) (o : Option (List Datum))
         → option_and_then (meet (held_by g r) (each (held_by g) rs) c) o
-        ≡ option_map (meeting_with g (r ∷ rs)) (option_and_then (λ ds. option_and_then (λ xs. Some (record { receiver = c; facts = ds; bindings = xs })) (all_taken c.binds ds)) o)
-    facts c None = refl
-    facts c (Some ds) = taken c ds (all_taken c.binds ds)
+        ≡ option_map (meeting_with g (r ∷ rs)) (option_and_then (λ ds. option_and_then (λ xs. Some (record { receiver = c; sends = ds; bindings = xs })) (all_bindings c.binds ds)) o)
+    sends c None = refl
+    sends c (Some ds) = taken c ds (all_bindings c.binds ds)
 
     go : (o : Option Receiver)
         → option_and_then (λ c. option_and_then (meet (held_by g r) (each (held_by g) rs) c) (as_data (each (held_by g) rs))) o
-        ≡ option_map (meeting_with g (r ∷ rs)) (option_and_then (λ c. option_and_then (λ ds. option_and_then (λ xs. Some (record { receiver = c; facts = ds; bindings = xs })) (all_taken c.binds ds)) (as_facts rs)) o)
+        ≡ option_map (meeting_with g (r ∷ rs)) (option_and_then (λ c. option_and_then (λ ds. option_and_then (λ xs. Some (record { receiver = c; sends = ds; bindings = xs })) (all_bindings c.binds ds)) (as_facts rs)) o)
     go None = refl
-    go (Some c) = ap (λ o. option_and_then (meet (held_by g r) (each (held_by g) rs) c) o) (facts-of g rs) ∙ facts c (as_facts rs)
+    go (Some c) = ap (λ o. option_and_then (meet (held_by g r) (each (held_by g) rs) c) o) (facts-of g rs) ∙ sends c (as_facts rs)
 
 -- the rows by which a step is made in a bag
 pub record MadeBy (rows : List Row) (made : List Step) (s : Step) (m : Meeting) : Type 0 where

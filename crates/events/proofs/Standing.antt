@@ -2,11 +2,11 @@
 use Rattle.std.proofs.Common.{◌≡◌, ◌≤◌, ℕ, ◌+◌, Bool, true, false, cond, List, [], ◌∷◌, ◌++◌, map as each, refl, ap, ◌∙◌, arith, inl, inr}
 use Rattle.std.specs.Prelude.{◌⊎◌}
 use Rattle.std.specs.Str.{bytes_eq}
+use Rattle.list_laws.proofs.Members.{Member, member-left, member-right, member-split}
 use Rattle.calculus.specs.Rows.{Row, stdout, stdout_ack}
 use Rattle.calculus.specs.Steps.{Bag, is_one_of, standing, stored_rows}
-use Rattle.calculus.specs.Unfolding.{Thing, a_row, a_fresh, rows_of, digest}
-use Rattle.calculus.specs.Runs.{Work, work_things}
-use Rattle.calculus.proofs.Candidates.{Member, Every}
+use Rattle.calculus.specs.Unfolding.{Product, a_row, a_fresh, rows_of, digest}
+use Rattle.calculus.specs.Runs.{Work, work_products}
 use Rattle.events.proofs.Counts.{ids, times, one_if, times-append, ids-append}
 use Rattle.events.specs.Events.{digests}
 use Rattle.events.specs.Found.{without}
@@ -25,24 +25,6 @@ between-times x rs p q qs = omega (arith, ids-times x rs (p ∷ q ∷ qs), ids-t
 -- an id stands in a bag as often as among its stored rows and the built-in receivers
 pub standing-times : (x : List ℕ) (b : Bag) → times x (ids (standing b)) ≡ times x (ids (stored_rows b)) + times x (ids built_ins)
 standing-times x b = between-times x b.kept stdout stdout_ack b.offered
-
-pub member-split : {A : Type 0} (z : A) (xs ys : List A) → Member z (xs ++ ys) → Member z xs ⊎ Member z ys
-member-split z [] ys m = inr m
-member-split z (x ∷ xs) ys (inl e) = inl (inl e)
-member-split z (x ∷ xs) ys (inr m) = go (member-split z xs ys m)
-  where
-    go : Member z xs ⊎ Member z ys → Member z (x ∷ xs) ⊎ Member z ys
-    go (inl k) = inl (inr k)
-    go (inr k) = inr k
-
-pub member-left : {A : Type 0} (z : A) (xs ys : List A) → Member z xs → Member z (xs ++ ys)
-member-left z [] ys m = absurd m
-member-left z (x ∷ xs) ys (inl e) = inl e
-member-left z (x ∷ xs) ys (inr m) = inr (member-left z xs ys m)
-
-pub member-right : {A : Type 0} (z : A) (xs ys : List A) → Member z ys → Member z (xs ++ ys)
-member-right z [] ys m = m
-member-right z (x ∷ xs) ys m = inr (member-right z xs ys m)
 
 between-member : (z : Row) (rs : List Row) (p q : Row) (qs : List Row) → Member z (rs ++ (p ∷ q ∷ qs)) → Member z (rs ++ qs) ⊎ Member z (p ∷ q ∷ [])
 between-member z rs p q qs m = go (member-split z rs (p ∷ q ∷ qs) m)
@@ -78,10 +60,6 @@ no-more b d z f m = go (between-member z b.kept stdout stdout_ack b.offered m)
     go (inl k) = member-between z d.kept stdout stdout_ack d.offered (inl (f k))
     go (inr k) = member-between z d.kept stdout stdout_ack d.offered (inr k)
 
-pub each-there : {A : Type 0} (P Q : A → Type 0) (zs : List A) → ((z : A) → Member z zs → P z → Q z) → Every P zs → Every Q zs
-each-there P Q [] f h = tt
-each-there P Q (z ∷ zs) f h = (f z (inl refl) h.0, each-there P Q zs (λ y m. f y (inr m)) h.1)
-
 -- what is left was there
 pub left-there : (ns : List (List ℕ)) (rs : List Row) (z : Row) → Member z (without ns rs) → Member z rs
 left-there ns [] z m = m
@@ -106,11 +84,11 @@ none-leaves ns [] h = refl
 none-leaves ns (r ∷ rs) h = ap (λ b. cond b (without ns rs) (r ∷ without ns rs)) (h r (inl refl)) ∙ ap (λ l. r ∷ l) (none-leaves ns rs (λ z m. h z (inr m)))
 
 -- the ids of rows are among all that is made
-pub rows-times : (x : List ℕ) (ts : List Thing) → times x (ids (rows_of ts)) ≤ times x (each digest ts)
+pub rows-times : (x : List ℕ) (ts : List Product) → times x (ids (rows_of ts)) ≤ times x (each digest ts)
 rows-times x [] = omega arith
 rows-times x (a_row r ∷ ts) = omega (arith, rows-times x ts)
 rows-times x (a_fresh y ∷ ts) = omega (arith, rows-times x ts)
 
-pub digests-more : (x : List ℕ) (ws : List Work) (w : Work) → times x (digests (ws ++ w ∷ [])) ≡ times x (digests ws) + times x (each digest (work_things w))
-digests-more x [] w = times-append x (each digest (work_things w)) [] ∙ omega arith
-digests-more x (v ∷ ws) w = omega (arith, times-append x (each digest (work_things v)) (digests (ws ++ w ∷ [])), times-append x (each digest (work_things v)) (digests ws), digests-more x ws w)
+pub digests-more : (x : List ℕ) (ws : List Work) (w : Work) → times x (digests (ws ++ w ∷ [])) ≡ times x (digests ws) + times x (each digest (work_products w))
+digests-more x [] w = times-append x (each digest (work_products w)) [] ∙ omega arith
+digests-more x (v ∷ ws) w = omega (arith, times-append x (each digest (work_products v)) (digests (ws ++ w ∷ [])), times-append x (each digest (work_products v)) (digests ws), digests-more x ws w)

@@ -2,17 +2,17 @@
 use Rattle.std.proofs.Common.{◌≡◌, ℕ, Bool, true, false, ◌||◌, cond, List, [], ◌∷◌, ◌++◌, refl, ap, sym, ◌∙◌, subst, inl, inr}
 use Rattle.std.specs.Prelude.{◌⊎◌, Some}
 use Rattle.std.specs.Str.{bytes_eq}
+use Rattle.list_laws.proofs.Members.{Member, Every, every-at}
 use Rattle.calculus.specs.declared.plain.Kind.{Kind}
 use Rattle.calculus.specs.Rows.{Row}
 use Rattle.calculus.specs.Steps.{Receiver, Datum, Meeting, is_one_of, standing, as_receiver, as_datum, stays, peeks}
-use Rattle.calculus.proofs.Candidates.{Member, Every}
 use Rattle.events.specs.Spending.{spent_data, spent_ids}
 use Rattle.events.specs.Laws.{TakenRowsAreSpent}
 use Rattle.events.proofs.Counts.{ids, same_bytes, AreDistinct}
 use Rattle.events.proofs.Lookups.{row_with, row_with-there}
 use Rattle.events.proofs.Meetings.{as_facts, MadeBy, made_by}
 use Rattle.events.proofs.Lasting.{Joins, facts-cons}
-use Rattle.events.proofs.Spent.{every-at, row-of-id}
+use Rattle.events.proofs.Spent.{row-of-id}
 use Rattle.events.proofs.Making.{member}
 use Rattle.events.proofs.Accounts.{distinct}
 use Rattle.events.proofs.Spending.{joins, receiver-id, data-ids}
@@ -56,10 +56,10 @@ datum-spent k n (r ∷ rs) ds e q d m f l = go (λ es h i. datum-spent k n rs es
     go next h = subst (λ l. is_one_of q.id (spent_data k (ids (r ∷ rs)) l) ≡ true) (sym h.4) (at next h.0 h.1 h.2 h.3 m)
 
 pub taken_rows_are_spent : TakenRowsAreSpent
-taken_rows_are_spent p cap rows t source ss a l f s m e r i = (receivers, data_rows)
+taken_rows_are_spent deploy ss a l f s m e r i = (receivers, data_rows)
   where
     d : AreDistinct (ids (standing a.bag))
-    d = distinct p cap rows t source ss a f l
+    d = distinct deploy ss a f l
 
     how : MadeBy (standing a.bag) a.made s m
     how = made_by a.bag a.made s m d e
@@ -79,8 +79,8 @@ taken_rows_are_spent p cap rows t source ss a l f s m e r i = (receivers, data_r
         let one : Some c ≡ Some how.joined.receiver = sym g ∙ ap (λ (z : Row). as_receiver z.part) same ∙ j.receiver in
         let alike : c ≡ how.joined.receiver = cc one in
         let leaves : stays m.receiver.kind ≡ false = ap (λ (z : Receiver). stays z.kind) (kind ∙ sym alike) ∙ n in
-        ap (λ b. is_one_of r.id (cond b [] (s.receiver ∷ []) ++ spent_data m.receiver.kind s.data_ids m.facts)) leaves
-        ∙ ap (λ b. b || is_one_of r.id (spent_data m.receiver.kind s.data_ids m.facts)) (same_bytes r.id s.receiver (sym o))
+        ap (λ b. is_one_of r.id (cond b [] (s.receiver ∷ []) ++ spent_data m.receiver.kind s.data_ids m.sends)) leaves
+        ∙ ap (λ b. b || is_one_of r.id (spent_data m.receiver.kind s.data_ids m.sends)) (same_bytes r.id s.receiver (sym o))
 
     more : (b : Bool) (x : List ℕ) (ys : List (List ℕ)) → is_one_of r.id ys ≡ true → is_one_of r.id (cond b [] (x ∷ []) ++ ys) ≡ true
     more true x ys h = h
@@ -95,7 +95,7 @@ taken_rows_are_spent p cap rows t source ss a l f s m e r i = (receivers, data_r
         let xs : s.data_ids ≡ ids j.others = data-ids (standing a.bag) a.made s m how in
         let q = row-of-id r.id j.others (sym (ap (is_one_of r.id) xs) ∙ o) in
         let same : r ≡ q.0 = one-row (standing a.bag) r q.0 d (member r (standing a.bag) i) (every-at _ j.others q.0 there.1 q.1) q.2 in
-        let facts : as_facts j.others ≡ Some m.facts = j.facts ∙ ap (λ (z : Meeting). Some z.facts) (sym how.is) in
-        let spent : is_one_of q.0.id (spent_data m.receiver.kind (ids j.others) m.facts) ≡ true = datum-spent m.receiver.kind w j.others m.facts facts q.0 c q.1 (ap (λ (z : Row). as_datum z.part) (sym same) ∙ g) n in
-        more (stays m.receiver.kind) s.receiver (spent_data m.receiver.kind s.data_ids m.facts)
-        (subst (λ z. is_one_of z (spent_data m.receiver.kind s.data_ids m.facts) ≡ true) (sym q.2) (subst (λ l. is_one_of q.0.id (spent_data m.receiver.kind l m.facts) ≡ true) (sym xs) spent))
+        let sends : as_facts j.others ≡ Some m.sends = j.sends ∙ ap (λ (z : Meeting). Some z.sends) (sym how.is) in
+        let spent : is_one_of q.0.id (spent_data m.receiver.kind (ids j.others) m.sends) ≡ true = datum-spent m.receiver.kind w j.others m.sends sends q.0 c q.1 (ap (λ (z : Row). as_datum z.part) (sym same) ∙ g) n in
+        more (stays m.receiver.kind) s.receiver (spent_data m.receiver.kind s.data_ids m.sends)
+        (subst (λ z. is_one_of z (spent_data m.receiver.kind s.data_ids m.sends) ≡ true) (sym q.2) (subst (λ l. is_one_of q.0.id (spent_data m.receiver.kind l m.sends) ≡ true) (sym xs) spent))

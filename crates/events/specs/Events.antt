@@ -6,19 +6,20 @@ use Rattle.calculus.specs.Log.{Step}
 use Rattle.calculus.specs.Seeds.{digest_of, System}
 use Rattle.calculus.specs.Rows.{Row, stdout, stdout_ack}
 use Rattle.calculus.specs.Unfolding.{rows_of, digest}
-use Rattle.calculus.specs.Steps.{Bag, Meeting, is_one_of, differ, meeting, bag_after}
-use Rattle.calculus.specs.Runs.{Work, work_things, body_work, Leads, made_digests}
+use Rattle.calculus.specs.Steps.{Bag, Meeting, is_one_of, differ, meeting, printed_line, bag_after}
+use Rattle.calculus.specs.Runs.{deploy_of, Deploy, Work, work_products, body_work, Leads, made_digests}
 
--- the rows that are stored, the operations that are pending, the steps made, and the work of the source and of each step's body, in order
+-- the rows that are stored, the operations that are pending, the steps made, the work of the source and of each step's body, in order, and what was printed
 pub record Core : Type 0 where
   pub store : List Row
   pub pending : List Row
   pub made : List Step
   pub works : List Work
+  pub output : List ℕ
 
 -- the core before the first event: a checkpoint's rows, and what the source offers
 abbrev pub started : List Row → Work → Core
-started rows w = record { store = rows; pending = rows_of (work_things w); made = []; works = w ∷ [] }
+started rows w = record { store = rows; pending = rows_of (work_products w); made = []; works = w ∷ []; output = [] }
 
 -- the bag of stored rows alone
 abbrev pub stored : List Row → Bag
@@ -34,7 +35,7 @@ takes_part r s = is_one_of r.id (s.receiver ∷ s.data_ids)
 
 -- the core after an operation was stored
 abbrev pub after_put : Core → Row → List Row → List Row → Core
-after_put c r before after = record { store = c.store ++ r ∷ []; pending = before ++ after; made = c.made; works = c.works }
+after_put c r before after = record { store = c.store ++ r ∷ []; pending = before ++ after; made = c.made; works = c.works; output = c.output }
 
 -- an operation is stored: it is pending, and no step is allowed that it makes with stored rows and the built-in receivers
 pub record Puts (c d : Core) : Type 0 where
@@ -48,8 +49,8 @@ pub record Puts (c d : Core) : Type 0 where
 -- the core after a step of an operation with stored rows: what leaves the bag is gone, the operation is pending still if it stays, and so is what the body offers
 abbrev pub stepped : Core → Row → List Row → List Row → Step → Meeting → Work → Core
 stepped c r before after s m w =
-    let b : Bag = bag_after (with_operation c.store r) m (rows_of (work_things w)) in
-    record { store = b.kept; pending = before ++ (b.offered ++ after); made = c.made ++ s ∷ []; works = c.works ++ w ∷ [] }
+    let b : Bag = bag_after (with_operation c.store r) m (rows_of (work_products w)) in
+    record { store = b.kept; pending = before ++ (b.offered ++ after); made = c.made ++ s ∷ []; works = c.works ++ w ∷ []; output = c.output ++ printed_line (with_operation c.store r) m }
 
 -- an operation makes a step: it is pending, and with stored rows and the built-in receivers makes a step that is allowed
 pub record Meets (p : Prices) (cap : ℕ) (c d : Core) : Type 0 where
@@ -80,13 +81,13 @@ abbrev pub first_ids : List Row → List (List ℕ)
 first_ids rows = each (λ r. r.id) (rows ++ (stdout ∷ stdout_ack ∷ []))
 
 -- the digests that a deploy makes are fresh: wherever its first steps lead, no two of the ids that stood there before and the ids and names made so far are equal
-abbrev pub AreFresh : Prices → ℕ → List Row → Tree → List ℕ → List Step → Type 0
-AreFresh p cap rows t source ss = (first rest : List Step) → ss ≡ first ++ rest
-    → (a : _) → Leads p cap rows t source first a → differ (first_ids rows ++ made_digests a) ≡ true
+abbrev pub AreFresh : Deploy → List Step → Type 0
+AreFresh deploy ss = (first rest : List Step) → ss ≡ first ++ rest
+    → (a : _) → Leads deploy first a → differ (first_ids deploy.rows ++ made_digests a) ≡ true
 
 -- the ids and fresh names that these works made
 abbrev pub digests : List Work → List (List ℕ)
-digests ws = flat_map (λ w. each digest (work_things w)) ws
+digests ws = flat_map (λ w. each digest (work_products w)) ws
 
 -- the fresh names of the built-in receivers' channels
 abbrev pub built_in_names : List (List ℕ)
@@ -99,4 +100,4 @@ built_in_digests = first_ids [] ++ built_in_names
 -- the digests that a deploy from the empty state makes are fresh: wherever its first steps lead, no two of these are equal: the built-in receivers' ids and their channels' names, and the ids and names made so far
 abbrev pub FreshDigests : Prices → ℕ → Tree → List ℕ → List Step → Type 0
 FreshDigests p cap t source ss = (first rest : List Step) → ss ≡ first ++ rest
-    → (a : _) → Leads p cap [] t source first a → differ (built_in_digests ++ made_digests a) ≡ true
+    → (a : _) → Leads (deploy_of p cap [] t source) first a → differ (built_in_digests ++ made_digests a) ≡ true

@@ -23,7 +23,7 @@ no_work = within (pure [])
 
 -- a core of these rows and operations after these steps, each with an empty body
 abbrev pub core : List Row → List Row → List Step → List Work → Core
-core rows operations steps works = record { store = rows; pending = operations; made = steps; works = works }
+core rows operations steps works = record { store = rows; pending = operations; made = steps; works = works; output = [] }
 
 -- the step of the receiver 2 with the datum 1
 abbrev pub the_step : Step

@@ -1,4 +1,3 @@
-pub mod Orders
 pub mod Events
 pub mod Found
 pub mod Spending

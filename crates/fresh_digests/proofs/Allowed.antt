@@ -2,11 +2,12 @@
 use Rattle.std.proofs.Common.{◌≡◌, ℕ, List, [], ◌∷◌, sym, subst, inl, inr}
 use Rattle.std.specs.Prelude.{map as each, Some, count_by}
 use Rattle.std.proofs.lemmas.Bool.{eqb-true}
+use Rattle.list_laws.proofs.Members.{Member, Every}
 use Rattle.calculus.specs.Form.{IsDigest}
 use Rattle.calculus.specs.Log.{Step}
 use Rattle.calculus.specs.Rows.{Row}
-use Rattle.calculus.specs.Steps.{Bag, standing, Held, Meeting, row_choices, differ, meet_rows, meeting, same_meeting, right_repeat}
-use Rattle.calculus.proofs.Candidates.{Member, Every, and_then-inv, IsChoice, row_choices-hold, first-meets, only_true, and-first}
+use Rattle.calculus.specs.Steps.{Bag, standing, PlacedRow, Meeting, row_choices, differ, meet_rows, meeting, same_meeting, right_repeat}
+use Rattle.calculus.proofs.Candidates.{and_then-inv, IsChoice, row_choices-hold, first-meets, only_true, and-first}
 
 -- each of these rows has a digest as its id
 abbrev pub HaveDigests : List Row → Type 0
@@ -17,7 +18,7 @@ member-digest r [] m h = absurd m
 member-digest r (q ∷ rs) (inl e) h = subst (λ (z : Row). IsDigest z.id) (sym e) h.0
 member-digest r (q ∷ rs) (inr m) h = member-digest r rs m h.1
 
-held-digests : (rs : List Row) (hs : List Held) → HaveDigests rs → Every (λ h. Member h.1 rs) hs → Every IsDigest (each (λ h. h.1.id) hs)
+held-digests : (rs : List Row) (hs : List PlacedRow) → HaveDigests rs → Every (λ h. Member h.1 rs) hs → Every IsDigest (each (λ h. h.1.id) hs)
 held-digests rs [] h k = tt
 held-digests rs (g ∷ hs) h k = (member-digest g.1 rs k.0 h, held-digests rs hs h k.1)
 

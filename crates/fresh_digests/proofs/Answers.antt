@@ -9,7 +9,7 @@ use Rattle.calculus.specs.Size.{height}
 use Rattle.calculus.specs.Code.{code}
 use Rattle.calculus.specs.Outcome.{Answer, gives, fails, unknown, Outcome, then_do, after, within_limits}
 use Rattle.calculus.specs.Rows.{Row, row_length}
-use Rattle.calculus.specs.Unfolding.{Thing, a_row, row_limits}
+use Rattle.calculus.specs.Unfolding.{Product, a_row, row_limits}
 use Rattle.calculus.specs.Values.{checked}
 
 -- work after which other work gave a result gave one too
@@ -30,7 +30,7 @@ pub no-gives : {A : Type 0} (b : Bool) (a : Answer A) (f : FaultKind) (x : A) �
 no-gives true a f x e = cc
 no-gives false a f x e = e
 
-pub limits-give : (r : Row) (xs : List Thing) → row_limits r ≡ gives xs → a_row r ∷ [] ≡ xs
+pub limits-give : (r : Row) (xs : List Product) → row_limits r ≡ gives xs → a_row r ∷ [] ≡ xs
 limits-give r xs e =
     let a = no-gives (ltb 400 (height r.part)) (cond (ltb 1048576 (row_length r)) (fails fault.TooBig) (gives (a_row r ∷ []))) fault.TooDeep xs e in
     let b = no-gives (ltb 1048576 (row_length r)) (gives (a_row r ∷ [])) fault.TooBig xs a in

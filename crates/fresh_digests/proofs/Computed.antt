@@ -11,7 +11,7 @@ use Rattle.calculus.specs.ExamplesRuns.{first_path_source, first_path_digest, fi
 use Rattle.calculus.specs.Log.{Step}
 use Rattle.calculus.specs.Seeds.{digest_of, System}
 use Rattle.calculus.specs.Steps.{differ}
-use Rattle.calculus.specs.Runs.{State, state_after, Leads, made_digests}
+use Rattle.calculus.specs.Runs.{deploy_of, State, state_after, Leads, made_digests}
 use Rattle.calculus.proofs.Opened.{hashing}
 use Rattle.calculus.proofs.States.{anyhow, on_the_way}
 use Rattle.events.specs.Events.{built_in_digests, FreshDigests}
@@ -25,22 +25,22 @@ use Rattle.fresh_digests.proofs.Numbering.{few-numberable}
 abbrev all_differ : State → Bool
 all_differ a = differ (built_in_digests ++ made_digests a)
 
-before : option_map all_differ (state_after prices 22 9 [] first_path_source first_path_digest []) ≡ Some true
+before : option_map all_differ (state_after (deploy_of prices 22 [] first_path_source first_path_digest) 9 []) ≡ Some true
 unfolding hashing
 before = refl
 
-after : option_map all_differ (state_after prices 22 9 [] first_path_source first_path_digest (first_path_step ∷ [])) ≡ Some true
+after : option_map all_differ (state_after (deploy_of prices 22 [] first_path_source first_path_digest) 9 (first_path_step ∷ [])) ≡ Some true
 unfolding hashing
 after = refl
 
 -- the digests made by these steps differ
 abbrev Differ : List Step → Type 0
-Differ ss = (a : State) → Leads prices 22 [] first_path_source first_path_digest ss a → all_differ a ≡ true
+Differ ss = (a : State) → Leads (deploy_of prices 22 [] first_path_source first_path_digest) ss a → all_differ a ≡ true
 
 fresh : FreshDigests prices 22 first_path_source first_path_digest (first_path_step ∷ [])
 fresh = on_the_way Differ first_path_step
-    (anyhow prices 22 9 [] first_path_source first_path_digest [] all_differ true before)
-    (anyhow prices 22 9 [] first_path_source first_path_digest (first_path_step ∷ []) all_differ true after)
+    (anyhow (deploy_of prices 22 [] first_path_source first_path_digest) 9 [] all_differ true before)
+    (anyhow (deploy_of prices 22 [] first_path_source first_path_digest) 9 (first_path_step ∷ []) all_differ true after)
 
 -- whether each of these is a byte
 abbrev are_bytes : List ℕ → Bool
@@ -55,7 +55,7 @@ bytes-of (b ∷ bs) e = go (ltb b 256) refl e (bytes-of bs)
     go true d f next = one-more-byte b bs (ltb-true b 256 d) (next f)
     go false d f next = cc f
 
-fits : FitsInTexts [] first_path_source first_path_digest (first_path_step ∷ [])
+fits : FitsInTexts (deploy_of prices 22 [] first_path_source first_path_digest) (first_path_step ∷ [])
 fits = record {
   numberable = few-numberable first_path_source (omega arith) (omega arith);
   steps_fit = omega arith;

@@ -4,7 +4,7 @@ use Rattle.std.specs.Prelude.{◌⊎◌, Some, option_map, All}
 use Rattle.std.specs.Str.{bytes_eq}
 use Rattle.std.proofs.lemmas.List.{append-nil, map-append}
 use Rattle.std.proofs.lemmas.List.Elements.{All-head, All-tail}
-use Rattle.calculus.specs.Tree.{Tree}
+use Rattle.list_laws.proofs.Members.{Every, every-append}
 use Rattle.calculus.specs.Form.{IsDigest}
 use Rattle.calculus.specs.Outcome.{Prices}
 use Rattle.calculus.specs.Log.{Step}
@@ -13,8 +13,8 @@ use Rattle.calculus.specs.Root.{root}
 use Rattle.calculus.specs.Seeds.{Seed, message, System, Start}
 use Rattle.calculus.specs.Unfolding.{digest}
 use Rattle.calculus.specs.Steps.{meeting, is_one_of, differ}
-use Rattle.calculus.specs.Runs.{work_things, State, body_work, moved, step_from, steps_from, Leads, made_digests}
-use Rattle.calculus.proofs.Candidates.{Every, every-append, and_then-inv, map-inv}
+use Rattle.calculus.specs.Runs.{deploy_of, Deploy, work_products, State, body_work, moved, step_from, steps_from, Leads, made_digests}
+use Rattle.calculus.proofs.Candidates.{and_then-inv, map-inv}
 use Rattle.events.specs.Events.{first_ids, AreFresh, built_in_names, built_in_digests, FreshDigests}
 use Rattle.events.proofs.Counts.{ids, times, same_bytes, times-append, ids-append}
 use Rattle.events.proofs.Legal.{leads-rest}
@@ -108,15 +108,15 @@ have-digests [] h = tt
 have-digests (r ∷ rows) h = (All-head (λ q. IsDigest q.id) r rows h, have-digests rows (All-tail (λ q. IsDigest q.id) r rows h))
 
 pub made_digests_differ : MadeDigestsDiffer
-made_digests_differ p cap rows t source ss a h l = go (told-differ H (root rows) source a (there.0, (there.1.0, (there.1.1.0, (there.1.1.1.0, tt)))) (state-told H p cap rows t source ss a h.numberable (have-digests rows h.ids_fit) h.source_fits h.steps_fit l there))
+made_digests_differ deploy ss a h l = go (told-differ H (root deploy.rows) deploy.source a (there.0, (there.1.0, (there.1.1.0, (there.1.1.1.0, tt)))) (state-told H deploy ss a h.numberable (have-digests deploy.rows h.ids_fit) h.source_fits h.steps_fit l there))
   where
     H : List ℕ → Type 0
-    H = OneOf (hashed_texts p cap l.0 rows t source ss)
+    H = OneOf (hashed_texts deploy l.0 ss)
 
-    there : Every H (hashed_texts p cap l.0 rows t source ss)
-    there = all-there (hashed_texts p cap l.0 rows t source ss) (hashed_texts p cap l.0 rows t source ss) (λ x e. e)
+    there : Every H (hashed_texts deploy l.0 ss)
+    there = all-there (hashed_texts deploy l.0 ss) (hashed_texts deploy l.0 ss) (λ x e. e)
 
-    go : (differ (built_in_digests ++ made_digests a) ≡ true) ⊎ Clash H → (differ (built_in_digests ++ made_digests a) ≡ true) ⊎ Collides p cap rows t source ss
+    go : (differ (built_in_digests ++ made_digests a) ≡ true) ⊎ Clash H → (differ (built_in_digests ++ made_digests a) ≡ true) ⊎ Collides deploy ss
     go (inl d) = inl d
     go (inr c) = inr (l.0, record { one = c.one; other = c.other; one_among = c.one_among; other_among = c.other_among; one_bytes = c.one_bytes; other_bytes = c.other_bytes; differ = c.differ; same_digest = c.same_digest })
 
@@ -147,12 +147,12 @@ shared (x ∷ xs) ys = go (is_one_of x ys) refl (shared xs ys)
     go false e (inr s) = inr (record { digest = s.digest; among = one-later s.digest x xs s.among; too = s.too })
 
 pub old_digests_differ : OldDigestsDiffer
-old_digests_differ p cap rows t source ss a old h l d = go (made_digests_differ p cap rows t source ss a h l) (shared old now)
+old_digests_differ deploy ss a old h l d = go (made_digests_differ deploy ss a h l) (shared old now)
   where
     now : List (List ℕ)
     now = built_in_digests ++ made_digests a
 
-    go : (differ now ≡ true) ⊎ Collides p cap rows t source ss → Every (λ x. is_one_of x now ≡ false) old ⊎ Shares old now → (differ (old ++ now) ≡ true) ⊎ (Shares old now ⊎ Collides p cap rows t source ss)
+    go : (differ now ≡ true) ⊎ Collides deploy ss → Every (λ x. is_one_of x now ≡ false) old ⊎ Shares old now → (differ (old ++ now) ≡ true) ⊎ (Shares old now ⊎ Collides deploy ss)
     go (inr c) s = inr (inr c)
     go (inl k) (inl n) = inl (both-differ old now d k n)
     go (inl k) (inr s) = inr (inl s)
@@ -161,7 +161,7 @@ step-more : (p : Prices) (cap room : ℕ) (a b : State) (s : Step) → step_from
 step-more p cap room a b s e =
     let i = and_then-inv (meeting a.bag a.made s) (λ m. option_map (moved a s m) (body_work p cap room s m)) b e in
     let j = map-inv (body_work p cap room s i.0) (moved a s i.0) b i.2 in
-    (each digest (work_things j.0), sym (ap made_digests j.2) ∙ digests-more a.works j.0)
+    (each digest (work_products j.0), sym (ap made_digests j.2) ∙ digests-more a.works j.0)
 
 steps-more : (p : Prices) (cap room : ℕ) (ss : List Step) (a b : State) → steps_from p cap room a ss ≡ Some b → (xs : List (List ℕ)) × (made_digests b ≡ made_digests a ++ xs)
 steps-more p cap room [] a b e = ([], let same : a ≡ b = cc e in sym (ap made_digests same) ∙ sym (append-nil (made_digests a)))
@@ -172,11 +172,11 @@ steps-more p cap room (s ∷ ss) a b e =
     (k.0 ++ n.0, n.1 ∙ ap (λ l. l ++ n.0) k.1 ∙ append_assoc (made_digests a) k.0 n.0)
 
 -- what the first steps made stands before what all made
-first-made : (p : Prices) (cap : ℕ) (rows : List Row) (t : Tree) (source : List ℕ) (ss xs ys : List Step) → ss ≡ xs ++ ys → (a b : State) → Leads p cap rows t source ss a → Leads p cap rows t source xs b
+first-made : (deploy : Deploy) (ss xs ys : List Step) → ss ≡ xs ++ ys → (a b : State) → Leads deploy ss a → Leads deploy xs b
     → (zs : List (List ℕ)) × (made_digests a ≡ made_digests b ++ zs)
-first-made p cap rows t source ss xs ys e a b l k =
-    let r = leads-rest p cap rows t source xs ys b a k (subst (λ (z : List Step). Leads p cap rows t source z a) e l) in
-    steps-more p cap r.0 ys b a r.1
+first-made deploy ss xs ys e a b l k =
+    let r = leads-rest deploy xs ys b a k (subst (λ (z : List Step). Leads deploy z a) e l) in
+    steps-more deploy.prices deploy.limit r.0 ys b a r.1
 
 -- the ids that stood before and what was made are fewer than with the names of the built-in channels
 ids-fewer : (rows : List Row) (a b : State) (zs : List (List ℕ)) → made_digests a ≡ made_digests b ++ zs → (x : List ℕ) → times x (first_ids rows ++ made_digests b) ≤ times x (ids rows ++ (built_in_digests ++ made_digests a))
@@ -194,15 +194,15 @@ ids-fewer rows a b zs e x =
     )
 
 pub legal_lists_are_fresh_or_show_an_id : LegalListsAreFreshOrShowAnId
-legal_lists_are_fresh_or_show_an_id p cap rows t source ss h d l = go (old_digests_differ p cap rows t source ss l.0 (ids rows) h l.1 d)
+legal_lists_are_fresh_or_show_an_id deploy ss h d l = go (old_digests_differ deploy ss l.0 (ids deploy.rows) h l.1 d)
   where
     now : List (List ℕ)
     now = built_in_digests ++ made_digests l.0
 
-    fresh : differ (ids rows ++ now) ≡ true → AreFresh p cap rows t source ss
-    fresh k xs ys e b m = let f = first-made p cap rows t source ss xs ys e l.0 b l.1 m in fewer-differ (first_ids rows ++ made_digests b) (ids rows ++ now) (ids-fewer rows l.0 b f.0 f.1) k
+    fresh : differ (ids deploy.rows ++ now) ≡ true → AreFresh deploy ss
+    fresh k xs ys e b m = let f = first-made deploy ss xs ys e l.0 b l.1 m in fewer-differ (first_ids deploy.rows ++ made_digests b) (ids deploy.rows ++ now) (ids-fewer deploy.rows l.0 b f.0 f.1) k
 
-    go : (differ (ids rows ++ now) ≡ true) ⊎ (Shares (ids rows) now ⊎ Collides p cap rows t source ss) → AreFresh p cap rows t source ss ⊎ (Shares (ids rows) now ⊎ Collides p cap rows t source ss)
+    go : (differ (ids deploy.rows ++ now) ≡ true) ⊎ (Shares (ids deploy.rows) now ⊎ Collides deploy ss) → AreFresh deploy ss ⊎ (Shares (ids deploy.rows) now ⊎ Collides deploy ss)
     go (inl k) = inl (fresh k)
     go (inr r) = inr r
 
@@ -210,11 +210,11 @@ built-in-fewer : (a b : State) (zs : List (List ℕ)) → made_digests a ≡ mad
 built-in-fewer a b zs e x = omega (arith, times-append x built_in_digests (made_digests b), times-append x built_in_digests (made_digests a), ap (times x) e, times-append x (made_digests b) zs)
 
 pub legal_lists_are_fresh : LegalListsAreFresh
-legal_lists_are_fresh p cap t source ss h l = go (made_digests_differ p cap [] t source ss l.0 h l.1)
+legal_lists_are_fresh p cap t source ss h l = go (made_digests_differ (deploy_of p cap [] t source) ss l.0 h l.1)
   where
     fresh : differ (built_in_digests ++ made_digests l.0) ≡ true → FreshDigests p cap t source ss
-    fresh k xs ys e b m = let f = first-made p cap [] t source ss xs ys e l.0 b l.1 m in fewer-differ (built_in_digests ++ made_digests b) (built_in_digests ++ made_digests l.0) (built-in-fewer l.0 b f.0 f.1) k
+    fresh k xs ys e b m = let f = first-made (deploy_of p cap [] t source) ss xs ys e l.0 b l.1 m in fewer-differ (built_in_digests ++ made_digests b) (built_in_digests ++ made_digests l.0) (built-in-fewer l.0 b f.0 f.1) k
 
-    go : (differ (built_in_digests ++ made_digests l.0) ≡ true) ⊎ Collides p cap [] t source ss → FreshDigests p cap t source ss ⊎ Collides p cap [] t source ss
+    go : (differ (built_in_digests ++ made_digests l.0) ≡ true) ⊎ Collides (deploy_of p cap [] t source) ss → FreshDigests p cap t source ss ⊎ Collides (deploy_of p cap [] t source) ss
     go (inl k) = inl (fresh k)
     go (inr c) = inr c

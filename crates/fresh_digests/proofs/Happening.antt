@@ -1,15 +1,14 @@
 -- The digests of whatever events lead to are fresh, or texts collide.
 use Rattle.std.proofs.Common.{◌≢◌, ◌≡◌, ◌≤◌, ℕ, true, List, [], ◌∷◌, ◌++◌, map as each, refl, sym, ap, ◌∙◌, subst, arith, inl, inr, append_assoc, length-append}
 use Rattle.std.specs.Prelude.{◌⊎◌, Option, Some, None}
-use Rattle.calculus.specs.Tree.{Tree}
 use Rattle.calculus.specs.Outcome.{Prices}
 use Rattle.calculus.specs.Log.{Step}
 use Rattle.calculus.specs.Rows.{Row}
 use Rattle.calculus.specs.Root.{root}
-use Rattle.calculus.specs.Seeds.{Start, message, digest_of}
+use Rattle.calculus.specs.Seeds.{Start, message}
 use Rattle.calculus.specs.Unfolding.{digest}
 use Rattle.calculus.specs.Steps.{is_one_of, differ, meeting}
-use Rattle.calculus.specs.Runs.{Work, work_things, State, step_from, first_state, done, verdict, IsRun, made_digests}
+use Rattle.calculus.specs.Runs.{source_seed, deploy_of, Deploy, Work, work_products, State, step_from, first_state, done, verdict, IsRun, made_digests}
 use Rattle.events.specs.Events.{Core, started, Events, no_event, one_more, AreFresh, digests, built_in_digests, FreshDigests}
 use Rattle.events.specs.Laws.{Begins, Follows}
 use Rattle.events.proofs.Counts.{ids, times, one_of-times, times-one_of, times-append}
@@ -37,22 +36,22 @@ more-texts p cap room x (Some a) (s ∷ ss) us =
     let next : Option State = step_from p cap room a s in
     omega (arith, more-texts p cap room x next ss us, times-append x own (steps_texts p cap room next ss), times-append x own (steps_texts p cap room next (ss ++ us)))
 
-more-hashed : (p : Prices) (cap room : ℕ) (rows : List Row) (t : Tree) (source : List ℕ) (ss us : List Step) (x : List ℕ) → times x (hashed_texts p cap room rows t source ss) ≤ times x (hashed_texts p cap room rows t source (ss ++ us))
-more-hashed p cap room rows t source ss us x =
-    let start : Option State = first_state p cap room rows t source in
-    let own : List (List ℕ) = source_texts p cap room t (digest_of (Start (root rows) source)) in
-    let seed : List ℕ = message (Start (root rows) source) in
+more-hashed : (deploy : Deploy) (room : ℕ) (ss us : List Step) (x : List ℕ) → times x (hashed_texts deploy room ss) ≤ times x (hashed_texts deploy room (ss ++ us))
+more-hashed deploy room ss us x =
+    let start : Option State = first_state deploy room in
+    let own : List (List ℕ) = source_texts deploy.prices deploy.limit room deploy.process (source_seed deploy) in
+    let seed : List ℕ = message (Start (root deploy.rows) deploy.source) in
     omega (
       arith,
-      times-append x built_in_texts (seed ∷ (own ++ steps_texts p cap room start ss)),
-      times-append x built_in_texts (seed ∷ (own ++ steps_texts p cap room start (ss ++ us))),
-      times-append x own (steps_texts p cap room start ss),
-      times-append x own (steps_texts p cap room start (ss ++ us)),
-      more-texts p cap room x start ss us,
+      times-append x built_in_texts (seed ∷ (own ++ steps_texts deploy.prices deploy.limit room start ss)),
+      times-append x built_in_texts (seed ∷ (own ++ steps_texts deploy.prices deploy.limit room start (ss ++ us))),
+      times-append x own (steps_texts deploy.prices deploy.limit room start ss),
+      times-append x own (steps_texts deploy.prices deploy.limit room start (ss ++ us)),
+      more-texts deploy.prices deploy.limit room x start ss us,
     )
 
-more-collides : (p : Prices) (cap : ℕ) (rows : List Row) (t : Tree) (source : List ℕ) (ss us all : List Step) → all ≡ ss ++ us → Collides p cap rows t source ss → Collides p cap rows t source all
-more-collides p cap rows t source ss us all e c = subst (Collides p cap rows t source) (sym e) (
+pub more-collides : (deploy : Deploy) (ss us all : List Step) → all ≡ ss ++ us → Collides deploy ss → Collides deploy all
+more-collides deploy ss us all e c = subst (Collides deploy) (sym e) (
   c.0,
   record {
     one = c.1.one;
@@ -66,88 +65,88 @@ more-collides p cap rows t source ss us all e c = subst (Collides p cap rows t s
   },
 )
   where
-    there : (x : List ℕ) → is_one_of x (hashed_texts p cap c.0 rows t source ss) ≡ true → is_one_of x (hashed_texts p cap c.0 rows t source (ss ++ us)) ≡ true
-    there x h = among-more x (hashed_texts p cap c.0 rows t source ss) (hashed_texts p cap c.0 rows t source (ss ++ us)) (more-hashed p cap c.0 rows t source ss us x) h
+    there : (x : List ℕ) → is_one_of x (hashed_texts deploy c.0 ss) ≡ true → is_one_of x (hashed_texts deploy c.0 (ss ++ us)) ≡ true
+    there x h = among-more x (hashed_texts deploy c.0 ss) (hashed_texts deploy c.0 (ss ++ us)) (more-hashed deploy c.0 ss us x) h
 
 -- fewer steps fit too
-fewer-fit : (rows : List Row) (t : Tree) (source : List ℕ) (ss : List Step) (s : Step) → FitsInTexts rows t source (ss ++ s ∷ []) → FitsInTexts rows t source ss
-fewer-fit rows t source ss s h = record { numberable = h.numberable; steps_fit = omega (arith, h.steps_fit, length-append ss (s ∷ [])); ids_fit = h.ids_fit; source_fits = h.source_fits }
+fewer-fit : (deploy : Deploy) (ss : List Step) (s : Step) → FitsInTexts deploy (ss ++ s ∷ []) → FitsInTexts deploy ss
+fewer-fit deploy ss s h = record { numberable = h.numberable; steps_fit = omega (arith, h.steps_fit, length-append ss (s ∷ [])); ids_fit = h.ids_fit; source_fits = h.source_fits }
 
 -- a checkpoint's id is built in or made, or texts collide
-abbrev Fails : Prices → ℕ → List Row → Tree → List ℕ → List Step → List Work → Type 0
-Fails p cap rows t source ss ws = Shares (ids rows) (built_in_digests ++ digests ws) ⊎ Collides p cap rows t source ss
+abbrev Fails : Deploy → List Step → List Work → Type 0
+Fails deploy ss ws = Shares (ids deploy.rows) (built_in_digests ++ digests ws) ⊎ Collides deploy ss
 
-longer : (vs ws : List Work) (w : Work) → ws ≡ vs ++ w ∷ [] → built_in_digests ++ digests ws ≡ (built_in_digests ++ digests vs) ++ each digest (work_things w)
-longer vs ws w e = ap (λ z. built_in_digests ++ digests z) e ∙ ap (λ l. built_in_digests ++ l) (digests-more vs w) ∙ sym (append_assoc built_in_digests (digests vs) (each digest (work_things w)))
+longer : (vs ws : List Work) (w : Work) → ws ≡ vs ++ w ∷ [] → built_in_digests ++ digests ws ≡ (built_in_digests ++ digests vs) ++ each digest (work_products w)
+longer vs ws w e = ap (λ z. built_in_digests ++ digests z) e ∙ ap (λ l. built_in_digests ++ l) (digests-more vs w) ∙ sym (append_assoc built_in_digests (digests vs) (each digest (work_products w)))
 
 more-shares : (rows : List Row) (vs ws : List Work) (w : Work) → ws ≡ vs ++ w ∷ [] → Shares (ids rows) (built_in_digests ++ digests vs) → Shares (ids rows) (built_in_digests ++ digests ws)
 more-shares rows vs ws w e s = record {
   digest = s.digest;
   among = s.among;
-  too = among-more s.digest (built_in_digests ++ digests vs) (built_in_digests ++ digests ws) (omega (arith, ap (times s.digest) (longer vs ws w e), times-append s.digest (built_in_digests ++ digests vs) (each digest (work_things w)))) s.too;
+  too = among-more s.digest (built_in_digests ++ digests vs) (built_in_digests ++ digests ws) (omega (arith, ap (times s.digest) (longer vs ws w e), times-append s.digest (built_in_digests ++ digests vs) (each digest (work_products w)))) s.too;
 }
 
-module _ (p : Prices) (cap : ℕ) (rows : List Row) (t : Tree) (source : List ℕ) (differs : differ (ids rows) ≡ true) where
+module _ (deploy : Deploy) (differs : differ (ids deploy.rows) ≡ true) where
   -- what events keep, and that its digests are fresh
   pub record Fresh (c : Core) : Type 0 where
-    pub kept : Kept p cap rows t source c
-    pub fresh : AreFresh p cap rows t source c.made
+    pub kept : Kept deploy c
+    pub fresh : AreFresh deploy c.made
 
   -- of a core whose steps are legal
-  checked : (c : Core) → FitsInTexts rows t source c.made → Kept p cap rows t source c → Fresh c ⊎ Fails p cap rows t source c.made c.works
-  checked c h k = go (legal_lists_are_fresh_or_show_an_id p cap rows t source c.made h differs (k.state, k.leads))
+  checked : (c : Core) → FitsInTexts deploy c.made → Kept deploy c → Fresh c ⊎ Fails deploy c.made c.works
+  checked c h k = go (legal_lists_are_fresh_or_show_an_id deploy c.made h differs (k.state, k.leads))
     where
-      go : AreFresh p cap rows t source c.made ⊎ (Shares (ids rows) (built_in_digests ++ made_digests k.state) ⊎ Collides p cap rows t source c.made) → Fresh c ⊎ Fails p cap rows t source c.made c.works
+      go : AreFresh deploy c.made ⊎ (Shares (ids deploy.rows) (built_in_digests ++ made_digests k.state) ⊎ Collides deploy c.made) → Fresh c ⊎ Fails deploy c.made c.works
       go (inl f) = inl (record { kept = k; fresh = f })
-      go (inr (inl s)) = inr (inl (subst (λ ws. Shares (ids rows) (built_in_digests ++ digests ws)) k.works s))
+      go (inr (inl s)) = inr (inl (subst (λ ws. Shares (ids deploy.rows) (built_in_digests ++ digests ws)) k.works s))
       go (inr (inr x)) = inr (inr x)
 
-  pub all-fresh : (w : Work) (c : Core) → Begins p cap rows t source w → Events p cap (started rows w) c → FitsInTexts rows t source c.made → Fresh c ⊎ Fails p cap rows t source c.made c.works
-  all-fresh w c b no_event h = checked (started rows w) h (kept-started p cap rows t source w b)
-  all-fresh w e b (one_more {d} es (inl put)) h = go (all-fresh w d b es (subst (FitsInTexts rows t source) (ap (λ x. x.made) put.is) h))
+  pub all-fresh : (w : Work) (c : Core) → Begins deploy w → Events deploy.prices deploy.limit (started deploy.rows w) c → FitsInTexts deploy c.made → Fresh c ⊎ Fails deploy c.made c.works
+  all-fresh w c b no_event h = checked (started deploy.rows w) h (kept-started deploy w b)
+  all-fresh w e b (one_more {d} es (inl put)) h = go (all-fresh w d b es (subst (FitsInTexts deploy) (ap (λ x. x.made) put.is) h))
     where
-      go : Fresh d ⊎ Fails p cap rows t source d.made d.works → Fresh e ⊎ Fails p cap rows t source e.made e.works
-      go (inl f) = inl (record { kept = kept-put p cap rows t source d e f.fresh f.kept put; fresh = subst (AreFresh p cap rows t source) (sym (ap (λ x. x.made) put.is)) f.fresh })
-      go (inr x) = inr (subst (λ (z : Core). Fails p cap rows t source z.made z.works) (sym put.is) x)
-  all-fresh w e b (one_more {d} es (inr step)) h = go (all-fresh w d b es (fewer-fit rows t source d.made step.step (subst (FitsInTexts rows t source) (ap (λ x. x.made) step.is) h)))
+      go : Fresh d ⊎ Fails deploy d.made d.works → Fresh e ⊎ Fails deploy e.made e.works
+      go (inl f) = inl (record { kept = kept-put deploy d e f.fresh f.kept put; fresh = subst (AreFresh deploy) (sym (ap (λ x. x.made) put.is)) f.fresh })
+      go (inr x) = inr (subst (λ (z : Core). Fails deploy z.made z.works) (sym put.is) x)
+  all-fresh w e b (one_more {d} es (inr step)) h = go (all-fresh w d b es (fewer-fit deploy d.made step.step (subst (FitsInTexts deploy) (ap (λ x. x.made) step.is) h)))
     where
-      go : Fresh d ⊎ Fails p cap rows t source d.made d.works → Fresh e ⊎ Fails p cap rows t source e.made e.works
-      go (inl f) = checked e h (kept-step p cap rows t source d e f.fresh f.kept step)
-      go (inr (inl s)) = inr (inl (more-shares rows d.works e.works step.work (ap (λ x. x.works) step.is) s))
-      go (inr (inr x)) = inr (inr (more-collides p cap rows t source d.made (step.step ∷ []) e.made (ap (λ x. x.made) step.is) x))
+      go : Fresh d ⊎ Fails deploy d.made d.works → Fresh e ⊎ Fails deploy e.made e.works
+      go (inl f) = checked e h (kept-step deploy d e f.fresh f.kept step)
+      go (inr (inl s)) = inr (inl (more-shares deploy.rows d.works e.works step.work (ap (λ x. x.works) step.is) s))
+      go (inr (inr x)) = inr (inr (more-collides deploy d.made (step.step ∷ []) e.made (ap (λ x. x.made) step.is) x))
 
 pub events_are_fresh_or_show_an_id : EventsAreFreshOrShowAnId
-events_are_fresh_or_show_an_id p cap rows t source w c b es h d = go (all-fresh p cap rows t source d w c b es h)
+events_are_fresh_or_show_an_id deploy w c b es h d = go (all-fresh deploy d w c b es h)
   where
-    go : Fresh p cap rows t source d c ⊎ Fails p cap rows t source c.made c.works → AreFresh p cap rows t source c.made ⊎ Fails p cap rows t source c.made c.works
+    go : Fresh deploy d c ⊎ Fails deploy c.made c.works → AreFresh deploy c.made ⊎ Fails deploy c.made c.works
     go (inl f) = inl f.fresh
     go (inr x) = inr x
 
 pub events_are_fresh : EventsAreFresh
-events_are_fresh p cap t source w c b es h = go (all-fresh p cap [] t source refl w c b es h)
+events_are_fresh p cap t source w c b es h = go (all-fresh (deploy_of p cap [] t source) refl w c b es h)
   where
-    go : Fresh p cap [] t source refl c ⊎ Fails p cap [] t source c.made c.works → FreshDigests p cap t source c.made ⊎ Collides p cap [] t source c.made
+    go : Fresh (deploy_of p cap [] t source) refl c ⊎ Fails (deploy_of p cap [] t source) c.made c.works → FreshDigests p cap t source c.made ⊎ Collides (deploy_of p cap [] t source) c.made
     go (inl f) = legal_lists_are_fresh p cap t source c.made h (f.kept.state, f.kept.leads)
     go (inr (inl s)) = cc s.among
     go (inr (inr x)) = inr x
 
 -- what a core with fresh digests comes to
-abbrev RunsFrom : Prices → ℕ → List Row → Tree → List ℕ → Core → Type 0
-RunsFrom p cap rows t source c = (f : Follows p cap rows t source c) × ((c.pending ≡ []) ⊎ (verdict p cap f.state ≢ done) → IsRun p cap rows t source c.made f.state)
+abbrev RunsFrom : Deploy → Core → Type 0
+RunsFrom deploy c = (f : Follows deploy c) × ((c.pending ≡ []) ⊎ (verdict deploy.prices deploy.limit f.state ≢ done) → IsRun deploy c.made f.state)
 
-fresh-runs : (p : Prices) (cap : ℕ) (rows : List Row) (t : Tree) (source : List ℕ) (w : Work) (c : Core) → Begins p cap rows t source w → Events p cap (started rows w) c → AreFresh p cap rows t source c.made → RunsFrom p cap rows t source c
-fresh-runs p cap rows t source w c b es k = let f = events_are_legal p cap rows t source w c b es k in (f, λ ends. ended_events_are_a_run p cap rows t source w c b es k f ends)
+fresh-runs : (deploy : Deploy) (w : Work) (c : Core) → Begins deploy w → Events deploy.prices deploy.limit (started deploy.rows w) c → AreFresh deploy c.made → RunsFrom deploy c
+fresh-runs deploy w c b es k = let f = events_are_legal deploy w c b es k in (f, λ ends. ended_events_are_a_run deploy w c b es k f ends)
 
 pub events_are_a_run_or_collide : EventsAreARunOrCollide
 events_are_a_run_or_collide p cap t source w c b es h = go (events_are_fresh p cap t source w c b es h)
   where
-    go : FreshDigests p cap t source c.made ⊎ Collides p cap [] t source c.made → RunsFrom p cap [] t source c ⊎ Collides p cap [] t source c.made
-    go (inl k) = inl (fresh-runs p cap [] t source w c b es (fresh_digests_are_fresh p cap t source c.made k))
+    go : FreshDigests p cap t source c.made ⊎ Collides (deploy_of p cap [] t source) c.made → RunsFrom (deploy_of p cap [] t source) c ⊎ Collides (deploy_of p cap [] t source) c.made
+    go (inl k) = inl (fresh-runs (deploy_of p cap [] t source) w c b es (fresh_digests_are_fresh p cap t source c.made k))
     go (inr x) = inr x
 
 pub events_are_a_run_or_show_an_id : EventsAreARunOrShowAnId
-events_are_a_run_or_show_an_id p cap rows t source w c b es h d = go (events_are_fresh_or_show_an_id p cap rows t source w c b es h d)
+events_are_a_run_or_show_an_id deploy w c b es h d = go (events_are_fresh_or_show_an_id deploy w c b es h d)
   where
-    go : AreFresh p cap rows t source c.made ⊎ Fails p cap rows t source c.made c.works → RunsFrom p cap rows t source c ⊎ Fails p cap rows t source c.made c.works
-    go (inl k) = inl (fresh-runs p cap rows t source w c b es k)
+    go : AreFresh deploy c.made ⊎ Fails deploy c.made c.works → RunsFrom deploy c ⊎ Fails deploy c.made c.works
+    go (inl k) = inl (fresh-runs deploy w c b es k)
     go (inr x) = inr x

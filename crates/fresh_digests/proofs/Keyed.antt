@@ -1,11 +1,11 @@
 -- Things that are made from a root seed stand at different keys with that root.
 use Rattle.std.proofs.Common.{◌≡◌, ◌≢◌, ℕ, Bool, true, false, cond, List, [], ◌∷◌, map as each, refl, sym, ap, ◌∙◌, subst}
 use Rattle.std.specs.Prelude.{ltb, Some, option_map}
+use Rattle.list_laws.proofs.Members.{Every}
 use Rattle.calculus.specs.Outcome.{Answer, gives, fails, unknown, Outcome, over, within, known, capped}
 use Rattle.calculus.specs.Seeds.{Seed, message, digest_of}
-use Rattle.calculus.specs.Unfolding.{Thing, digest}
-use Rattle.calculus.specs.Runs.{Work, work_things}
-use Rattle.calculus.proofs.Candidates.{Every}
+use Rattle.calculus.specs.Unfolding.{Product, digest}
+use Rattle.calculus.specs.Runs.{Work, work_products}
 use Rattle.fresh_digests.specs.HashedTexts.{work_texts}
 use Rattle.fresh_digests.proofs.Texts.{IsSound}
 use Rattle.fresh_digests.proofs.Keys.{AreHashed, Move, IsRoot, NumberFits, stands, Key, value, IsKey, AreApart}
@@ -62,14 +62,14 @@ keys-rooted r [] = tt
 keys-rooted r (w ∷ ws) = (refl, keys-rooted r ws)
 
 -- these things stand at different keys with this root
-pub record Keyed (H : List ℕ → Type 0) (r : Seed) (xs : List Thing) : Type 0 where
+pub record Keyed (H : List ℕ → Type 0) (r : Seed) (xs : List Product) : Type 0 where
   pub keys : List Key
   pub digests : each digest xs ≡ each value keys
   pub apart : AreApart keys
   pub sound : Every (IsKey H) keys
   pub rooted : Every (λ k. k.root ≡ r) keys
 
-pub traced-keyed : (H : List ℕ → Type 0) (r : Seed) (xs : List Thing) → IsRoot r → IsSound r → H (message r) → Traced H Any (digest_of r) xs → Keyed H r xs
+pub traced-keyed : (H : List ℕ → Type 0) (r : Seed) (xs : List Product) → IsRoot r → IsSound r → H (message r) → Traced H Any (digest_of r) xs → Keyed H r xs
 traced-keyed H r xs h k x t = record {
   keys = each (key_of r) t.ways;
   digests = t.digests ∙ keys-digests r t.ways;
@@ -79,15 +79,15 @@ traced-keyed H r xs h k x t = record {
 }
 
 -- what work under a cap makes is traced, where what its answer gives is
-pub capped-traced : (H : List ℕ → Type 0) (cap : ℕ) (o : Outcome (List Thing)) (w : Work) (s : List ℕ) (xs : List (List ℕ)) → ((ts : List Thing) → Every H xs → o.answer ≡ gives ts → Traced H Any s ts)
-    → Every H (work_texts (capped cap o) xs) → capped cap o ≡ Some w → Traced H Any s (work_things w)
+pub capped-traced : (H : List ℕ → Type 0) (cap : ℕ) (o : Outcome (List Product)) (w : Work) (s : List ℕ) (xs : List (List ℕ)) → ((ts : List Product) → Every H xs → o.answer ≡ gives ts → Traced H Any s ts)
+    → Every H (work_texts (capped cap o) xs) → capped cap o ≡ Some w → Traced H Any s (work_products w)
 capped-traced H cap o w s xs h x e = start (ltb cap o.price) x e
   where
-    ends : (a : Answer (List Thing)) → o.answer ≡ a → Every H (work_texts (option_map within (known a (record { price = o.price; answer = a }))) xs) → option_map within (known a (record { price = o.price; answer = a })) ≡ Some w → Traced H Any s (work_things w)
-    ends (gives ts) d y f = let same : within (record { price = o.price; answer = gives ts }) ≡ w = cc f in subst (λ v. Traced H Any s (work_things v)) same (h ts y d)
-    ends (fails c) d y f = let same : within (record { price = o.price; answer = fails c }) ≡ w = cc f in subst (λ v. Traced H Any s (work_things v)) same (nothing-traced H Any s)
+    ends : (a : Answer (List Product)) → o.answer ≡ a → Every H (work_texts (option_map within (known a (record { price = o.price; answer = a }))) xs) → option_map within (known a (record { price = o.price; answer = a })) ≡ Some w → Traced H Any s (work_products w)
+    ends (gives ts) d y f = let same : within (record { price = o.price; answer = gives ts }) ≡ w = cc f in subst (λ v. Traced H Any s (work_products v)) same (h ts y d)
+    ends (fails c) d y f = let same : within (record { price = o.price; answer = fails c }) ≡ w = cc f in subst (λ v. Traced H Any s (work_products v)) same (nothing-traced H Any s)
     ends unknown d y f = cc f
 
-    start : (b : Bool) → Every H (work_texts (cond b (Some over) (option_map within (known o.answer o))) xs) → cond b (Some over) (option_map within (known o.answer o)) ≡ Some w → Traced H Any s (work_things w)
-    start true y f = let same : over ≡ w = cc f in subst (λ v. Traced H Any s (work_things v)) same (nothing-traced H Any s)
+    start : (b : Bool) → Every H (work_texts (cond b (Some over) (option_map within (known o.answer o))) xs) → cond b (Some over) (option_map within (known o.answer o)) ≡ Some w → Traced H Any s (work_products w)
+    start true y f = let same : over ≡ w = cc f in subst (λ v. Traced H Any s (work_products v)) same (nothing-traced H Any s)
     start false y f = ends o.answer refl y f

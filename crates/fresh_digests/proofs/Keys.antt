@@ -4,11 +4,11 @@ use Rattle.std.specs.Prelude.{⊤, ◌⊎◌}
 use Rattle.std.specs.Str.{bytes_eq}
 use Rattle.std.proofs.lemmas.Slice.Eq.{bytes_eq-Decides}
 use Rattle.std.proofs.lemmas.Bool.{false≢true}
+use Rattle.list_laws.proofs.Members.{Every}
 use Rattle.sha2.specs.Sha256.{sha256}
 use Rattle.calculus.specs.Form.{IsBytes, IsDigest}
 use Rattle.calculus.specs.Seeds.{Seed, System, Start, Split, Body, Fresh, Comm, message, digest_of}
 use Rattle.calculus.specs.Steps.{is_one_of, differ}
-use Rattle.calculus.proofs.Candidates.{Every}
 use Rattle.fresh_digests.proofs.Texts.{sound-bytes, IsSound, one-seed}
 use Rattle.fresh_digests.proofs.Octets.{seed-digest}
 

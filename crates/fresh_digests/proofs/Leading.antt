@@ -1,20 +1,20 @@
 -- The states that legal lists of steps lead to are told of.
 use Rattle.std.proofs.Common.{zero, ◌≡◌, ◌≢◌, ℕ, suc, ◌<◌, ◌≤◌, ◌+◌, ◌^◌, List, [], ◌∷◌, ◌++◌, length, refl, sym, ap, ◌∙◌, subst, arith, length-append}
 use Rattle.std.specs.Prelude.{replicate, Some, option_map}
-use Rattle.calculus.specs.Tree.{Tree}
+use Rattle.list_laws.proofs.Members.{Every, every-left, every-right}
 use Rattle.calculus.specs.Outcome.{Prices, gives, capped}
 use Rattle.calculus.specs.Substitution.{put}
 use Rattle.calculus.specs.Log.{Step}
 use Rattle.calculus.specs.Rows.{Row}
 use Rattle.calculus.specs.Root.{Group, groups, digest_in, root}
 use Rattle.calculus.specs.Seeds.{message, Seed, Start, digest_of}
-use Rattle.calculus.specs.Unfolding.{Thing, unfold_in, unfold_under}
+use Rattle.calculus.specs.Unfolding.{Product, unfold_in, unfold_under}
 use Rattle.calculus.specs.Steps.{Meeting, meeting}
-use Rattle.calculus.specs.Runs.{Work, work_things, State, body_work, moved, step_from, steps_from, begun, first_state, Leads}
+use Rattle.calculus.specs.Runs.{Deploy, Work, work_products, State, body_work, moved, step_from, steps_from, begun, first_state, Leads}
 use Rattle.calculus.specs.Form.{IsBytes, IsDigest}
-use Rattle.calculus.proofs.Candidates.{Every, and_then-inv, map-inv}
+use Rattle.calculus.proofs.Candidates.{and_then-inv, map-inv}
 use Rattle.fresh_digests.specs.HashedTexts.{under_texts, texts_in, source_texts, step_seed, body_texts, steps_texts, built_in_texts, hashed_texts}
-use Rattle.fresh_digests.proofs.Ways.{Traced, every-left, every-right}
+use Rattle.fresh_digests.proofs.Ways.{Traced}
 use Rattle.fresh_digests.proofs.Tracing.{Any}
 use Rattle.fresh_digests.specs.Numbers.{IsNumberable}
 use Rattle.fresh_digests.proofs.Parts.{within-traced}
@@ -42,13 +42,13 @@ root-digest rows = group-digest (groups rows)
 module _ (H : List ℕ → Type 0) where
   -- what a step's body makes stands at different keys under the step's seed
   body-keyed : (p : Prices) (cap room : ℕ) (made : List Step) (s : Step) (m : Meeting) (w : Work) → Shown made s → length made < 2 ^ 32
-      → H (message (step_seed s)) → Every H (body_texts p cap room s (Some m)) → body_work p cap room s m ≡ Some w → Keyed H (step_seed s) (work_things w)
+      → H (message (step_seed s)) → Every H (body_texts p cap room s (Some m)) → body_work p cap room s m ≡ Some w → Keyed H (step_seed s) (work_products w)
   body-keyed p cap room made s m w h l x y e =
       let d : List ℕ = digest_of (step_seed s) in
       let own : List (List ℕ) = under_texts (texts_in p room) d m.bindings m.receiver.body in
-      let made_gives : (xs : List Thing) → Every H own → (unfold_under (unfold_in p room) d m.bindings m.receiver.body).answer ≡ gives xs → Traced H Any d xs =
+      let made_gives : (xs : List Product) → Every H own → (unfold_under (unfold_in p room) d m.bindings m.receiver.body).answer ≡ gives xs → Traced H Any d xs =
       λ xs z f. within-traced H (unfold_in p room) (texts_in p room) (unfold-traced H p room) d (put m.bindings m.receiver.body) xs z f in
-      traced-keyed H (step_seed s) (work_things w) tt (step-sound made s h l) x (capped-traced H cap (unfold_under (unfold_in p room) d m.bindings m.receiver.body) w d own made_gives y e)
+      traced-keyed H (step_seed s) (work_products w) tt (step-sound made s h l) x (capped-traced H cap (unfold_under (unfold_in p room) d m.bindings m.receiver.body) w d own made_gives y e)
 
   step-told : (p : Prices) (cap room : ℕ) (first : Seed) → ((u : Step) → first ≢ step_seed u) → (a b : State) (s : Step) → Told H first a → length a.made < 2 ^ 32
       → H (message (step_seed s)) → Every H (body_texts p cap room s (meeting a.bag a.made s)) → step_from p cap room a s ≡ Some b → Told H first b × (length b.made ≡ suc (length a.made))
@@ -76,18 +76,18 @@ module _ (H : List ℕ → Type 0) where
   start-differs base source u = λ e. cc e
 
   -- of each state that a legal list of steps leads to
-  pub state-told : (p : Prices) (cap : ℕ) (rows : List Row) (t : Tree) (source : List ℕ) (ss : List Step) (a : State)
-      → IsNumberable t → HaveDigests rows → IsBytes source → length ss ≤ 2 ^ 32 → (d : Leads p cap rows t source ss a) → Every H (hashed_texts p cap d.0 rows t source ss) → Told H (Start (root rows) source) a
-  state-told p cap rows t source ss a n h bs l d x =
-      let r : Seed = Start (root rows) source in
-      let i = and_then-inv (first_state p cap d.0 rows t source) (λ b. steps_from p cap d.0 b ss) a d.1 in
-      let j = map-inv (capped cap (unfold_in p d.0 t (digest_of r))) (begun rows) i.0 i.1 in
-      let own = source_texts p cap d.0 t (digest_of r) in
-      let later = steps_texts p cap d.0 (first_state p cap d.0 rows t source) ss in
+  pub state-told : (deploy : Deploy) (ss : List Step) (a : State)
+      → IsNumberable deploy.process → HaveDigests deploy.rows → IsBytes deploy.source → length ss ≤ 2 ^ 32 → (d : Leads deploy ss a) → Every H (hashed_texts deploy d.0 ss) → Told H (Start (root deploy.rows) deploy.source) a
+  state-told deploy ss a n h bs l d x =
+      let r : Seed = Start (root deploy.rows) deploy.source in
+      let i = and_then-inv (first_state deploy d.0) (λ b. steps_from deploy.prices deploy.limit d.0 b ss) a d.1 in
+      let j = map-inv (capped deploy.limit (unfold_in deploy.prices d.0 deploy.process (digest_of r))) (begun deploy.rows) i.0 i.1 in
+      let own = source_texts deploy.prices deploy.limit d.0 deploy.process (digest_of r) in
+      let later = steps_texts deploy.prices deploy.limit d.0 (first_state deploy d.0) ss in
       let y : Every H (message r ∷ (own ++ later)) = every-right H built_in_texts (message r ∷ (own ++ later)) x in
-      let z : Every H (steps_texts p cap d.0 (Some i.0) ss) = subst (λ o. Every H (steps_texts p cap d.0 o ss)) i.1 (every-right H own later y.1) in
-      let traced : Traced H Any (digest_of r) (work_things j.0) =
-      capped-traced H cap (unfold_in p d.0 t (digest_of r)) j.0 (digest_of r) (texts_in p d.0 t (digest_of r)) (λ xs g f. unfold-traced H p d.0 t (digest_of r) xs n g f) (every-left H own later y.1) j.1 in
-      let k : Told H r (begun rows j.0) = begun-told H r rows j.0 h (traced-keyed H r (work_things j.0) tt (root-digest rows, bs) y.0 traced) in
+      let z : Every H (steps_texts deploy.prices deploy.limit d.0 (Some i.0) ss) = subst (λ o. Every H (steps_texts deploy.prices deploy.limit d.0 o ss)) i.1 (every-right H own later y.1) in
+      let traced : Traced H Any (digest_of r) (work_products j.0) =
+      capped-traced H deploy.limit (unfold_in deploy.prices d.0 deploy.process (digest_of r)) j.0 (digest_of r) (texts_in deploy.prices d.0 deploy.process (digest_of r)) (λ xs g f. unfold-traced H deploy.prices d.0 deploy.process (digest_of r) xs n g f) (every-left H own later y.1) j.1 in
+      let k : Told H r (begun deploy.rows j.0) = begun-told H r deploy.rows j.0 h (traced-keyed H r (work_products j.0) tt (root-digest deploy.rows, bs) y.0 traced) in
       let none : length i.0.made ≡ 0 = sym (ap (λ (c : State). length c.made) j.2) in
-      steps-told p cap d.0 r (start-differs (root rows) source) ss i.0 a (subst (Told H r) j.2 k) (omega (arith, l, none)) z i.2
+      steps-told deploy.prices deploy.limit d.0 r (start-differs (root deploy.rows) deploy.source) ss i.0 a (subst (Told H r) j.2 k) (omega (arith, l, none)) z i.2

@@ -2,7 +2,7 @@
 use Rattle.std.proofs.Common.{◌≡◌, ℕ, zero, suc, ◌≤◌, ◌+◌, ◌-◌, ◌^◌, Bool, true, false, cond, List, [], ◌∷◌, ◌++◌, map as each, length, reverse, refl, sym, ap, ◌∙◌, arith, length-append}
 use Rattle.std.specs.Prelude.{leb}
 use Rattle.std.proofs.lemmas.List.{length-map}
-use Rattle.std.proofs.lemmas.Grind.{reverse_onto}
+use Rattle.list_laws.proofs.Members.{Every, every-reverse}
 use Rattle.calculus.specs.declared.plain.Origin.{Origin}
 use Rattle.calculus.specs.declared.plain.Origin.TheVariants as origins
 use Rattle.calculus.specs.declared.plain.Rights.TheVariants as rights
@@ -21,7 +21,6 @@ use Rattle.calculus.specs.Unfolding.{names_made}
 use Rattle.calculus.proofs.Tails.{length-be32}
 use Rattle.calculus.proofs.Sorting.{total-arranged}
 use Rattle.calculus.proofs.Placing.{trees-listed}
-use Rattle.calculus.proofs.Candidates.{Every, every-append}
 use Rattle.fresh_digests.specs.Laws.{ShortProcessesAreNumberable, SmallProcessesAreNumberable}
 use Rattle.fresh_digests.specs.Numbers.{most_names, most_names_of, one_if_full, full_codes, name_count, IsNumberable, AreNumberable}
 use Rattle.fresh_digests.proofs.Ordered.{numberable-every}
@@ -168,10 +167,6 @@ single-at : (k : ℕ) (vs : List Tree) → Every Single vs → Single (at k vs)
 single-at k [] h = (tt, omega arith)
 single-at zero (v ∷ vs) h = h.0
 single-at (suc k) (v ∷ vs) h = single-at k vs h.1
-
-every-reverse : {A : Type 0} (P : A → Type 0) (xs : List A) → Every P xs → Every P (reverse xs)
-every-reverse P [] h = tt
-every-reverse P (x ∷ xs) h = rw (reverse_onto xs x []) (every-append P (reverse xs) (x ∷ []) (every-reverse P xs h.1) (h.0, tt))
 
 the-numberable : (ts : Trees) → AreNumberable ts → IsNumberable (the_one ts)
 the-numberable none h = (omega arith, omega arith, tt)

@@ -9,7 +9,7 @@ use Rattle.calculus.specs.Root.{root}
 use Rattle.calculus.specs.Seeds.{Start, message, digest_of}
 use Rattle.calculus.specs.Unfolding.{unfold_in, unfold_under}
 use Rattle.calculus.specs.Steps.{Meeting, meeting}
-use Rattle.calculus.specs.Runs.{Work, State, body_work, moved, step_from, steps_from, begun, first_state}
+use Rattle.calculus.specs.Runs.{deploy_of, Deploy, Work, State, body_work, moved, step_from, steps_from, begun, first_state}
 use Rattle.calculus.proofs.Candidates.{and_then-inv, map-inv}
 use Rattle.calculus.proofs.Room.{unfold_more, under_more}
 use Rattle.calculus.proofs.States.{step_keeps, first_keeps}
@@ -72,35 +72,38 @@ module _ (p : Prices) (cap : ℕ) (n m : ℕ) (more : n ≤ m) where
         steps-grow (step_from p cap n a s) (step_from p cap m a s) ss x (λ b e. step_keeps p cap n m more a s b e),
       ))
 
-  hashed-grow : (rows : List Row) (t : Tree) (source : List ℕ) (ss : List Step) (x : List ℕ) → times x (hashed_texts p cap n rows t source ss) ≤ times x (hashed_texts p cap m rows t source ss)
+  hashed-grow : (rows : List Row) (t : Tree) (source : List ℕ) (ss : List Step) (x : List ℕ) → times x (hashed_texts (deploy_of p cap rows t source) n ss) ≤ times x (hashed_texts (deploy_of p cap rows t source) m ss)
   hashed-grow rows t source ss x =
+      let deploy : Deploy = deploy_of p cap rows t source in
       let d : List ℕ = digest_of (Start (root rows) source) in
       let seed : List ℕ = message (Start (root rows) source) in
       omega (
         arith,
-        times-append x built_in_texts (seed ∷ (source_texts p cap n t d ++ steps_texts p cap n (first_state p cap n rows t source) ss)),
-        times-append x built_in_texts (seed ∷ (source_texts p cap m t d ++ steps_texts p cap m (first_state p cap m rows t source) ss)),
-        times-append x (source_texts p cap n t d) (steps_texts p cap n (first_state p cap n rows t source) ss),
-        times-append x (source_texts p cap m t d) (steps_texts p cap m (first_state p cap m rows t source) ss),
+        times-append x built_in_texts (seed ∷ (source_texts p cap n t d ++ steps_texts p cap n (first_state deploy n) ss)),
+        times-append x built_in_texts (seed ∷ (source_texts p cap m t d ++ steps_texts p cap m (first_state deploy m) ss)),
+        times-append x (source_texts p cap n t d) (steps_texts p cap n (first_state deploy n) ss),
+        times-append x (source_texts p cap m t d) (steps_texts p cap m (first_state deploy m) ss),
         source-grows t d x,
-        steps-grow (first_state p cap n rows t source) (first_state p cap m rows t source) ss x (λ a e. first_keeps p cap n m more rows t source a e),
+        steps-grow (first_state deploy n) (first_state deploy m) ss x (λ a e. first_keeps deploy n m more a e),
       )
 
   -- where the room is enough, more adds nothing
-  hashed-known : (rows : List Row) (t : Tree) (source : List ℕ) (ss : List Step) (b : State) → option_and_then (λ a. steps_from p cap n a ss) (first_state p cap n rows t source) ≡ Some b → hashed_texts p cap n rows t source ss ≡ hashed_texts p cap m rows t source ss
+  hashed-known : (rows : List Row) (t : Tree) (source : List ℕ) (ss : List Step) (b : State) → option_and_then (λ a. steps_from p cap n a ss) (first_state (deploy_of p cap rows t source) n) ≡ Some b
+      → hashed_texts (deploy_of p cap rows t source) n ss ≡ hashed_texts (deploy_of p cap rows t source) m ss
   hashed-known rows t source ss b e =
+      let deploy : Deploy = deploy_of p cap rows t source in
       let d : List ℕ = digest_of (Start (root rows) source) in
       let seed : List ℕ = message (Start (root rows) source) in
-      let i = and_then-inv (first_state p cap n rows t source) (λ a. steps_from p cap n a ss) b e in
+      let i = and_then-inv (first_state deploy n) (λ a. steps_from p cap n a ss) b e in
       let j = map-inv (capped cap (unfold_in p n t d)) (begun rows) i.0 i.1 in
-      let later : steps_texts p cap n (first_state p cap n rows t source) ss ≡ steps_texts p cap m (first_state p cap m rows t source) ss =
-      ap (λ o. steps_texts p cap n o ss) i.1 ∙ steps-known i.0 b ss i.2 ∙ sym (ap (λ o. steps_texts p cap m o ss) (first_keeps p cap n m more rows t source i.0 i.1)) in
-      ap (λ l. built_in_texts ++ (seed ∷ (l ++ steps_texts p cap n (first_state p cap n rows t source) ss))) (source-known t d j.0 j.1)
+      let later : steps_texts p cap n (first_state deploy n) ss ≡ steps_texts p cap m (first_state deploy m) ss =
+      ap (λ o. steps_texts p cap n o ss) i.1 ∙ steps-known i.0 b ss i.2 ∙ sym (ap (λ o. steps_texts p cap m o ss) (first_keeps deploy n m more i.0 i.1)) in
+      ap (λ l. built_in_texts ++ (seed ∷ (l ++ steps_texts p cap n (first_state deploy n) ss))) (source-known t d j.0 j.1)
       ∙ ap (λ l. built_in_texts ++ (seed ∷ (source_texts p cap m t d ++ l))) later
 
 pub room_adds_no_texts : RoomAddsNoTexts
-room_adds_no_texts p cap rows t source ss a l room text e =
+room_adds_no_texts deploy ss a l room text e =
     let m : ℕ = room + l.0 in
-    let grown = hashed-grow p cap room m (omega arith) rows t source ss text in
-    let same : hashed_texts p cap l.0 rows t source ss ≡ hashed_texts p cap m rows t source ss = hashed-known p cap l.0 m (omega arith) rows t source ss a l.1 in
-    times-one_of text (hashed_texts p cap l.0 rows t source ss) (omega (arith, one_of-times text (hashed_texts p cap room rows t source ss) e, grown, ap (times text) same))
+    let grown = hashed-grow deploy.prices deploy.limit room m (omega arith) deploy.rows deploy.process deploy.source ss text in
+    let same : hashed_texts deploy l.0 ss ≡ hashed_texts deploy m ss = hashed-known deploy.prices deploy.limit l.0 m (omega arith) deploy.rows deploy.process deploy.source ss a l.1 in
+    times-one_of text (hashed_texts deploy l.0 ss) (omega (arith, one_of-times text (hashed_texts deploy room ss) e, grown, ap (times text) same))

@@ -1,13 +1,13 @@
 -- Trees in ascending order: those with an empty code stand first.
 use Rattle.std.proofs.Common.{◌≡◌, ℕ, ◌+◌, Bool, true, false, cond, List, [], ◌∷◌, map as each, length, refl, ap, ◌∙◌, arith, inl, inr}
 use Rattle.std.specs.Prelude.{⊤, ◌⊎◌}
+use Rattle.list_laws.proofs.Members.{Every}
 use Rattle.calculus.specs.Tree.{Tree, Trees, none, also}
 use Rattle.calculus.specs.Shape.{listed}
 use Rattle.calculus.specs.Order.{up_to, placed, sorted}
 use Rattle.calculus.specs.Code.{code, codes}
 use Rattle.calculus.specs.Normal.{placed_by, by_code, ascending}
 use Rattle.calculus.proofs.Sorting.{by_place}
-use Rattle.calculus.proofs.Candidates.{Every}
 use Rattle.fresh_digests.specs.Numbers.{one_if_full, full_codes, IsNumberable, AreNumberable}
 
 -- a list that is not empty

@@ -1,12 +1,12 @@
 -- The text of a seed tells the seed.
 use Rattle.std.proofs.Common.{◌≡◌, ℕ, ◌<◌, ◌+◌, ◌*◌, ◌%◌, ◌^◌, List, [], ◌∷◌, ◌++◌, length, refl, sym, ap, ◌∙◌, arith, length-append, append_assoc}
 use Rattle.std.specs.Int.{w32, to_be_bytes}
+use Rattle.list_laws.proofs.Members.{Every}
 use Rattle.calculus.specs.Bytes.{be32, joined}
 use Rattle.calculus.specs.Form.{IsBytes, IsDigest}
 use Rattle.calculus.specs.Seeds.{Seed, System, Start, Split, Body, Fresh, Comm, message}
 use Rattle.calculus.proofs.Prefixes.{Splits-length, cut}
 use Rattle.calculus.proofs.Tails.{length-be32, one-be32}
-use Rattle.calculus.proofs.Candidates.{Every}
 use Rattle.fresh_digests.proofs.Octets.{one-more-byte, append-bytes, be32-bytes, joined-bytes}
 
 -- a seed whose text has room for its numbers, and whose digests have 32 bytes

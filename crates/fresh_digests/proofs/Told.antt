@@ -5,21 +5,20 @@ use Rattle.std.proofs.lemmas.Slice.Eq.{bytes_eq-Decides}
 use Rattle.std.proofs.lemmas.List.{append-nil, map-append}
 use Rattle.std.proofs.lemmas.List.Concat.{flat_map-append}
 use Rattle.std.proofs.lemmas.List.Sums.{sum_by-cons, sum_by-append}
+use Rattle.list_laws.proofs.Members.{Member, Every, every-append, every-up, member-split, member-left, member-right, every-left, every-right}
 use Rattle.calculus.specs.Form.{IsDigest}
 use Rattle.calculus.specs.Log.{Step}
 use Rattle.calculus.specs.Rows.{Row, stdout, stdout_ack}
 use Rattle.calculus.specs.Seeds.{Seed, System, Comm}
-use Rattle.calculus.specs.Unfolding.{Thing, a_row, a_fresh, rows_of, digest}
+use Rattle.calculus.specs.Unfolding.{Product, a_row, a_fresh, rows_of, digest}
 use Rattle.calculus.specs.Steps.{Bag, Meeting, standing, stored_rows, same_ids, same_meeting, has_place, but_places, bag_after}
-use Rattle.calculus.specs.Runs.{Work, work_things, State, moved, begun, made_digests}
-use Rattle.calculus.proofs.Candidates.{Member, Every, every-append, every-up}
+use Rattle.calculus.specs.Runs.{Work, work_products, State, moved, begun, made_digests}
 use Rattle.events.specs.Events.{digests}
-use Rattle.events.proofs.Standing.{member-split, member-left, member-right}
 use Rattle.fresh_digests.specs.HashedTexts.{step_seed}
 use Rattle.fresh_digests.proofs.Texts.{IsSound}
 use Rattle.fresh_digests.proofs.Octets.{seed-digest}
 use Rattle.fresh_digests.proofs.Keys.{stands-digest, Key, value, IsKey, AreApart}
-use Rattle.fresh_digests.proofs.Ways.{every-left, every-right, apart-append}
+use Rattle.fresh_digests.proofs.Ways.{apart-append}
 use Rattle.fresh_digests.proofs.Keyed.{Keyed}
 use Rattle.fresh_digests.proofs.Allowed.{HaveDigests, Shown}
 
@@ -37,7 +36,7 @@ pub record Told (H : List ℕ → Type 0) (first : Seed) (a : State) : Type 0 wh
   pub counts : (u : Step) → Member u a.made → u.repeat < count_by (same_meeting u) a.made
   pub ids : HaveDigests (stored_rows a.bag)
 
-rows-have : (xs : List Thing) → Every IsDigest (each digest xs) → HaveDigests (rows_of xs)
+rows-have : (xs : List Product) → Every IsDigest (each digest xs) → HaveDigests (rows_of xs)
 rows-have [] h = tt
 rows-have (a_row r ∷ xs) h = (h.0, rows-have xs h.1)
 rows-have (a_fresh x ∷ xs) h = rows-have xs h.1
@@ -46,19 +45,19 @@ values-have : (ks : List Key) → Every IsDigest (each value ks)
 values-have [] = tt
 values-have (k ∷ ks) = (stands-digest k.root k.moves, values-have ks)
 
-keyed-rows : (H : List ℕ → Type 0) (r : Seed) (xs : List Thing) → Keyed H r xs → HaveDigests (rows_of xs)
+keyed-rows : (H : List ℕ → Type 0) (r : Seed) (xs : List Product) → Keyed H r xs → HaveDigests (rows_of xs)
 keyed-rows H r xs k = rows-have xs (subst (Every IsDigest) (sym k.digests) (values-have k.keys))
 
 -- of the state before the first step
-pub begun-told : (H : List ℕ → Type 0) (first : Seed) (rows : List Row) (w : Work) → HaveDigests rows → Keyed H first (work_things w) → Told H first (begun rows w)
+pub begun-told : (H : List ℕ → Type 0) (first : Seed) (rows : List Row) (w : Work) → HaveDigests rows → Keyed H first (work_products w) → Told H first (begun rows w)
 begun-told H first rows w h k = record {
   keys = k.keys;
-  digests = append-nil (each digest (work_things w)) ∙ k.digests;
+  digests = append-nil (each digest (work_products w)) ∙ k.digests;
   apart = k.apart;
   sound = k.sound;
   rooted = every-up (λ j. j.root ≡ first) (λ j. (j.root ≡ first) ⊎ OfStep [] j.root) (λ j e. inl e) k.keys k.rooted;
   counts = λ u m. absurd m;
-  ids = every-append (λ r. IsDigest r.id) rows (rows_of (work_things w)) h (keyed-rows H first (work_things w) k);
+  ids = every-append (λ r. IsDigest r.id) rows (rows_of (work_products w)) h (keyed-rows H first (work_products w) k);
 }
 
 -- the step of a seed
@@ -128,19 +127,19 @@ after-have b m rs h k =
     (left-have m.leaving 0 b.kept (every-left (λ r. IsDigest r.id) b.kept b.offered h))
     (every-append (λ r. IsDigest r.id) (but_places m.leaving (suc (suc (length b.kept))) b.offered) rs (left-have m.leaving (suc (suc (length b.kept))) b.offered (every-right (λ r. IsDigest r.id) b.kept b.offered h)) k)
 
-pub digests-more : (ws : List Work) (w : Work) → digests (ws ++ w ∷ []) ≡ digests ws ++ each digest (work_things w)
-digests-more ws w = flat_map-append (λ v. each digest (work_things v)) ws (w ∷ []) ∙ ap (λ l. digests ws ++ l) (append-nil (each digest (work_things w)))
+pub digests-more : (ws : List Work) (w : Work) → digests (ws ++ w ∷ []) ≡ digests ws ++ each digest (work_products w)
+digests-more ws w = flat_map-append (λ v. each digest (work_products v)) ws (w ∷ []) ∙ ap (λ l. digests ws ++ l) (append-nil (each digest (work_products w)))
 
 -- of the state after one more step
-pub moved-told : (H : List ℕ → Type 0) (first : Seed) → ((u : Step) → first ≢ step_seed u) → (a : State) (s : Step) (m : Meeting) (w : Work) → Told H first a → Shown a.made s → Keyed H (step_seed s) (work_things w) → Told H first (moved a s m w)
+pub moved-told : (H : List ℕ → Type 0) (first : Seed) → ((u : Step) → first ≢ step_seed u) → (a : State) (s : Step) (m : Meeting) (w : Work) → Told H first a → Shown a.made s → Keyed H (step_seed s) (work_products w) → Told H first (moved a s m w)
 moved-told H first differs a s m w h g k = record {
   keys = h.keys ++ k.keys;
-  digests = digests-more a.works w ∙ ap (λ l. l ++ each digest (work_things w)) h.digests ∙ ap (λ l. each value h.keys ++ l) k.digests ∙ sym (map-append value h.keys k.keys);
+  digests = digests-more a.works w ∙ ap (λ l. l ++ each digest (work_products w)) h.digests ∙ ap (λ l. each value h.keys ++ l) k.digests ∙ sym (map-append value h.keys k.keys);
   apart = apart-append (λ j. (j.root ≡ first) ⊎ OfStep a.made j.root) (λ j. j.root ≡ step_seed s) other h.keys k.keys h.rooted k.rooted h.apart k.apart;
   sound = every-append (IsKey H) h.keys k.keys h.sound k.sound;
   rooted = every-append Rooted h.keys k.keys (every-up (λ j. (j.root ≡ first) ⊎ OfStep a.made j.root) Rooted old h.keys h.rooted) (every-up (λ j. j.root ≡ step_seed s) Rooted new k.keys k.rooted);
   counts = still-counts a.made s h.counts g.repeats;
-  ids = after-have a.bag m (rows_of (work_things w)) h.ids (keyed-rows H (step_seed s) (work_things w) k);
+  ids = after-have a.bag m (rows_of (work_products w)) h.ids (keyed-rows H (step_seed s) (work_products w) k);
 }
   where
     Rooted : Key → Type 0

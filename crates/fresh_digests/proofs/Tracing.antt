@@ -2,12 +2,12 @@
 use Rattle.std.proofs.Common.{◌≡◌, ◌≢◌, ℕ, suc, ◌≤◌, ◌+◌, ◌^◌, List, [], ◌∷◌, ◌++◌, map as each, length, refl, sym, ap, ◌∙◌, arith}
 use Rattle.std.specs.Prelude.{⊤}
 use Rattle.std.proofs.lemmas.List.{map-append}
+use Rattle.list_laws.proofs.Members.{Every, every-append, every-up}
 use Rattle.calculus.specs.declared.plain.Origin.{Origin}
 use Rattle.calculus.specs.declared.plain.Origin.TheVariants as origins
 use Rattle.calculus.specs.Rows.{Row}
 use Rattle.calculus.specs.Seeds.{message, digest_of, Fresh}
-use Rattle.calculus.specs.Unfolding.{Thing, a_row, digest, fresh_names}
-use Rattle.calculus.proofs.Candidates.{Every, every-append, every-up}
+use Rattle.calculus.specs.Unfolding.{Product, a_row, digest, fresh_names}
 use Rattle.fresh_digests.proofs.Keys.{Move, split, body, fresh, under, NumberFits}
 use Rattle.fresh_digests.proofs.Ways.{Along, Way, down, Traced, apart-append, after_move, Begins, after-ends, after-apart, after-all}
 use Rattle.fresh_digests.specs.HashedTexts.{name_texts}
@@ -47,7 +47,7 @@ module _ (H : List ℕ → Type 0) where
   row-traced s r e = record { ways = [] ∷ []; digests = ap (λ x. x ∷ []) e; apart = (tt, tt); rooms = (tt, tt); all = (tt, tt); texts = (tt, tt) }
 
   -- what is traced under a move
-  pub move-traced : (P Q : Way → Type 0) (m : Move) (s : List ℕ) (ts : List Thing) → NumberFits m → ((w : Way) → P w → Q (m ∷ w)) → H (message (under m s)) → Traced H P (digest_of (under m s)) ts → Traced H Q s ts
+  pub move-traced : (P Q : Way → Type 0) (m : Move) (s : List ℕ) (ts : List Product) → NumberFits m → ((w : Way) → P w → Q (m ∷ w)) → H (message (under m s)) → Traced H P (digest_of (under m s)) ts → Traced H Q s ts
   move-traced P Q m s ts h f x r = record {
     ways = after_move m r.ways;
     digests = r.digests ∙ sym (after-ends s m r.ways);
@@ -58,7 +58,7 @@ module _ (H : List ℕ → Type 0) where
   }
 
   -- one after another, where no way of the one kind is of the other
-  pub append-traced : (P Q R : Way → Type 0) (s : List ℕ) (ts us : List Thing) → ((v w : Way) → P v → Q w → v ≢ w) → ((w : Way) → P w → R w) → ((w : Way) → Q w → R w) → Traced H P s ts → Traced H Q s us → Traced H R s (ts ++ us)
+  pub append-traced : (P Q R : Way → Type 0) (s : List ℕ) (ts us : List Product) → ((v w : Way) → P v → Q w → v ≢ w) → ((w : Way) → P w → R w) → ((w : Way) → Q w → R w) → Traced H P s ts → Traced H Q s us → Traced H R s (ts ++ us)
   append-traced P Q R s ts us f g k a b = record {
     ways = a.ways ++ b.ways;
     digests = map-append digest ts us ∙ ap (λ l. l ++ each digest us) a.digests ∙ ap (λ l. each (down s) a.ways ++ l) b.digests ∙ sym (map-append (down s) a.ways b.ways);
@@ -68,7 +68,7 @@ module _ (H : List ℕ → Type 0) where
     texts = every-append (Along H s) a.ways b.ways a.texts b.texts;
   }
 
-  later-names : (s : List ℕ) (k : ℕ) (ts : List Thing) → Traced H (NamesFrom (suc k)) s ts → Traced H (NamesFrom k) s ts
+  later-names : (s : List ℕ) (k : ℕ) (ts : List Product) → Traced H (NamesFrom (suc k)) s ts → Traced H (NamesFrom k) s ts
   later-names s k ts r = record { ways = r.ways; digests = r.digests; apart = r.apart; rooms = r.rooms; all = every-up (NamesFrom (suc k)) (NamesFrom k) (later-name k) r.ways r.all; texts = r.texts }
 
   pub names-traced : (s : List ℕ) (k : ℕ) (os : List Origin) → k + length os ≤ 2 ^ 32 → Every H (name_texts s k os) → Traced H (NamesFrom k) s (fresh_names s k os)

@@ -1,19 +1,19 @@
 -- What a numberable process makes is traced.
 use Rattle.std.proofs.Common.{◌≡◌, ◌≢◌, ℕ, zero, suc, ◌<◌, ◌≤◌, ◌+◌, ◌%◌, ◌^◌, List, [], ◌∷◌, ◌++◌, length, map as each, refl, sym, ap, ◌∙◌, subst, arith, inl, inr}
+use Rattle.list_laws.proofs.Members.{Every, every-up, every-left, every-right}
 use Rattle.calculus.specs.Tree.{list, tuple, set, dict, send, receive, new, match, bundle, unary, binary, method, Tree, node}
 use Rattle.calculus.specs.Shape.{listed}
 use Rattle.calculus.specs.Code.{code, codes}
 use Rattle.calculus.specs.Normal.{ascending}
 use Rattle.calculus.specs.Outcome.{Prices, gives, pure, after}
 use Rattle.calculus.specs.Seeds.{message, digest_of, Split}
-use Rattle.calculus.specs.Unfolding.{Thing, Unfolder, unfold_part, parts_unfolded, unfold_in}
+use Rattle.calculus.specs.Unfolding.{Product, Unfolder, unfold_part, parts_unfolded, unfold_in}
 use Rattle.sha2.specs.Sha256.{sha256}
 use Rattle.calculus.specs.Order.{sorted}
-use Rattle.calculus.proofs.Candidates.{Every, every-up}
 use Rattle.fresh_digests.specs.HashedTexts.{TextLister, texts_of_part, parts_texts, texts_in}
 use Rattle.fresh_digests.proofs.Texts.{be32-rest}
 use Rattle.fresh_digests.proofs.Keys.{Move, split, body as down_body, fresh, under}
-use Rattle.fresh_digests.proofs.Ways.{every-left, every-right, Way, Traced, Begins}
+use Rattle.fresh_digests.proofs.Ways.{Way, Traced, Begins}
 use Rattle.fresh_digests.proofs.Tracing.{Any, nothing-traced, move-traced, append-traced}
 use Rattle.fresh_digests.specs.Numbers.{full_codes, IsNumberable}
 use Rattle.fresh_digests.proofs.Ordered.{numberable-every}
@@ -66,7 +66,7 @@ small : (i : ℕ) → i % 2 ^ 32 < 2 ^ 32
 small i = omega arith
 
 -- a part with an empty code makes nothing
-empty-part : (p : Prices) (f : Unfolder) (s : List ℕ) (t : Tree) (xs : List Thing) → code t ≡ [] → (unfold_part p f s t).answer ≡ gives xs → [] ≡ xs
+empty-part : (p : Prices) (f : Unfolder) (s : List ℕ) (t : Tree) (xs : List Product) → code t ≡ [] → (unfold_part p f s t).answer ≡ gives xs → [] ≡ xs
 empty-part p f s (node (send q) ts) xs c e = cc
 empty-part p f s (node (receive k) ts) xs c e = cc
 empty-part p f s (node (new os) ts) xs c e = cc
@@ -87,11 +87,11 @@ length-each (t ∷ ts) = ap suc (length-each ts)
 
 -- texts of any kind
 module _ (H : List ℕ → Type 0) where
-  unfold_part-traced : (p : Prices) (f : Unfolder) (g : TextLister) → Traces H f g → (s : List ℕ) (t : Tree) (xs : List Thing) → IsNumberable t → Every H (texts_of_part p g s t) → (unfold_part p f s t).answer ≡ gives xs → Traced H Any s xs
+  unfold_part-traced : (p : Prices) (f : Unfolder) (g : TextLister) → Traces H f g → (s : List ℕ) (t : Tree) (xs : List Product) → IsNumberable t → Every H (texts_of_part p g s t) → (unfold_part p f s t).answer ≡ gives xs → Traced H Any s xs
   unfold_part-traced p f g h s (node l ts) xs n x e = part-traced H p f g h s l ts xs n x e
 
   -- parts of which no more than 2^32 are numbered from b on
-  parts-traced : (p : Prices) (f : Unfolder) (g : TextLister) → Traces H f g → (s : List ℕ) (b i : ℕ) (ts : List Tree) (xs : List Thing) → b ≤ i → i + length ts ≤ b + 2 ^ 32 → Every IsNumberable ts → Every H (parts_texts p g s i ts)
+  parts-traced : (p : Prices) (f : Unfolder) (g : TextLister) → Traces H f g → (s : List ℕ) (b i : ℕ) (ts : List Tree) (xs : List Product) → b ≤ i → i + length ts ≤ b + 2 ^ 32 → Every IsNumberable ts → Every H (parts_texts p g s i ts)
       → (parts_unfolded p f s i ts).answer ≡ gives xs → Traced H (Begins (Later b i)) s xs
   parts-traced p f g h s b i [] xs low high n x e = let same : [] ≡ xs = cc in subst (Traced H (Begins (Later b i)) s) same (nothing-traced H (Begins (Later b i)) s)
   parts-traced p f g h s b i (t ∷ ts) xs low high n x e =
@@ -105,16 +105,16 @@ module _ (H : List ℕ → Type 0) where
       subst (Traced H (Begins (Later b i)) s) same
       (append-traced H (Begins (This i)) (Begins (Later b (suc i))) (Begins (Later b i)) s a.0 c.0 (apart-from-later b i low) (this-later b i low (omega (arith, high))) (later-later b i) first rest)
 
-  forget : (P : Way → Type 0) (s : List ℕ) (xs : List Thing) → Traced H P s xs → Traced H Any s xs
+  forget : (P : Way → Type 0) (s : List ℕ) (xs : List Product) → Traced H P s xs → Traced H Any s xs
   forget P s xs r = record { ways = r.ways; digests = r.digests; apart = r.apart; rooms = r.rooms; all = every-up P Any (λ w h. tt) r.ways r.all; texts = r.texts }
 
   -- parts of which those with an empty code stand first, and no more than 2^32 have another
-  ordered-traced : (p : Prices) (f : Unfolder) (g : TextLister) → Traces H f g → (s : List ℕ) (i : ℕ) (ts : List Tree) (xs : List Thing) → EmptiesFirst (each code ts) → full_codes (each code ts) ≤ 2 ^ 32 → Every IsNumberable ts → Every H (parts_texts p g s i ts)
+  ordered-traced : (p : Prices) (f : Unfolder) (g : TextLister) → Traces H f g → (s : List ℕ) (i : ℕ) (ts : List Tree) (xs : List Product) → EmptiesFirst (each code ts) → full_codes (each code ts) ≤ 2 ^ 32 → Every IsNumberable ts → Every H (parts_texts p g s i ts)
       → (parts_unfolded p f s i ts).answer ≡ gives xs → Traced H Any s xs
   ordered-traced p f g h s i [] xs o few n x e = let same : [] ≡ xs = cc in subst (Traced H Any s) same (nothing-traced H Any s)
   ordered-traced p f g h s i (t ∷ ts) xs o few n x e = go (λ k us. ordered-traced p f g h s (suc i) ts us k (omega (arith, few)) n.1 (every-right H (texts_of_part p g (digest_of (Split s i)) t) _ x.1)) o
     where
-      go : (EmptiesFirst (each code ts) → (us : List Thing) → (parts_unfolded p f s (suc i) ts).answer ≡ gives us → Traced H Any s us) → EmptiesFirst (each code (t ∷ ts)) → Traced H Any s xs
+      go : (EmptiesFirst (each code ts) → (us : List Product) → (parts_unfolded p f s (suc i) ts).answer ≡ gives us → Traced H Any s us) → EmptiesFirst (each code (t ∷ ts)) → Traced H Any s xs
       go next (inl q) =
           let d : List ℕ = digest_of (Split s i) in
           let a = after-inv (unfold_part p f d t) (λ rs. after (parts_unfolded p f s (suc i) ts) (λ qs. pure (rs ++ qs))) xs e in

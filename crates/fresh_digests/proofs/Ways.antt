@@ -1,9 +1,9 @@
 -- Ways down from a digest, and the things made at their ends.
 use Rattle.std.proofs.Common.{◌≡◌, ◌≢◌, ℕ, List, [], ◌∷◌, ◌++◌, map as each, refl, ap}
 use Rattle.std.specs.Prelude.{⊤}
+use Rattle.list_laws.proofs.Members.{Every, every-append, every-up}
 use Rattle.calculus.specs.Seeds.{message, digest_of}
-use Rattle.calculus.specs.Unfolding.{Thing, digest}
-use Rattle.calculus.proofs.Candidates.{Every, every-append, every-up}
+use Rattle.calculus.specs.Unfolding.{Product, digest}
 use Rattle.fresh_digests.proofs.Keys.{Move, under, NumberFits, AreApart}
 
 -- moves from a digest down, the first one first
@@ -21,7 +21,7 @@ Along H s [] = ⊤
 Along H s (m ∷ ms) = H (message (under m s)) × Along H (digest_of (under m s)) ms
 
 -- each of these things stands at the end of its own way from s, each way has P, and each text on it has H
-pub record Traced (H : List ℕ → Type 0) (P : Way → Type 0) (s : List ℕ) (ts : List Thing) : Type 0 where
+pub record Traced (H : List ℕ → Type 0) (P : Way → Type 0) (s : List ℕ) (ts : List Product) : Type 0 where
   pub ways : List Way
   pub digests : each digest ts ≡ each (down s) ways
   pub apart : AreApart ways
@@ -59,11 +59,3 @@ after-apart m (w ∷ ws) h = (after-differs m w ws h.0, after-apart m ws h.1)
 pub after-all : (P Q : Way → Type 0) (m : Move) → ((w : Way) → P w → Q (m ∷ w)) → (ws : List Way) → Every P ws → Every Q (after_move m ws)
 after-all P Q m f [] h = tt
 after-all P Q m f (w ∷ ws) h = (f w h.0, after-all P Q m f ws h.1)
-
-pub every-left : {A : Type 0} (P : A → Type 0) (xs ys : List A) → Every P (xs ++ ys) → Every P xs
-every-left P [] ys h = tt
-every-left P (x ∷ xs) ys h = (h.0, every-left P xs ys h.1)
-
-pub every-right : {A : Type 0} (P : A → Type 0) (xs ys : List A) → Every P (xs ++ ys) → Every P ys
-every-right P [] ys h = h
-every-right P (x ∷ xs) ys h = every-right P xs ys h.1

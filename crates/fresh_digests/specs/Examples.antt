@@ -9,7 +9,7 @@ use Rattle.calculus.specs.Rows.{stdout}
 use Rattle.calculus.specs.Seeds.{digest_of, message, System, Start, Split, Body, Fresh, Comm}
 use Rattle.calculus.specs.Root.{root}
 use Rattle.calculus.specs.Steps.{differ}
-use Rattle.calculus.specs.Runs.{made_digests, state_after}
+use Rattle.calculus.specs.Runs.{deploy_of, made_digests, state_after}
 use Rattle.sha2.specs.Sha256.{sha256}
 use Rattle.events.specs.Events.{built_in_digests, FreshDigests}
 use Rattle.fresh_digests.specs.Numbers.{full_codes, name_count, most_names}
@@ -22,7 +22,7 @@ the_part = digest_of (Split (digest_of (Start (root []) first_path_digest)) 0)
 
 -- the texts that are hashed for it: of what is built in, of the source, its only part, that part's name and body, the body's two parts, the step and the only part of its body
 abbrev pub FirstPathTexts : Type 0
-FirstPathTexts = hashed_texts prices 22 9 [] first_path_source first_path_digest (first_path_step ∷ [])
+FirstPathTexts = hashed_texts (deploy_of prices 22 [] first_path_source first_path_digest) 9 (first_path_step ∷ [])
     ≡ message (System 2) ∷ message (System 3) ∷ message (System 0) ∷ message (System 1)
     ∷ message (Start (root []) first_path_digest)
     ∷ message (Split (digest_of (Start (root []) first_path_digest)) 0)
@@ -33,7 +33,7 @@ FirstPathTexts = hashed_texts prices 22 9 [] first_path_source first_path_digest
 
 -- for a source with this limit and this digest, without a step, nothing is hashed but for what is built in and for its start
 abbrev pub HashesItsStart : ℕ → Tree → Type 0
-HashesItsStart cap t = hashed_texts prices cap 9 [] t first_path_digest [] ≡ built_in_texts ++ message (Start (root []) first_path_digest) ∷ []
+HashesItsStart cap t = hashed_texts (deploy_of prices cap [] t first_path_digest) 9 [] ≡ built_in_texts ++ message (Start (root []) first_path_digest) ∷ []
 
 -- lists of numbers that are no bytes collide: so a collision counts only among bytes
 abbrev pub OtherListsCollide : Type 0
@@ -47,14 +47,14 @@ NumbersNeedRoom = (s : List ℕ) (xs : List (List ℕ)) (n : ℕ)
 -- `new c in { c!(5) | for (@x <- c) { @"out"!(x) } }` and its step
 pub record FreshExamples : Type 0 where
   -- the name c, the send and the receive under the body of the only part, and what the step's body sends
-  pub made : option_map made_digests (state_after prices 22 9 [] first_path_source first_path_digest (first_path_step ∷ []))
+  pub made : option_map made_digests (state_after (deploy_of prices 22 [] first_path_source first_path_digest) 9 (first_path_step ∷ []))
       ≡ Some (digest_of (Fresh the_part 0) ∷ digest_of (Split (digest_of (Body the_part)) 0) ∷ digest_of (Split (digest_of (Body the_part)) 1) ∷ digest_of (Split (digest_of (Comm first_path_step.receiver first_path_step.data_ids 0)) 0) ∷ [])
   -- these and the digests of what is built in differ
-  pub differs : option_map (λ a. differ (built_in_digests ++ made_digests a)) (state_after prices 22 9 [] first_path_source first_path_digest (first_path_step ∷ [])) ≡ Some true
+  pub differs : option_map (λ a. differ (built_in_digests ++ made_digests a)) (state_after (deploy_of prices 22 [] first_path_source first_path_digest) 9 (first_path_step ∷ [])) ≡ Some true
   -- so they are fresh
   pub fresh : FreshDigests prices 22 first_path_source first_path_digest (first_path_step ∷ [])
   -- what is put into texts for it has room there
-  pub fits : FitsInTexts [] first_path_source first_path_digest (first_path_step ∷ [])
+  pub fits : FitsInTexts (deploy_of prices 22 [] first_path_source first_path_digest) (first_path_step ∷ [])
 
 -- which texts are hashed
 pub record HashedExamples : Type 0 where

@@ -10,12 +10,11 @@ use Rattle.calculus.specs.Outcome.{Prices, Answer, gives, fails, unknown, within
 use Rattle.calculus.specs.Matching.{Bindings, first_match}
 use Rattle.calculus.specs.Values.{value}
 use Rattle.calculus.specs.Log.{Step}
-use Rattle.calculus.specs.Rows.{Row}
 use Rattle.calculus.specs.Root.{root}
 use Rattle.calculus.specs.Seeds.{Seed, System, Start, Split, Body, Fresh, Comm, message, digest_of}
-use Rattle.calculus.specs.Unfolding.{Thing, names_made, unfold_in}
+use Rattle.calculus.specs.Unfolding.{Product, names_made, unfold_in}
 use Rattle.calculus.specs.Steps.{Meeting, meeting}
-use Rattle.calculus.specs.Runs.{Work, State, body_work, step_from, first_state}
+use Rattle.calculus.specs.Runs.{source_seed, Deploy, Work, State, body_work, step_from, first_state}
 
 -- how the texts are listed that are hashed when a process is unfolded with a digest
 abbrev pub TextLister : Type 0
@@ -78,7 +77,7 @@ texts_in p zero t s = []
 texts_in p (suc room) t s = parts_texts p (texts_in p room) s 0 (ascending (held t))
 
 -- what an answer leaves of these texts: all of them with a result, none with a fault
-abbrev pub result_texts : Answer (List Thing) → List (List ℕ) → List (List ℕ)
+abbrev pub result_texts : Answer (List Product) → List (List ℕ) → List (List ℕ)
 result_texts (gives ts) xs = xs
 result_texts (fails f) xs = []
 result_texts unknown xs = []
@@ -113,6 +112,8 @@ abbrev pub built_in_texts : List (List ℕ)
 built_in_texts = message (System 2) ∷ message (System 3) ∷ message (System 0) ∷ message (System 1) ∷ []
 
 -- the texts that a deploy with these steps hashes for what it makes: of the seeds of what is built in, of the source, of each step, and of all that stands between these and the digests made
-abbrev pub hashed_texts : Prices → ℕ → ℕ → List Row → Tree → List ℕ → List Step → List (List ℕ)
-hashed_texts p cap room rows t source ss =
-    built_in_texts ++ (message (Start (root rows) source) ∷ (source_texts p cap room t (digest_of (Start (root rows) source)) ++ steps_texts p cap room (first_state p cap room rows t source) ss))
+abbrev pub hashed_texts : Deploy → ℕ → List Step → List (List ℕ)
+hashed_texts deploy room ss =
+    built_in_texts
+    ++ (message (Start (root deploy.rows) deploy.source)
+    ∷ (source_texts deploy.prices deploy.limit room deploy.process (source_seed deploy) ++ steps_texts deploy.prices deploy.limit room (first_state deploy room) ss))

@@ -1,12 +1,12 @@
 -- What the tokens of a source spell is numberable.
 use Rattle.std.proofs.Common.{◌≤◌, ◌+◌, ◌*◌, ◌^◌, cond, List, [], ◌∷◌, length, map as each, arith}
 use Rattle.std.proofs.lemmas.List.{length-map}
+use Rattle.list_laws.proofs.Members.{Every}
 use Rattle.calculus.specs.Tree.{Tree, node, Trees, none, also, weight, weights}
 use Rattle.calculus.specs.Code.{code}
 use Rattle.calculus.specs.Congruence.{is_bag}
 use Rattle.calculus.specs.Normal.{ascending}
 use Rattle.calculus.specs.Bare.{bare}
-use Rattle.calculus.proofs.Candidates.{Every}
 use Rattle.tokens.specs.Token.{source, Spanned}
 use Rattle.scope.specs.NormalForm.{normal_form, normal_forms}
 use Rattle.grammar.specs.Terminals.{terminal, terminals}

@@ -65,14 +65,14 @@ module _ {Store E X W : Type 0} (m : Meaning Store E X W) where
     turned_draw now words homes views id n v entries t' p' e at may within t =
         let w : View E X W = view v.parts entries v.held (since_after v.held (v.since ++ e ∷ [])) t' p' in
         let same : (k : ℕ) → total (λ u. count k u.held) (set views id w) ≡ total (λ u. count k u.held) views = λ k. total_same (λ u. count k u.held) views id v w at refl in
-        let word : (k : ℕ) → get_or (set words 0 n) (k + 1) 0 ≡ get_or words (k + 1) 0 = λ k. get_or-set_other words 0 (k + 1) n 0 (λ h. omega arith) in
+        let word : (k : ℕ) → get_or (set words 0 n) (k * 8 + 8) 0 ≡ get_or words (k * 8 + 8) 0 = λ k. get_or-set_other words 0 (k * 8 + 8) n 0 (λ h. omega arith) in
         record {
           turn = λ k lt. word k ∙ (t.turn k lt ∙ sym (same k));
           one = λ k lt. let a = same k in let b = t.one k lt in omega arith;
           home = λ k lt z. let h = t.home k lt (sym (word k) ∙ z) in (
             h.0,
             h.1,
-            ⊎_elim (λ yes. absurd (let a = within k yes in let b = total_at (λ u. count k u.held) views id v at in let c = t.turn k lt in let d : get_or words (k + 1) 0 ≡ 0 = sym (word k) ∙ z in omega arith))
+            ⊎_elim (λ yes. absurd (let a = within k yes in let b = total_at (λ u. count k u.held) views id v at in let c = t.turn k lt in let d : get_or words (k * 8 + 8) 0 ≡ 0 = sym (word k) ∙ z in omega arith))
                 (λ no. laws.untouched now e k h.0 no h.2) (truth (m.touched e k)),
           );
           idle = λ j u bt z. ⊎_elim (λ s. let q = ap (λ (y : View E X W). y.parts) s.1 in sym (ap (λ (y : View E X W). y.held) s.1) ∙ t.idle id v at (q ∙ z)) (λ s. t.idle j u s.1 z) (at_set views id j w u bt);
@@ -173,18 +173,18 @@ draw {Store = Store} {E = E} {X = X} {W = W} m laws opened terms slots id v c e 
             subst Q (sym log') (subst R (sym (store_more m b.store (things_of b.log) e)) (turned_draw m laws now s.words s.homes s.views id (n + 1) v (v.entries ++ (n, e) ∷ []) (owes v.tally n e) (draws_on m v.pile base e) e at allowed may.within b.turns));
         draws = let Q : List E → ℕ → Type 0 = λ l k. DrawRule terms.seats l k (set s.views id w) in
             subst (λ l. Q l (get_or (set s.words 0 (n + 1)) 0 0)) (sym log') (subst (Q (things_of b.log ++ e ∷ [])) (sym (get_or-set_same s.words 0 (n + 1) 0 (let q = b.wide in omega arith))) (booked_draw terms.seats (things_of b.log) n s.views id v (since_after v.held (v.since ++ e ∷ [])) (owes v.tally n e) (draws_on m v.pile base e) e at may.room b.draws));
-        charges = charges_stay m.price terms (get_or s.words 65 0) _ s.views id v w (other 64) at refl refl refl refl b.charges;
-        stops = let Q : List E → Type 0 = λ l. StopRule m.faults l (get_or (set s.words 0 (n + 1)) 66 0) (set s.views id w) in
-            subst Q (sym log') (stops_grow m.faults (things_of b.log) (e ∷ []) (get_or s.words 66 0) _ s.views id v w (other 65) at refl refl b.stops);
+        charges = charges_stay m.price terms (get_or s.words 1 0) _ s.views id v w (other 0) at refl refl refl refl b.charges;
+        stops = let Q : List E → Type 0 = λ l. StopRule m.faults l (get_or (set s.words 0 (n + 1)) 2 0) (set s.views id w) in
+            subst Q (sym log') (stops_grow m.faults (things_of b.log) (e ∷ []) (get_or s.words 2 0) _ s.views id v w (other 1) at refl refl b.stops);
         desks = b.desks;
         places = let Q : Piles E W → Type 0 = λ l. DeskRule (set s.words 0 (n + 1)) s.homes b.desks l in
             subst Q (sym (piles_set s.views id w)) (desks_same (set s.words 0 (n + 1)) s.homes b.desks (piles_of s.views) id v.parts v.pile (draws_on m v.pile base e) at' refl
-            (desks_on s.words (set s.words 0 (n + 1)) s.homes s.homes b.desks (piles_of s.views) (λ d lt. get_or-set_other s.words 0 (d + 68) (n + 1) 0 (λ h. omega arith)) (λ d lt. refl) b.places));
+            (desks_on s.words (set s.words 0 (n + 1)) s.homes s.homes b.desks (piles_of s.views) (λ d lt. get_or-set_other s.words 0 (d * 8 + 528) (n + 1) 0 (λ h. omega arith)) (λ d lt. refl) b.places));
         works = let Q : Piles E W → Type 0 = λ l. WorkRule m opened.1 (b.log ++ (i, e) ∷ []) b.desks l in
             subst Q (sym (piles_set s.views id w)) (works_draw m opened.1 b.log b.desks (piles_of s.views) id v.parts i v.pile e at' has b.works may.work.0 may.work.1);
-        pending = let Q : Piles E W → Type 0 = λ l. PendRule (length opened.1) (get_or s.words 67 0) b.desks l in let R : ℕ → Type 0 = λ k. PendRule (length opened.1) k b.desks (piles_of (set s.views id w)) in
+        pending = let Q : Piles E W → Type 0 = λ l. PendRule (length opened.1) (get_or s.words 520 0) b.desks l in let R : ℕ → Type 0 = λ k. PendRule (length opened.1) k b.desks (piles_of (set s.views id w)) in
             let F : List (ℕ × W) → List (ℕ × W) → Type 0 = λ k l. length (k ++ (kept_if (m.ends e) l ++ numbered base (m.offers e))) ≤ v.parts * (2 ^ 52 + 2) in
-            subst R (sym (other 66)) (subst Q (sym (piles_set s.views id w)) (pend_draw (length opened.1) (get_or s.words 67 0) b.desks (piles_of s.views) id v.parts v.pile at' b.pending (kept_if (m.ends e) v.pile.taken) (numbered base (m.offers e)) (v.pile.took ++ e ∷ []) may.told
+            subst R (sym (other 519)) (subst Q (sym (piles_set s.views id w)) (pend_draw (length opened.1) (get_or s.words 520 0) b.desks (piles_of s.views) id v.parts v.pile at' b.pending (kept_if (m.ends e) v.pile.taken) (numbered base (m.offers e)) (v.pile.took ++ e ∷ []) may.told
             (let q = ap {A = List (ℕ × W)} length has in omega arith)
             (subst (λ k. F k v.pile.taken) (sym may.work.0) (subst (F []) (sym may.work.1) (hand_fits (m.ends e) (i, m.takes e) (m.offers e) base v.parts may.few may.part)))));
       }),

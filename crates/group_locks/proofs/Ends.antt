@@ -24,6 +24,7 @@ use Rattle.group_locks.specs.Meaning.{Meaning, store_after, offered, Allowed, Ar
 use Rattle.group_locks.proofs.Sums.{total_two, total_both, total_map, count_more, each_to, each_more, each_cut}
 use Rattle.group_locks.proofs.Offers.{one_at_most, things_both, length_things}
 use Rattle.group_locks.proofs.Piles.{at_piles}
+use Rattle.group_locks.proofs.Deals.{count_parts}
 use Rattle.group_locks.proofs.Counting.{total_short, nothing_left}
 use Rattle.group_locks.proofs.Lookups.{get_some, get_elem}
 use Rattle.group_locks.specs.Rule.{view, joined, both, heaped, cost, emptied, FaultIn, HubRule, RanBy, share_of, piles_of}
@@ -36,6 +37,10 @@ module _ {A : Type 0} where
 
   pub all_of_split : {B : Type 0} (f : A → List B) (xs ys : List A) (x : A) → xs ≡ x ∷ ys → all_of f xs ≡ f x ++ all_of f ys
   all_of_split f xs ys x e = ap {A = List A} (λ l. all_of f l) e
+
+  pub all_of_snoc : {B : Type 0} (f : A → List B) (xs : List A) (x : A) → all_of f (xs ++ x ∷ []) ≡ all_of f xs ++ f x
+  all_of_snoc f [] x = append-nil (f x)
+  all_of_snoc f (y ∷ ys) x = ap {A = List _} (λ l. f y ++ l) (all_of_snoc f ys x) ∙ sym (append_assoc (f y) (all_of f ys) (f x))
 
   pub total_split : (f : A → ℕ) (xs ys : List A) (x : A) → xs ≡ x ∷ ys → total f xs ≡ f x + total f ys
   total_split f xs ys x e = ap {A = List A} (λ l. total f l) e
@@ -121,10 +126,6 @@ each_lists : {A : Type 0} (P : ℕ → A → Type 0) (ls : List (List (ℕ × A)
 each_lists P [] h = tt
 each_lists P (l ∷ ls) h = each_more P l (all_of (λ x. x) ls) (h 0 l refl) (each_lists P ls (λ d. h (suc d)))
 
-count_lists : {A : Type 0} (i : ℕ) (ls : List (List (ℕ × A))) → count i (all_of (λ l. l) ls) ≡ total (count i) ls
-count_lists i [] = refl
-count_lists i (l ∷ ls) = count_more i l (all_of (λ x. x) ls) ∙ ap (λ (n : ℕ). count i l + n) (count_lists i ls)
-
 pub record AtEnd {Store E X W : Type 0} (m : Meaning Store E X W) (opened : List X × List W) (terms : Terms) (entries : List (ℕ × E)) (t : Tally E) (p : Pile E W) (words : List ℕ) (slots : List (Slot X W)) : Type 0 where
   pub store : Store
   pub log : List (ℕ × E)
@@ -135,12 +136,12 @@ pub record AtEnd {Store E X W : Type 0} (m : Meaning Store E X W) (opened : List
   pub numbers : Each (λ n e. slice_get (things_of log) n ≡ Some e) entries
   pub once : (n : ℕ) → count n entries ≡ once_below n (length (things_of log))
   pub home : (k : ℕ) → k < 64 → (x : X) × (get_elem? slots k ≡ some (Shard (Some x))) × m.projects (store_after m store (things_of log)) k x
-  pub paid : get_or words 65 0 ≡ terms.spent + (cost m.price t.settled + cost m.price t.fresh)
+  pub paid : get_or words 1 0 ≡ terms.spent + (cost m.price t.settled + cost m.price t.fresh)
   pub bounded : terms.spent + cost m.price t.settled ≤ max terms.spent terms.limit
-  pub over : 0 < t.over → terms.limit < get_or words 65 0
-  pub cause : (get_or words 66 0 ≡ 0) ⊎ ((get_or words 66 0 ≡ 1) ⊎ ((get_or words 66 0 ≡ 2) × FaultIn m.faults (things_of log)))
-  pub no_memory : 0 < t.no_memory → get_or words 66 0 ≡ 1
-  pub fault : 0 < t.fault → get_or words 66 0 ≡ 2
+  pub over : 0 < t.over → terms.limit < get_or words 1 0
+  pub cause : (get_or words 2 0 ≡ 0) ⊎ ((get_or words 2 0 ≡ 1) ⊎ ((get_or words 2 0 ≡ 2) × FaultIn m.faults (things_of log)))
+  pub no_memory : 0 < t.no_memory → get_or words 2 0 ≡ 1
+  pub fault : 0 < t.fault → get_or words 2 0 ≡ 2
   pub desks : List (List (ℕ × W))
   pub many : length desks ≡ 32
   pub lies : (d : ℕ) → d < 32 → (v : _) × (ps : List (ℕ × W)) × (get_elem? slots (d + 64) ≡ some (Desk v)) × (get_elem? desks d ≡ some ps) × (v.items ≡ things_of ps)
@@ -163,7 +164,7 @@ module _ {Store E X W : Type 0} (m : Meaning Store E X W) (opened : List X × Li
   no_hand j y bt ne = let z = none_else j y bt ne in let f = b.pending.few j y bt in let r : y.0 * (2 ^ 52 + 2) ≡ 0 = ap {A = ℕ} (λ n. n * (2 ^ 52 + 2)) z in empty_list (hand y.1) (omega arith)
 
   -- the turns of all desks are free
-  free_desk : v.pile.desk ≡ [] → (d : ℕ) → d < 32 → get_or s.words (d + 68) 0 ≡ 0
+  free_desk : v.pile.desk ≡ [] → (d : ℕ) → d < 32 → get_or s.words (d * 8 + 528) 0 ≡ 0
   free_desk none d lt =
       b.places.turn d lt ∙ (total_one (λ (y : ℕ × Pile E W). count d y.1.desk) (piles_of s.views) id (v.parts, v.pile) (at_piles s.views id v at)
       (λ j y bt ne. ap {A = List (ℕ × List (ℕ × W))} (count d) (b.places.idle j y bt (none_else j y bt ne))) ∙ ap {A = List (ℕ × List (ℕ × W))} (count d) none)
@@ -175,7 +176,7 @@ module _ {Store E X W : Type 0} (m : Meaning Store E X W) (opened : List X × Li
       let S : ℕ → W → Type 0 = λ i u. slice_get (offered m opened.1 b.log) i ≡ Some u in
       let at' = at_piles s.views id v at in (
         each_to O S (λ i u o. get_some (offered m opened.1 b.log) i u o) (all_of (λ l. l) b.desks ++ hand v.pile) (each_more O (all_of (λ l. l) b.desks) (hand v.pile) (each_lists O b.desks b.works.on_desk) (b.works.in_hand id (v.parts, v.pile) at')),
-        (λ i. let a = count_more i (all_of (λ l. l) b.desks) (hand v.pile) in let c = count_lists i b.desks in
+        (λ i. let a = count_more i (all_of (λ l. l) b.desks) (hand v.pile) in let c = count_parts i b.desks in
             let d = total_one (λ (y : ℕ × Pile E W). count i (hand y.1)) (piles_of s.views) id (v.parts, v.pile) at' (λ j y bt ne. ap {A = List (ℕ × W)} (count i) (no_hand j y bt ne)) in
             let e = b.works.once i in omega arith),
       )
@@ -189,7 +190,7 @@ module _ {Store E X W : Type 0} (m : Meaning Store E X W) (opened : List X × Li
       let no_held : (k j : ℕ) (u : View E X W) → get_elem? s.views j ≡ some u → j ≢ id → count k u.held ≡ 0 = λ k j u bt ne. ap {A = List (ℕ × X)} (count k) (b.turns.idle j u bt (none_left j u bt ne)) in
       let none_paid : (j : ℕ) (u : View E X W) → get_elem? s.views j ≡ some u → j ≢ id → cost m.price u.tally.settled + cost m.price u.tally.fresh ≡ 0 = λ j u bt ne. b.charges.idle j u bt (none_left j u bt ne) in
       let fresh_one : total (λ (y : View E X W). cost m.price y.tally.fresh) s.views ≡ cost m.price v.tally.fresh = total_one (λ (y : View E X W). cost m.price y.tally.fresh) s.views id v at (λ j u bt ne. let z = none_paid j u bt ne in omega arith) in
-      let paid : get_or s.words 65 0 ≡ terms.spent + (cost m.price v.tally.settled + cost m.price v.tally.fresh) = (let a = total_one (λ (y : View E X W). cost m.price y.tally.settled + cost m.price y.tally.fresh) s.views id v at none_paid in let c = b.charges.paid in omega arith) in
+      let paid : get_or s.words 1 0 ≡ terms.spent + (cost m.price v.tally.settled + cost m.price v.tally.fresh) = (let a = total_one (λ (y : View E X W). cost m.price y.tally.settled + cost m.price y.tally.fresh) s.views id v at none_paid in let c = b.charges.paid in omega arith) in
       record {
         store = b.store;
         log = b.log;
@@ -215,7 +216,7 @@ module _ {Store E X W : Type 0} (m : Meaning Store E X W) (opened : List X × Li
         pends = pends_at;
         moved = let a = total_one (λ (y : ℕ × Pile E W). y.1.fetched) (piles_of s.views) id (v.parts, v.pile) at' (λ j y bt ne. let i = b.pending.idle j y bt (none_else j y bt ne) in omega arith) in let c = total_one (λ (y : ℕ × Pile E W). y.1.left) (piles_of s.views) id (v.parts, v.pile) at' (λ j y bt ne. let i = b.pending.idle j y bt (none_else j y bt ne) in omega arith) in let d = b.pending.moved in omega arith;
         small = let a = total_short (2 ^ 58) b.desks b.pending.short in let c = b.places.many in omega arith;
-        empty = λ more. nothing_left (length opened.1) (get_or s.words 67 0) b.desks (piles_of s.views) id v.parts v.pile at' b.pending (b.pending.empty id (v.parts, v.pile) at' more);
+        empty = λ more. nothing_left (length opened.1) (get_or s.words 520 0) b.desks (piles_of s.views) id v.parts v.pile at' b.pending (b.pending.empty id (v.parts, v.pile) at' more);
       }
 
 pub at_end : {Store E X W : Type 0} (m : Meaning Store E X W) (opened : List X × List W) (terms : Terms) (id n : ℕ) (me : Me (Slot X W) (View E X W)) (all : List (ℕ × E)) (t : Tally E) (p : Pile E W) (words : List ℕ) (slots : List (Slot X W))
@@ -243,6 +244,10 @@ above_is : (n len : ℕ) → len ≤ n → once_below n len ≡ 0
 above_is n len le = let b : nat_lt n len ≡ false = grind (arith, nat_tests) in ap one_if b
 
 module _ {T : Type 0} where
+  pub placed_both : (rows : List (Option T)) (ps qs : List (ℕ × T)) → placed rows (ps ++ qs) ≡ placed (placed rows ps) qs
+  placed_both rows [] qs = refl
+  placed_both rows (p ∷ ps) qs = placed_both (set rows p.0 (Some p.1)) ps qs
+
   pub length_placed : (rows : List (Option T)) (ps : List (ℕ × T)) → length (placed rows ps) ≡ length rows
   length_placed rows [] = refl
   length_placed rows (p ∷ ps) = length_placed (set rows p.0 (Some p.1)) ps ∙ length-set rows p.0 (Some p.1)

@@ -128,7 +128,7 @@ module _ {Store E X W : Type 0} (m : Meaning Store E X W) where
   forget_twice : (hs ts : List (ℕ × X)) (h : ℕ × X) (es : List E) → hs ≡ h ∷ ts → since_after ts (since_after hs es) ≡ since_after ts es
   forget_twice hs ts h es e = ap {A = List (ℕ × X)} (λ l. since_after ts (since_after l es)) e
 
-  at_top : (p q r : Seat (Slot X W) (View E X W)) (f f' : ℕ → Option X) (n : ℕ) (y : X) → Giving m p q f (n + 1) → f n ≡ Some y
+  pub at_top : (p q r : Seat (Slot X W) (View E X W)) (f f' : ℕ → Option X) (n : ℕ) (y : X) → Giving m p q f (n + 1) → f n ≡ Some y
       → r.table_id ≡ q.table_id → r.id ≡ q.id → r.me.0 ≡ given_back q.me.0 → r.me.1 ≡ emptied r.me.0.held → f' n ≡ None → ((j : ℕ) → j ≢ n → f' j ≡ f j) → Giving m p r f' n
   at_top p q r f f' n y g is table id me out here same =
       let t = first_carried f q.me.0.since n y q.me.0.held g.below g.falls is g.carries in

@@ -12,7 +12,9 @@ pub mod Takes
 pub mod Leaves
 pub mod Loops
 pub mod Groups
+pub mod SetBits
 pub mod Draws
 pub mod Seats
+pub mod Deals
 pub mod Opens
 pub mod Ends

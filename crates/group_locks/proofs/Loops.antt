@@ -1,5 +1,7 @@
 -- What the loops over turns keep.
-use Rattle.std.specs.Prelude.{◌≡◌, ℕ, true, [], Option}
+use Rattle.std.specs.Prelude.{◌≡◌, ℕ, ◌<◌, ◌≤◌, true, [], Option}
+use Rattle.std.specs.Int.{bit_at}
+use Rattle.group_locks.specs.Counts.{count}
 use Rattle.atomic_table.specs.declared.shared.Seat.{Seat}
 use Rattle.group_locks.specs.declared.slot.Slot.{Slot}
 use Rattle.group_locks.specs.declared.view.View.{View}
@@ -33,3 +35,19 @@ pub record Giving {Store E X W : Type 0} (m : Meaning Store E X W) (p q : Seat (
   pub below : below n q.me.0.held ≡ true
   pub falls : descends q.me.0.held ≡ true
   pub carries : Carries m q.me.0.since q.me.0.held f
+
+-- p took the turns of the shards whose bits are set and not left, and is now q
+pub record Taking {Store E X W : Type 0} (m : Meaning Store E X W) (p q : Seat (Slot X W) (View E X W)) (f : ℕ → Option X) (shards left : ℕ) : Type 0 where
+  pub next : ℕ
+  pub low : next ≤ 64
+  pub taken : Taken m p q f next
+  pub numbers : (k : ℕ) → k < next → count k q.me.0.held ≡ bit_at shards k
+  pub done : (k : ℕ) → k < next → bit_at left k ≡ 0
+  pub same : (k : ℕ) → next ≤ k → k < 64 → bit_at left k ≡ bit_at shards k
+
+-- p gave back the turns whose bits are not left, and is now q
+pub record Returning {Store E X W : Type 0} (m : Meaning Store E X W) (p q : Seat (Slot X W) (View E X W)) (f : ℕ → Option X) (left : ℕ) : Type 0 where
+  pub next : ℕ
+  pub low : next ≤ 64
+  pub giving : Giving m p q f next
+  pub numbers : (k : ℕ) → k < 64 → bit_at left k ≡ count k q.me.0.held

@@ -9,14 +9,15 @@ use Rattle.group_locks.specs.declared.slot.Slot.{Slot}
 use Rattle.group_locks.specs.declared.slot.Slot.TheVariants.{Shard, Desk}
 use Rattle.group_locks.specs.declared.view.View.{View}
 use Rattle.group_locks.specs.declared.terms.Terms.{Terms}
-use Rattle.group_locks.specs.Counts.{one_if, once_below, count, total, numbered, things_of, Each}
+use Rattle.group_locks.specs.Counts.{one_if, once_below, count, numbered, things_of, all_of, Each}
 use Rattle.group_locks.specs.Meaning.{Meaning, Follows, taking}
 use Rattle.std.proofs.lemmas.List.{length-map}
 use Rattle.group_locks.specs.Rule.{view, newcomer, blank, cost, cut_left, HubRule}
-use Rattle.group_locks.specs.Works.{bare, hand, Piles, Laid, NothingLies}
+use Rattle.group_locks.specs.Works.{bare, hand, Piles, AreDesks, Laid}
 use Rattle.group_locks.specs.declared.view.Pile.{Pile}
 use Rattle.group_locks.proofs.Sums.{each_to}
-use Rattle.group_locks.proofs.Offers.{count_numbered, numbered_each, things_numbered, length_numbered}
+use Rattle.group_locks.proofs.Offers.{count_numbered, numbered_each, length_numbered}
+use Rattle.group_locks.proofs.Deals.{dealt, all_dealt, length_dealt, each_part, part_short, count_parts, length_parts, desk_dealt, desks_long}
 use Rattle.std.proofs.Math.ListN.{length-set}
 use Rattle.group_locks.proofs.Lookups.{get_some}
 use Rattle.std.specs.List.{All}
@@ -35,35 +36,9 @@ module _ {A : Type 0} where
   get_behind (x ∷ fs) bs zero d long = absurd (omega arith)
   get_behind (x ∷ fs) bs (suc n) d long = let e : d + suc n ≡ suc (d + n) = omega arith in ap (λ k. get_elem? (map some (x ∷ (fs ++ bs))) k) e ∙ get_behind fs bs n d (omega arith)
 
-  nil_case : (P : List A → Type 0) → P [] → (n d : ℕ) (ps : List A) → get_elem? (replicate n []) d ≡ some ps → P ps
-  nil_case P none zero d ps e = absurd (some-ne-none ps (sym e))
-  nil_case P none (suc n) zero ps e = subst P (some-injective [] ps e) none
-  nil_case P none (suc n) (suc d) ps e = nil_case P none n d ps e
-
-  -- each of these lists is the first or has nothing
-  pub first_or_nil : (P : List A → Type 0) (x : List A) (n : ℕ) → P x → P [] → (d : ℕ) (ps : List A) → get_elem? (x ∷ replicate n []) d ≡ some ps → P ps
-  first_or_nil P x n first none zero ps e = subst P (some-injective x ps e) first
-  first_or_nil P x n first none (suc d) ps e = nil_case P none n d ps e
-
-  pub nils_at : (n k : ℕ) → k < n → get_elem? (replicate {A = List A} n []) k ≡ some []
-  nils_at zero k lt = absurd (omega arith)
-  nils_at (suc n) zero lt = refl
-  nils_at (suc n) (suc k) lt = nils_at n k (omega arith)
-
-  pub total_nils : (f : List A → ℕ) (n : ℕ) → f [] ≡ 0 → total f (replicate n []) ≡ 0
-  total_nils f zero z = refl
-  total_nils f (suc n) z = let r = total_nils f n z in omega arith
-
   pub each_all : (P : ℕ → A → Type 0) → ((n : ℕ) (a : A) → P n a) → (ps : List (ℕ × A)) → Each P ps
   each_all P h [] = tt
   each_all P h (p ∷ ps) = (h p.0 p.1, each_all P h ps)
-
--- on the other desks nothing lies
-nothing_at : {X W : Type 0} (ss : List (Slot X W)) (k : ℕ) → NothingLies ss → k < length ss → (v : _) × (get_elem? (map some ss) k ≡ some (some (Desk v))) × (v.items ≡ [])
-nothing_at [] k h lt = absurd (omega arith)
-nothing_at (Shard x ∷ ss) k h lt = absurd h
-nothing_at (Desk v ∷ ss) zero h lt = (v, refl, h.0)
-nothing_at (Desk v ∷ ss) (suc k) h lt = nothing_at ss k h.1 (omega arith)
 
 pub zeros : (n k : ℕ) → get_or {A = ℕ} (replicate n 0) k 0 ≡ zero
 zeros zero k = refl
@@ -72,16 +47,16 @@ zeros (suc n) (suc k) = zeros n k
 
 -- the words at the start: all 0 but the charged word and the pending word
 abbrev pub first_words : ℕ → ℕ → List ℕ
-first_words n k = set (set {A = ℕ} (replicate 101 0) 65 n) 67 k
+first_words n k = set (set {A = ℕ} (replicate 800 0) 1 n) 520 k
 
-pub spent_word : (n k : ℕ) → get_or (first_words n k) 65 0 ≡ n
-spent_word n k = get_or-set_other (set {A = ℕ} (replicate 101 0) 65 n) 67 65 k 0 (λ e. omega arith) ∙ get_or-set_same (replicate 101 0) 65 n 0 (omega arith)
+pub spent_word : (n k : ℕ) → get_or (first_words n k) 1 0 ≡ n
+spent_word n k = get_or-set_other (set {A = ℕ} (replicate 800 0) 1 n) 520 1 k 0 (λ e. omega arith) ∙ get_or-set_same (replicate 800 0) 1 n 0 (omega arith)
 
-pub count_word : (n k : ℕ) → get_or (first_words n k) 67 0 ≡ k
-count_word n k = get_or-set_same (set {A = ℕ} (replicate 101 0) 65 n) 67 k 0 (let l = length-set {A = ℕ} (replicate 101 0) 65 n in omega arith)
+pub count_word : (n k : ℕ) → get_or (first_words n k) 520 0 ≡ k
+count_word n k = get_or-set_same (set {A = ℕ} (replicate 800 0) 1 n) 520 k 0 (let l = length-set {A = ℕ} (replicate 800 0) 1 n in omega arith)
 
-pub other_words : (n k i : ℕ) → i ≢ 65 → i ≢ 67 → get_or (first_words n k) i 0 ≡ 0
-other_words n k i ne nf = get_or-set_other (set {A = ℕ} (replicate 101 0) 65 n) 67 i k 0 nf ∙ (get_or-set_other (replicate 101 0) 65 i n 0 ne ∙ zeros 101 i)
+pub other_words : (n k i : ℕ) → i ≢ 1 → i ≢ 520 → get_or (first_words n k) i 0 ≡ 0
+other_words n k i ne nf = get_or-set_other (set {A = ℕ} (replicate 800 0) 1 n) 520 i k 0 nf ∙ (get_or-set_other (replicate 800 0) 1 i n 0 ne ∙ zeros 800 i)
 
 none_below : (n : ℕ) → 0 ≡ once_below n 0
 none_below n = let b : nat_lt n 0 ≡ false = grind (arith, nat_tests) in sym (ap one_if b)
@@ -91,31 +66,33 @@ only P x p zero y e = subst P (some-injective x y e) p
 only P x p (suc j) y e = absurd (some-ne-none y (sym e))
 
 module _ {X W : Type 0} (shards : List X) (works : List W) (slots : List (Slot X W)) (long : length shards ≡ 64) (laid : Laid 32 shards works slots) where
-  slots_are : slots ≡ map (λ x. Shard (Some x)) shards ++ (Desk laid.0 ∷ laid.1)
-  slots_are = laid.2 ∙ append_assoc (map (λ x. Shard (Some x)) shards) (Desk laid.0 ∷ []) laid.1
-
   front_long : length {A = Slot X W} (map (λ x. Shard (Some x)) shards) ≡ 64
   front_long = length-map shards (λ x. Shard (Some x)) ∙ long
 
   pub slots_long : length (map some slots) ≡ 96
-  slots_long = let e = ap {A = List (Slot X W)} length slots_are in let f = length-append {A = Slot X W} (map (λ x. Shard (Some x)) shards) (Desk laid.0 ∷ laid.1) in let g = front_long in let h = laid.4 in let i = length-map slots some in omega arith
+  slots_long = let e = ap {A = List (Slot X W)} length laid.2 in let f = length-append {A = Slot X W} (map (λ x. Shard (Some x)) shards) laid.1 in let g = front_long in let h = desks_long laid.0 laid.1 laid.3 in let i = length-map slots some in let n = laid.4 in omega arith
 
   pub shard_at : (k : ℕ) → k < 64 → (x : X) × (slice_get shards k ≡ Some x) × (get_elem? (map some slots) k ≡ some (some (Shard (Some x))))
-  shard_at k lt = let h = at_opened shards (Desk laid.0 ∷ laid.1) k (omega arith) in (h.0, h.1, ap {A = List (Slot X W)} (λ l. get_elem? (map some l) k) slots_are ∙ h.2)
+  shard_at k lt = let h = at_opened shards laid.1 k (omega arith) in (h.0, h.1, ap {A = List (Slot X W)} (λ l. get_elem? (map some l) k) laid.2 ∙ h.2)
 
-  desk_behind : (d : ℕ) → get_elem? (map some slots) (d + 64) ≡ get_elem? (map some (Desk laid.0 ∷ laid.1)) d
-  desk_behind d = ap {A = List (Slot X W)} (λ l. get_elem? (map some l) (d + 64)) slots_are ∙ get_behind {A = Slot X W} (map (λ x. Shard (Some x)) shards) (Desk laid.0 ∷ laid.1) 64 d front_long
+  desk_behind : (d : ℕ) → get_elem? (map some slots) (d + 64) ≡ get_elem? (map some laid.1) d
+  desk_behind d = ap {A = List (Slot X W)} (λ l. get_elem? (map some l) (d + 64)) laid.2 ∙ get_behind {A = Slot X W} (map (λ x. Shard (Some x)) shards) laid.1 64 d front_long
 
-  pub desk_at : (d : ℕ) → d < 32 → (v : _) × (ps : List (ℕ × W)) × (get_elem? (map some slots) (d + 64) ≡ some (some (Desk v))) × (get_elem? (numbered 0 works ∷ replicate 31 []) d ≡ some ps) × (v.items ≡ things_of ps)
-  desk_at zero lt = (laid.0, numbered 0 works, desk_behind 0, refl, laid.3 ∙ sym (things_numbered 0 works))
-  desk_at (suc k) lt = let h = nothing_at laid.1 k laid.5 (let e = laid.4 in omega arith) in (h.0, [], desk_behind (suc k) ∙ h.1, nils_at 31 k (omega arith), h.2)
+  pub desk_at : (d : ℕ) → d < 32 → (v : _) × (ps : List (ℕ × W)) × (get_elem? (map some slots) (d + 64) ≡ some (some (Desk v))) × (get_elem? (dealt 0 laid.0) d ≡ some ps) × (v.items ≡ things_of ps)
+  desk_at d lt = let h = desk_dealt 0 laid.0 laid.1 d laid.3 (let n = laid.4 in omega arith) in (h.0, h.1, desk_behind d ∙ h.2, h.3, h.4)
+
+  -- what lies on all desks
+  pub all_laid : all_of (λ l. l) (dealt 0 laid.0) ≡ numbered 0 works
+  all_laid = all_dealt 0 laid.0 ∙ ap {A = List W} (numbered 0) laid.5
 
 module _ {Store E X W : Type 0} (m : Meaning Store E X W) where
   pub opens : (opened : List X × List W) (terms : Terms) (words : List ℕ) (slots : List (Slot X W)) (store : Store) → terms.seats ≤ 32 → (terms.spent < 2 ^ 62) × (terms.limit < 2 ^ 62) → length opened.0 ≡ 64 → length opened.1 ≤ 2 ^ 58
-      → ((k : ℕ) (x : X) → slice_get opened.0 k ≡ Some x → m.projects store k x) → m.opens store opened.1 → length words ≡ 101 → ((k : ℕ) → k ≢ 65 → k ≢ 67 → get_or words k 0 ≡ 0) → get_or words 65 0 ≡ terms.spent → get_or words 67 0 ≡ length opened.1
+      → ((k : ℕ) (x : X) → slice_get opened.0 k ≡ Some x → m.projects store k x) → m.opens store opened.1 → length words ≡ 800 → ((k : ℕ) → k ≢ 1 → k ≢ 520 → get_or words k 0 ≡ 0) → get_or words 1 0 ≡ terms.spent → get_or words 520 0 ≡ length opened.1
       → Laid 32 opened.0 opened.1 slots → HubRule m opened terms (opening words slots (newcomer terms.seats))
   opens opened terms words slots store few low long short shown starts wide zero_at spent_at count_at laid =
       let first : List (ℕ × W) = numbered 0 opened.1 in
+      let desks : List (List (ℕ × W)) = dealt 0 laid.0 in
+      let all : all_of (λ l. l) desks ≡ first = all_laid opened.0 opened.1 slots long laid in
       let piles : Piles E W = (32 * terms.seats, bare) ∷ [] in
       let v : ℕ × Pile E W = (32 * terms.seats, bare) in
       let O : ℕ → W → Type 0 = λ i u. get_elem? opened.1 i ≡ some u in
@@ -131,7 +108,7 @@ module _ {Store E X W : Type 0} (m : Meaning Store E X W) where
         starts = starts;
         legal = tt;
         turns = record {
-          turn = λ k lt. zero_at (k + 1) (λ e. omega arith) (λ e. omega arith);
+          turn = λ k lt. zero_at (k * 8 + 8) (λ e. omega arith) (λ e. omega arith);
           one = λ k lt. omega arith;
           home = λ k lt z. let h = shard_at opened.0 opened.1 slots long laid k lt in (h.0, h.2, shown k h.0 h.1);
           idle = only (λ (y : View E X W). y.parts ≡ 0 → y.held ≡ []) (newcomer terms.seats) (λ _. refl);
@@ -151,27 +128,28 @@ module _ {Store E X W : Type 0} (m : Meaning Store E X W) where
           passed = omega arith;
           small = only (λ (y : View E X W). cost m.price y.tally.fresh ≤ y.parts * 2 ^ 51) (newcomer terms.seats) (omega arith);
           idle = only (λ (y : View E X W). y.parts ≡ 0 → cost m.price y.tally.settled + cost m.price y.tally.fresh ≡ 0) (newcomer terms.seats) (λ _. refl);
-          over = only (λ (y : View E X W). 0 < y.tally.over → terms.limit < get_or words 65 0) (newcomer terms.seats) (λ z. absurd (omega arith));
+          over = only (λ (y : View E X W). 0 < y.tally.over → terms.limit < get_or words 1 0) (newcomer terms.seats) (λ z. absurd (omega arith));
         };
         stops = record {
-          cause = inl (zero_at 66 (λ e. omega arith) (λ e. omega arith));
-          no_memory = only (λ (y : View E X W). 0 < y.tally.no_memory → get_or words 66 0 ≡ 1) (newcomer terms.seats) (λ z. absurd (omega arith));
-          fault = only (λ (y : View E X W). 0 < y.tally.fault → get_or words 66 0 ≡ 2) (newcomer terms.seats) (λ z. absurd (omega arith));
+          cause = inl (zero_at 2 (λ e. omega arith) (λ e. omega arith));
+          no_memory = only (λ (y : View E X W). 0 < y.tally.no_memory → get_or words 2 0 ≡ 1) (newcomer terms.seats) (λ z. absurd (omega arith));
+          fault = only (λ (y : View E X W). 0 < y.tally.fault → get_or words 2 0 ≡ 2) (newcomer terms.seats) (λ z. absurd (omega arith));
         };
-        desks = first ∷ replicate 31 [];
+        desks = desks;
         places = record {
-          many = omega arith;
-          turn = λ d lt. zero_at (d + 68) (λ e. omega arith) (λ e. omega arith);
+          many = length_dealt 0 laid.0 ∙ laid.4;
+          turn = λ d lt. zero_at (d * 8 + 528) (λ e. omega arith) (λ e. omega arith);
           one = λ d lt. omega arith;
           home = λ d lt z. desk_at opened.0 opened.1 slots long laid d lt;
-          held = only (λ (y : ℕ × Pile E W). Each (λ d ps. (d < 32) × (get_elem? (first ∷ replicate 31 []) d ≡ some ps)) y.1.desk) v tt;
+          held = only (λ (y : ℕ × Pile E W). Each (λ d ps. (d < 32) × (get_elem? desks d ≡ some ps)) y.1.desk) v tt;
           idle = only (λ (y : ℕ × Pile E W). y.0 ≡ 0 → y.1.desk ≡ []) v (λ _. refl);
         };
         works = record {
           in_hand = only (λ (y : ℕ × Pile E W). Each O (hand y.1)) v tt;
-          on_desk = first_or_nil (λ l. Each O l) first 31 (each_to (λ i u. get_elem? (([] ++ opened.1) ++ []) i ≡ some u) O (λ i u o. ap {A = List W} (λ l. get_elem? l i) (sym (append-nil opened.1)) ∙ o) first (numbered_each [] opened.1 [])) tt;
+          on_desk = each_part O desks (let P : List (ℕ × W) → Type 0 = λ l. Each O l in subst P (sym all)
+              (each_to (λ i u. get_elem? (([] ++ opened.1) ++ []) i ≡ some u) O (λ i u o. ap {A = List W} (λ l. get_elem? l i) (sym (append-nil opened.1)) ∙ o) first (numbered_each [] opened.1 [])));
           once = λ i.
-              let a = count_numbered 0 i opened.1 in let c = none_below i in let d = total_nils {A = ℕ × W} (count i) 31 refl in
+              let a = count_numbered 0 i opened.1 in let c = none_below i in let d = count_parts i desks in let f = ap {A = List (ℕ × W)} (count i) all in
               let e : once_below i (0 + length opened.1) ≡ once_below i (length opened.1) = ap (once_below i) (omega arith) in omega arith;
           took = only (λ (y : ℕ × Pile E W). Each (λ i u. taking m i [] ≡ y.1.took) y.1.taken) v tt;
           offers = only (λ (y : ℕ × Pile E W). Each {A = W} (λ i u. taking m i [] ≡ []) y.1.offered) v tt;
@@ -179,14 +157,14 @@ module _ {Store E X W : Type 0} (m : Meaning Store E X W) where
           fresh = λ i le. refl;
         };
         pending = record {
-          sum = let d = total_nils {A = ℕ × W} length 31 refl in omega arith;
+          sum = let d = length_parts desks in let f = ap {A = List (ℕ × W)} length all in omega arith;
           settled = only (λ (y : ℕ × Pile E W). y.1.owes ≡ false → y.1.counted ≡ length (hand y.1)) v (λ _. refl);
           owing = only (λ (y : ℕ × Pile E W). y.1.owes ≡ true → 0 < y.1.counted) v (λ z. absurd (let q : false ≡ true = z in cc));
           few = only (λ (y : ℕ × Pile E W). (length (hand y.1) ≤ y.0 * (2 ^ 52 + 2)) × (y.1.counted ≤ y.0 * (2 ^ 52 + 2))) v (omega arith, omega arith);
-          short = first_or_nil (λ l. length l ≤ 2 ^ 58) first 31 (omega arith) (omega arith);
-          empty = only (λ (y : ℕ × Pile E W). 0 < y.1.empty → get_or words 67 0 ≡ 0) v (λ z. absurd (omega arith));
+          short = λ d ps e. let r = part_short desks d ps e in let f = ap {A = List (ℕ × W)} length all in omega arith;
+          empty = only (λ (y : ℕ × Pile E W). 0 < y.1.empty → get_or words 520 0 ≡ 0) v (λ z. absurd (omega arith));
           idle = only (λ (y : ℕ × Pile E W). y.0 ≡ 0 → y.1.left + y.1.fetched ≡ 0) v (λ _. refl);
-          moved = let d = total_nils {A = ℕ × W} length 31 refl in omega arith;
+          moved = let d = length_parts desks in let f = ap {A = List (ℕ × W)} length all in omega arith;
         };
       }
 
@@ -203,22 +181,28 @@ all_push {A} P xs ys x e all p = let Q : List A → Type 0 = λ l. All P l in su
 pub all_to : {A : Type 0} (P Q : A → Type 0) → ((x : A) → P x → Q x) → (xs : List A) → All P xs → All Q xs
 all_to P Q f xs all k d lt = f _ (all k d lt)
 
--- the first desk has the works
-pub laid_first : {X W : Type 0} (shards : List X) (first : _) (front slots : List (Slot X W)) → front ≡ map (λ x. Shard (Some x)) shards → slots ≡ front ++ Desk first ∷ [] → Laid 1 shards first.items slots
-laid_first {X} {W} shards first front slots is more = (first, [], more ∙ (ap {A = List (Slot X W)} (λ l. l ++ Desk first ∷ []) is ∙ sym (append-nil (map (λ x. Shard (Some x)) shards ++ Desk first ∷ []))), refl, refl, tt)
+-- no desk is laid yet
+pub laid_none : {X W : Type 0} (shards : List X) (slots : List (Slot X W)) → slots ≡ map (λ x. Shard (Some x)) shards → Laid 0 shards [] slots
+laid_none {X} {W} shards slots is = ([], [], is ∙ sym (append-nil (map (λ x. Shard (Some x)) shards)), tt, refl, refl)
 
-nothing_more : {X W : Type 0} (ss : List (Slot X W)) (v : _) → NothingLies ss → NothingLies {X = X} {W = W} (Desk v ∷ []) → NothingLies (ss ++ Desk v ∷ [])
-nothing_more [] v h e = e
-nothing_more (Shard x ∷ ss) v h e = absurd h
-nothing_more (Desk u ∷ ss) v h e = (h.0, nothing_more ss v h.1 e)
+desks_more : {X W : Type 0} (ls : List (List W)) (ss : List (Slot X W)) (v : _) → AreDesks ls ss → AreDesks (ls ++ v.items ∷ []) (ss ++ Desk v ∷ [])
+desks_more [] [] v h = (refl, tt)
+desks_more [] (s ∷ ss) v h = absurd h
+desks_more (l ∷ ls) [] v h = absurd h
+desks_more (l ∷ ls) (Shard x ∷ ss) v h = absurd h
+desks_more (l ∷ ls) (Desk u ∷ ss) v h = (h.0, desks_more ls ss v h.1)
 
--- a further desk has nothing
-pub laid_more : {X W : Type 0} (number : ℕ) (shards : List X) (works : List W) (v : _) (slots slots' : List (Slot X W)) → Laid number shards works slots → slots' ≡ slots ++ Desk v ∷ [] → NothingLies {X = X} {W = W} (Desk v ∷ []) → Laid (number + 1) shards works slots'
-laid_more {X} {W} number shards works v slots slots' h more none = (
-  h.0,
+all_more : {A : Type 0} (ls : List (List A)) (l : List A) → all_of (λ x. x) (ls ++ l ∷ []) ≡ all_of (λ x. x) ls ++ l
+all_more [] l = append-nil l
+all_more (x ∷ xs) l = ap {A = List _} (λ t. x ++ t) (all_more xs l) ∙ sym (append_assoc x (all_of (λ y. y) xs) l)
+
+-- a further desk is laid
+pub laid_more : {X W : Type 0} (number : ℕ) (shards : List X) (works : List W) (v : _) (slots slots' : List (Slot X W)) → Laid number shards works slots → slots' ≡ slots ++ Desk v ∷ [] → Laid (number + 1) shards (works ++ v.items) slots'
+laid_more {X} {W} number shards works v slots slots' h more = (
+  h.0 ++ v.items ∷ [],
   h.1 ++ Desk v ∷ [],
-  more ∙ (ap {A = List (Slot X W)} (λ l. l ++ Desk v ∷ []) h.2 ∙ append_assoc (map (λ x. Shard (Some x)) shards ++ Desk h.0 ∷ []) h.1 (Desk v ∷ [])),
-  h.3,
-  (let a = length-append {A = Slot X W} h.1 (Desk v ∷ []) in let c = h.4 in omega arith),
-  nothing_more h.1 v h.5 none,
+  more ∙ (ap {A = List (Slot X W)} (λ l. l ++ Desk v ∷ []) h.2 ∙ append_assoc (map (λ x. Shard (Some x)) shards) h.1 (Desk v ∷ [])),
+  desks_more h.0 h.1 v h.3,
+  (let a = length-append {A = List W} h.0 (v.items ∷ []) in let c = h.4 in omega arith),
+  all_more h.0 v.items ∙ ap {A = List W} (λ l. l ++ v.items) h.5,
 )

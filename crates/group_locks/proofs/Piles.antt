@@ -31,7 +31,7 @@ module _ {E X W : Type 0} where
 
   -- desks stay where other words and slots change
   pub desks_on : (words words' : List ℕ) (homes homes' : List (opt.Option (Slot X W))) (desks : List (List (ℕ × W))) (piles : Piles E W)
-      → ((d : ℕ) → d < 32 → get_or words' (d + 68) 0 ≡ get_or words (d + 68) 0) → ((d : ℕ) → d < 32 → get_elem? homes' (d + 64) ≡ get_elem? homes (d + 64))
+      → ((d : ℕ) → d < 32 → get_or words' (d * 8 + 528) 0 ≡ get_or words (d * 8 + 528) 0) → ((d : ℕ) → d < 32 → get_elem? homes' (d + 64) ≡ get_elem? homes (d + 64))
       → DeskRule words homes desks piles → DeskRule words' homes' desks piles
   desks_on words words' homes homes' desks piles same home b = record {
     many = b.many;
@@ -44,7 +44,7 @@ module _ {E X W : Type 0} where
 
   -- desks stay where a view keeps its parts and its pile
   pub places_keep : (words words' : List ℕ) (homes homes' : List (opt.Option (Slot X W))) (desks : List (List (ℕ × W))) (views : List (View E X W)) (id : ℕ) (v w : View E X W) → get_elem? views id ≡ some v → share_of w ≡ share_of v
-      → ((d : ℕ) → d < 32 → get_or words' (d + 68) 0 ≡ get_or words (d + 68) 0) → ((d : ℕ) → d < 32 → get_elem? homes' (d + 64) ≡ get_elem? homes (d + 64))
+      → ((d : ℕ) → d < 32 → get_or words' (d * 8 + 528) 0 ≡ get_or words (d * 8 + 528) 0) → ((d : ℕ) → d < 32 → get_elem? homes' (d + 64) ≡ get_elem? homes (d + 64))
       → DeskRule words homes desks (piles_of views) → DeskRule words' homes' desks (piles_of (set views id w))
   places_keep words words' homes homes' desks views id v w at stays same home b =
       let P : Piles E W → Type 0 = λ l. DeskRule words' homes' desks l in subst P (sym (piles_same views id v w at stays)) (desks_on words words' homes homes' desks (piles_of views) same home b)
@@ -76,8 +76,8 @@ module _ {E X W : Type 0} where
 
   -- the turn of the desk k is taken
   pub desks_take : (words : List ℕ) (homes : List (opt.Option (Slot X W))) (desks : List (List (ℕ × W))) (piles : Piles E W) (id n k : ℕ) (p q : Pile E W) (ps : List (ℕ × W))
-      → length words ≡ 101 → k < 32 → 0 < n → get_elem? piles id ≡ some (n, p) → q.desk ≡ (k, ps) ∷ p.desk → get_or words (k + 68) 0 ≡ 0 → get_elem? desks k ≡ some ps
-      → DeskRule words homes desks piles → DeskRule (set words (k + 68) 1) (set homes (k + 64) none) desks (set piles id (n, q))
+      → length words ≡ 800 → k < 32 → 0 < n → get_elem? piles id ≡ some (n, p) → q.desk ≡ (k, ps) ∷ p.desk → get_or words (k * 8 + 528) 0 ≡ 0 → get_elem? desks k ≡ some ps
+      → DeskRule words homes desks piles → DeskRule (set words (k * 8 + 528) 1) (set homes (k + 64) none) desks (set piles id (n, q))
   desks_take words homes desks piles id n k p q ps wide lt part at same free lies b =
       let w : ℕ × Pile E W = (n, q) in
       let F : ℕ → ℕ × Pile E W → ℕ = λ d y. count d y.1.desk in
@@ -85,13 +85,13 @@ module _ {E X W : Type 0} where
       let sums : (d : ℕ) → total (F d) (set piles id w) + F d (n, p) ≡ total (F d) piles + F d w = λ d. total_set (F d) piles id (n, p) w at in
       let here : one_if (eqb k k) ≡ 1 = ap one_if (eq-eqb k k refl) in
       let else : (d : ℕ) → d ≢ k → one_if (eqb k d) ≡ 0 = λ d ne. ap one_if (ne_eqb k d (λ h. ne (sym h))) in
-      let word_here : get_or (set words (k + 68) 1) (k + 68) 0 ≡ 1 = get_or-set_same words (k + 68) 1 0 (omega arith) in
-      let word_else : (d : ℕ) → d ≢ k → get_or (set words (k + 68) 1) (d + 68) 0 ≡ get_or words (d + 68) 0 = λ d ne. get_or-set_other words (k + 68) (d + 68) 1 0 (λ h. ne (omega arith)) in
+      let word_here : get_or (set words (k * 8 + 528) 1) (k * 8 + 528) 0 ≡ 1 = get_or-set_same words (k * 8 + 528) 1 0 (omega arith) in
+      let word_else : (d : ℕ) → d ≢ k → get_or (set words (k * 8 + 528) 1) (d * 8 + 528) 0 ≡ get_or words (d * 8 + 528) 0 = λ d ne. get_or-set_other words (k * 8 + 528) (d * 8 + 528) 1 0 (λ h. ne (omega arith)) in
       let P : List (ℕ × List (ℕ × W)) → Type 0 = λ l. Each (λ d us. (d < 32) × (get_elem? desks d ≡ some us)) l in
       record {
         many = b.many;
         turn = λ d dt. dite (ℕ_discrete d k)
-            (λ e. let Q : ℕ → Type 0 = λ i. get_or (set words (k + 68) 1) (i + 68) 0 ≡ total (F i) (set piles id w) in
+            (λ e. let Q : ℕ → Type 0 = λ i. get_or (set words (k * 8 + 528) 1) (i * 8 + 528) 0 ≡ total (F i) (set piles id w) in
             subst Q (sym e) (let a = sums k in let c = b.turn k lt in let g = mine k in omega arith))
             (λ ne. let a = sums d in let c = b.turn d dt in let f = else d ne in let g = mine d in let h = word_else d ne in omega arith);
         one = λ d dt. dite (ℕ_discrete d k)
@@ -99,7 +99,7 @@ module _ {E X W : Type 0} where
             subst Q (sym e) (let a = sums k in let c = b.turn k lt in let g = mine k in omega arith))
             (λ ne. let a = sums d in let c = b.one d dt in let f = else d ne in let g = mine d in omega arith);
         home = λ d dt z. dite (ℕ_discrete d k)
-            (λ e. absurd (let Q : ℕ → Type 0 = λ i. get_or (set words (k + 68) 1) (i + 68) 0 ≡ 0 in let q : get_or (set words (k + 68) 1) (k + 68) 0 ≡ 0 = subst Q e z in omega arith))
+            (λ e. absurd (let Q : ℕ → Type 0 = λ i. get_or (set words (k * 8 + 528) 1) (i * 8 + 528) 0 ≡ 0 in let q : get_or (set words (k * 8 + 528) 1) (k * 8 + 528) 0 ≡ 0 = subst Q e z in omega arith))
             (λ ne. let h = b.home d dt (sym (word_else d ne) ∙ z) in (h.0, h.1, set_else homes (k + 64) (d + 64) none (λ e. ne (omega arith)) ∙ h.2, h.3, h.4));
         held = of_set (λ (y : ℕ × Pile E W). P y.1.desk) piles id w (subst P (sym same) ((lt, lies), b.held id (n, p) at)) b.held;
         idle = of_set (λ (y : ℕ × Pile E W). y.0 ≡ 0 → y.1.desk ≡ []) piles id w (λ z. absurd (omega arith)) b.idle;
@@ -129,8 +129,8 @@ module _ {E X W : Type 0} where
 
   -- the turn of the desk k is given back, where now other works lie
   pub desks_give : (words : List ℕ) (homes : List (opt.Option (Slot X W))) (desks : List (List (ℕ × W))) (piles : Piles E W) (id n k : ℕ) (p q : Pile E W) (ps qs : List (ℕ × W)) (v : _) (y : Slot X W) → y ≡ Desk v
-      → length words ≡ 101 → length homes ≡ 96 → get_elem? piles id ≡ some (n, p) → p.desk ≡ (k, ps) ∷ [] → q.desk ≡ [] → v.items ≡ things_of qs
-      → DeskRule words homes desks piles → DeskRule (set words (k + 68) 0) (set homes (k + 64) (some (Desk v))) (set desks k qs) (set piles id (n, q))
+      → length words ≡ 800 → length homes ≡ 96 → get_elem? piles id ≡ some (n, p) → p.desk ≡ (k, ps) ∷ [] → q.desk ≡ [] → v.items ≡ things_of qs
+      → DeskRule words homes desks piles → DeskRule (set words (k * 8 + 528) 0) (set homes (k + 64) (some (Desk v))) (set desks k qs) (set piles id (n, q))
   desks_give words homes desks piles id n k p q ps qs v y is wide long at was gone lies b =
       let w : ℕ × Pile E W = (n, q) in
       let F : ℕ → ℕ × Pile E W → ℕ = λ d y. count d y.1.desk in
@@ -142,13 +142,13 @@ module _ {E X W : Type 0} where
       let sums : (d : ℕ) → total (F d) (set piles id w) + F d (n, p) ≡ total (F d) piles + F d w = λ d. total_set (F d) piles id (n, p) w at in
       let here : one_if (eqb k k) ≡ 1 = ap one_if (eq-eqb k k refl) in
       let else : (d : ℕ) → d ≢ k → one_if (eqb k d) ≡ 0 = λ d ne. ap one_if (ne_eqb k d (λ h. ne (sym h))) in
-      let word_here : get_or (set words (k + 68) 0) (k + 68) 0 ≡ 0 = get_or-set_same words (k + 68) 0 0 (omega arith) in
-      let word_else : (d : ℕ) → d ≢ k → get_or (set words (k + 68) 0) (d + 68) 0 ≡ get_or words (d + 68) 0 = λ d ne. get_or-set_other words (k + 68) (d + 68) 0 0 (λ h. ne (omega arith)) in
+      let word_here : get_or (set words (k * 8 + 528) 0) (k * 8 + 528) 0 ≡ 0 = get_or-set_same words (k * 8 + 528) 0 0 (omega arith) in
+      let word_else : (d : ℕ) → d ≢ k → get_or (set words (k * 8 + 528) 0) (d * 8 + 528) 0 ≡ get_or words (d * 8 + 528) 0 = λ d ne. get_or-set_other words (k * 8 + 528) (d * 8 + 528) 0 0 (λ h. ne (omega arith)) in
       let none_here : total (F k) (set piles id w) ≡ 0 = (let a = sums k in let c = b.one k lt in let f = before k in let g = after k in omega arith) in
       record {
         many = length-set desks k qs ∙ b.many;
         turn = λ d dt. dite (ℕ_discrete d k)
-            (λ e. let Q : ℕ → Type 0 = λ i. get_or (set words (k + 68) 0) (i + 68) 0 ≡ total (F i) (set piles id w) in
+            (λ e. let Q : ℕ → Type 0 = λ i. get_or (set words (k * 8 + 528) 0) (i * 8 + 528) 0 ≡ total (F i) (set piles id w) in
             subst Q (sym e) (word_here ∙ sym none_here))
             (λ ne. let a = sums d in let c = b.turn d dt in let f = else d ne in let g = before d in let i = after d in let h = word_else d ne in omega arith);
         one = λ d dt. let a = sums d in let c = b.one d dt in let g = after d in omega arith;

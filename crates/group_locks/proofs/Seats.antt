@@ -68,17 +68,17 @@ module _ {Store E X W : Type 0} (m : Meaning Store E X W) where
           passed = let a = same (λ y. cost m.price y.tally.fresh) refl refl in let c = b.charges.passed in omega arith;
           small = of_cut (λ y. cost m.price y.tally.fresh ≤ y.parts * 2 ^ 51) s.views id w u (let e : cost m.price v.tally.fresh ≡ 0 = ap (λ (t : Tally E). cost m.price t.fresh) clear in omega arith) (omega arith) b.charges.small;
           idle = of_cut (λ y. y.parts ≡ 0 → cost m.price y.tally.settled + cost m.price y.tally.fresh ≡ 0) s.views id w u (λ _. ap (λ (t : Tally E). cost m.price t.settled + cost m.price t.fresh) clear) (λ _. refl) b.charges.idle;
-          over = of_cut (λ y. 0 < y.tally.over → terms.limit < get_or s.words 65 0) s.views id w u (b.charges.over id v at) (λ z. absurd (omega arith)) b.charges.over;
+          over = of_cut (λ y. 0 < y.tally.over → terms.limit < get_or s.words 1 0) s.views id w u (b.charges.over id v at) (λ z. absurd (omega arith)) b.charges.over;
         };
         stops = record {
           cause = b.stops.cause;
-          no_memory = of_cut (λ y. 0 < y.tally.no_memory → get_or s.words 66 0 ≡ 1) s.views id w u (b.stops.no_memory id v at) (λ z. absurd (omega arith)) b.stops.no_memory;
-          fault = of_cut (λ y. 0 < y.tally.fault → get_or s.words 66 0 ≡ 2) s.views id w u (b.stops.fault id v at) (λ z. absurd (omega arith)) b.stops.fault;
+          no_memory = of_cut (λ y. 0 < y.tally.no_memory → get_or s.words 2 0 ≡ 1) s.views id w u (b.stops.no_memory id v at) (λ z. absurd (omega arith)) b.stops.no_memory;
+          fault = of_cut (λ y. 0 < y.tally.fault → get_or s.words 2 0 ≡ 2) s.views id w u (b.stops.fault id v at) (λ z. absurd (omega arith)) b.stops.fault;
         };
         desks = b.desks;
         places = let P : Piles E W → Type 0 = λ l. DeskRule s.words s.homes b.desks l in subst P (sym piles) (places_more s.words s.homes b.desks (set (piles_of s.views) id (v.parts - 32, bare)) 32 (places_bare s.words s.homes b.desks (piles_of s.views) id v.parts (v.parts - 32) at' b.places));
         works = let P : Piles E W → Type 0 = λ l. WorkRule m opened.1 b.log b.desks l in subst P (sym piles) (works_more m opened.1 b.log b.desks (set (piles_of s.views) id (v.parts - 32, bare)) 32 (works_bare m opened.1 b.log b.desks (piles_of s.views) id v.parts (v.parts - 32) at' b.works));
-        pending = let P : Piles E W → Type 0 = λ l. PendRule (length opened.1) (get_or s.words 67 0) b.desks l in subst P (sym piles) (pending_more (length opened.1) (get_or s.words 67 0) b.desks (set (piles_of s.views) id (v.parts - 32, bare)) 32 (pending_bare (length opened.1) (get_or s.words 67 0) b.desks (piles_of s.views) id v.parts (v.parts - 32) at' b.pending));
+        pending = let P : Piles E W → Type 0 = λ l. PendRule (length opened.1) (get_or s.words 520 0) b.desks l in subst P (sym piles) (pending_more (length opened.1) (get_or s.words 520 0) b.desks (set (piles_of s.views) id (v.parts - 32, bare)) 32 (pending_bare (length opened.1) (get_or s.words 520 0) b.desks (piles_of s.views) id v.parts (v.parts - 32) at' b.pending));
       }
 
   of_joined : (P : View E X W → Type 0) (views : List (View E X W)) (id other : ℕ) (w u : View E X W) → P w → P u → ((j : ℕ) (y : View E X W) → get_elem? views j ≡ some y → P y)
@@ -130,17 +130,17 @@ module _ {Store E X W : Type 0} (m : Meaning Store E X W) where
           small = of_joined (λ y. cost m.price y.tally.fresh ≤ y.parts * 2 ^ 51) s.views id other j u (let a = b.charges.small id v at in let c = b.charges.small other w wt in let q = fresh_both in omega arith) (omega arith) b.charges.small;
           idle = of_joined (λ y. y.parts ≡ 0 → cost m.price y.tally.settled + cost m.price y.tally.fresh ≡ 0) s.views id other j u
               (λ z. let a = b.charges.idle id v at (omega arith) in let c = b.charges.idle other w wt (omega arith) in let p = settled_both in let q = fresh_both in omega arith) (λ _. refl) b.charges.idle;
-          over = of_joined (λ y. 0 < y.tally.over → terms.limit < get_or s.words 65 0) s.views id other j u (either_of v.tally.over w.tally.over (terms.limit < get_or s.words 65 0) (b.charges.over id v at) (b.charges.over other w wt)) (λ z. absurd (omega arith)) b.charges.over;
+          over = of_joined (λ y. 0 < y.tally.over → terms.limit < get_or s.words 1 0) s.views id other j u (either_of v.tally.over w.tally.over (terms.limit < get_or s.words 1 0) (b.charges.over id v at) (b.charges.over other w wt)) (λ z. absurd (omega arith)) b.charges.over;
         };
         stops = record {
           cause = b.stops.cause;
-          no_memory = of_joined (λ y. 0 < y.tally.no_memory → get_or s.words 66 0 ≡ 1) s.views id other j u (either_of v.tally.no_memory w.tally.no_memory (get_or s.words 66 0 ≡ 1) (b.stops.no_memory id v at) (b.stops.no_memory other w wt)) (λ z. absurd (omega arith)) b.stops.no_memory;
-          fault = of_joined (λ y. 0 < y.tally.fault → get_or s.words 66 0 ≡ 2) s.views id other j u (either_of v.tally.fault w.tally.fault (get_or s.words 66 0 ≡ 2) (b.stops.fault id v at) (b.stops.fault other w wt)) (λ z. absurd (omega arith)) b.stops.fault;
+          no_memory = of_joined (λ y. 0 < y.tally.no_memory → get_or s.words 2 0 ≡ 1) s.views id other j u (either_of v.tally.no_memory w.tally.no_memory (get_or s.words 2 0 ≡ 1) (b.stops.no_memory id v at) (b.stops.no_memory other w wt)) (λ z. absurd (omega arith)) b.stops.no_memory;
+          fault = of_joined (λ y. 0 < y.tally.fault → get_or s.words 2 0 ≡ 2) s.views id other j u (either_of v.tally.fault w.tally.fault (get_or s.words 2 0 ≡ 2) (b.stops.fault id v at) (b.stops.fault other w wt)) (λ z. absurd (omega arith)) b.stops.fault;
         };
         desks = b.desks;
         places = let P : Piles E W → Type 0 = λ l. DeskRule s.words s.homes b.desks l in subst P (sym piles) (places_join (piles_of s.views) id other v.parts w.parts v.pile w.pile at' bt' apart s.words s.homes b.desks v_calm.1 w_calm.1 b.places);
         works = let P : Piles E W → Type 0 = λ l. WorkRule m opened.1 b.log b.desks l in subst P (sym piles) (works_join (piles_of s.views) id other v.parts w.parts v.pile w.pile at' bt' apart m opened.1 b.log b.desks b.works);
-        pending = let P : Piles E W → Type 0 = λ l. PendRule (length opened.1) (get_or s.words 67 0) b.desks l in subst P (sym piles) (pending_join (piles_of s.views) id other v.parts w.parts v.pile w.pile at' bt' apart (length opened.1) (get_or s.words 67 0) b.desks v_calm.0 w_calm.0 b.pending);
+        pending = let P : Piles E W → Type 0 = λ l. PendRule (length opened.1) (get_or s.words 520 0) b.desks l in subst P (sym piles) (pending_join (piles_of s.views) id other v.parts w.parts v.pile w.pile at' bt' apart (length opened.1) (get_or s.words 520 0) b.desks v_calm.0 w_calm.0 b.pending);
       }
 
   of_more : (P : View E X W → Type 0) (views : List (View E X W)) (u : View E X W) → P u → ((j : ℕ) (y : View E X W) → get_elem? views j ≡ some y → P y)
@@ -184,17 +184,17 @@ module _ {Store E X W : Type 0} (m : Meaning Store E X W) where
             passed = let a = same (λ y. cost m.price y.tally.fresh) refl in let c = b.charges.passed in omega arith;
             small = of_more (λ y. cost m.price y.tally.fresh ≤ y.parts * 2 ^ 51) s.views u (omega arith) b.charges.small;
             idle = of_more (λ y. y.parts ≡ 0 → cost m.price y.tally.settled + cost m.price y.tally.fresh ≡ 0) s.views u (λ _. refl) b.charges.idle;
-            over = of_more (λ y. 0 < y.tally.over → terms.limit < get_or s.words 65 0) s.views u (λ z. absurd (omega arith)) b.charges.over;
+            over = of_more (λ y. 0 < y.tally.over → terms.limit < get_or s.words 1 0) s.views u (λ z. absurd (omega arith)) b.charges.over;
           };
           stops = record {
             cause = b.stops.cause;
-            no_memory = of_more (λ y. 0 < y.tally.no_memory → get_or s.words 66 0 ≡ 1) s.views u (λ z. absurd (omega arith)) b.stops.no_memory;
-            fault = of_more (λ y. 0 < y.tally.fault → get_or s.words 66 0 ≡ 2) s.views u (λ z. absurd (omega arith)) b.stops.fault;
+            no_memory = of_more (λ y. 0 < y.tally.no_memory → get_or s.words 2 0 ≡ 1) s.views u (λ z. absurd (omega arith)) b.stops.no_memory;
+            fault = of_more (λ y. 0 < y.tally.fault → get_or s.words 2 0 ≡ 2) s.views u (λ z. absurd (omega arith)) b.stops.fault;
           };
           desks = b.desks;
           places = let P : Piles E W → Type 0 = λ l. DeskRule s.words s.homes b.desks l in subst P (sym piles) (places_more s.words s.homes b.desks (piles_of s.views) 0 b.places);
           works = let P : Piles E W → Type 0 = λ l. WorkRule m opened.1 b.log b.desks l in subst P (sym piles) (works_more m opened.1 b.log b.desks (piles_of s.views) 0 b.works);
-          pending = let P : Piles E W → Type 0 = λ l. PendRule (length opened.1) (get_or s.words 67 0) b.desks l in subst P (sym piles) (pending_more (length opened.1) (get_or s.words 67 0) b.desks (piles_of s.views) 0 b.pending);
+          pending = let P : Piles E W → Type 0 = λ l. PendRule (length opened.1) (get_or s.words 520 0) b.desks l in subst P (sym piles) (pending_more (length opened.1) (get_or s.words 520 0) b.desks (piles_of s.views) 0 b.pending);
         },
         refl,
       )

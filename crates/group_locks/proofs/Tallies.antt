@@ -99,7 +99,7 @@ module _ {E X W : Type 0} where
 module _ {Store E X W : Type 0} (m : Meaning Store E X W) where
   -- turns stay where only a tally and other words change
   turns_keep : (now : Store) (words words' : List ℕ) (homes : List (opt.Option (Slot X W))) (views : List (View E X W)) (id : ℕ) (v : View E X W) (t : Tally E)
-      → ((k : ℕ) → k < 64 → get_or words' (k + 1) 0 ≡ get_or words (k + 1) 0) → get_elem? views id ≡ some v
+      → ((k : ℕ) → k < 64 → get_or words' (k * 8 + 8) 0 ≡ get_or words (k * 8 + 8) 0) → get_elem? views id ≡ some v
       → TurnRule m now words homes views → TurnRule m now words' homes (set views id (with_tally v t))
   turns_keep now words words' homes views id v t same at b =
       let w : View E X W = with_tally v t in
@@ -113,10 +113,10 @@ module _ {Store E X W : Type 0} (m : Meaning Store E X W) where
       }
 
   -- a step on the charged word or the stop word, which changes a tally
-  pub tally_step : (opened : List X × List W) (terms : Terms) (s : State (Slot X W) (View E X W)) (i n id : ℕ) (v : View E X W) (t : Tally E) (c : List (ℕ × Slot X W)) → 65 ≤ i → i ≤ 66 → get_elem? s.views id ≡ some v
+  pub tally_step : (opened : List X × List W) (terms : Terms) (s : State (Slot X W) (View E X W)) (i n id : ℕ) (v : View E X W) (t : Tally E) (c : List (ℕ × Slot X W)) → 1 ≤ i → i ≤ 2 → get_elem? s.views id ≡ some v
       → (b : HubRule m opened terms s)
-      → ChargeRule m.price terms (get_or (set s.words i n) 65 0) (set s.views id (with_tally v t))
-      → StopRule m.faults (things_of b.log) (get_or (set s.words i n) 66 0) (set s.views id (with_tally v t))
+      → ChargeRule m.price terms (get_or (set s.words i n) 1 0) (set s.views id (with_tally v t))
+      → StopRule m.faults (things_of b.log) (get_or (set s.words i n) 2 0) (set s.views id (with_tally v t))
       → HubRule m opened terms (stepped s i n id c (with_tally v t) keeps)
   tally_step opened terms s i n id v t c high low at b charges stops = record {
     store = b.store;
@@ -127,12 +127,12 @@ module _ {Store E X W : Type 0} (m : Meaning Store E X W) where
     opens = b.opens;
     starts = b.starts;
     legal = b.legal;
-    turns = turns_keep (store_after m b.store (things_of b.log)) s.words (set s.words i n) s.homes s.views id v t (λ k lt. get_or-set_other s.words i (k + 1) n 0 (λ e. omega arith)) at b.turns;
+    turns = turns_keep (store_after m b.store (things_of b.log)) s.words (set s.words i n) s.homes s.views id v t (λ k lt. get_or-set_other s.words i (k * 8 + 8) n 0 (λ e. omega arith)) at b.turns;
     draws = books_keep terms.seats (things_of b.log) (get_or s.words 0 0) (get_or (set s.words i n) 0 0) s.views id v t (get_or-set_other s.words i 0 n 0 (λ e. omega arith)) at b.draws;
     charges = charges;
     stops = stops;
     desks = b.desks;
-    places = places_keep s.words (set s.words i n) s.homes s.homes b.desks s.views id v (with_tally v t) at refl (λ d lt. get_or-set_other s.words i (d + 68) n 0 (λ e. omega arith)) (λ d lt. refl) b.places;
+    places = places_keep s.words (set s.words i n) s.homes s.homes b.desks s.views id v (with_tally v t) at refl (λ d lt. get_or-set_other s.words i (d * 8 + 528) n 0 (λ e. omega arith)) (λ d lt. refl) b.places;
     works = works_keep m opened.1 b.log b.desks s.views id v (with_tally v t) at refl b.works;
-    pending = pending_keep (length opened.1) (get_or s.words 67 0) (get_or (set s.words i n) 67 0) b.desks s.views id v (with_tally v t) (get_or-set_other s.words i 67 n 0 (λ e. omega arith)) at refl b.pending;
+    pending = pending_keep (length opened.1) (get_or s.words 520 0) (get_or (set s.words i n) 520 0) b.desks s.views id v (with_tally v t) (get_or-set_other s.words i 520 n 0 (λ e. omega arith)) at refl b.pending;
   }

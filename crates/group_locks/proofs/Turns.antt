@@ -1,5 +1,5 @@
 -- Turns are taken and given back under the rule.
-use Rattle.std.proofs.Common.{◌≡◌, ◌≢◌, ℕ, ◌+◌, ◌<◌, List, [], ◌∷◌, length, get_or, set, refl, sym, ap, subst, ◌∙◌, arith, eq-eqb, ne_eqb, eqb, ⊎_elim, Some, get_or-set_same, get_or-set_other}
+use Rattle.std.proofs.Common.{◌≡◌, ◌≢◌, ℕ, ◌+◌, ◌*◌, ◌<◌, List, [], ◌∷◌, length, get_or, set, refl, sym, ap, subst, ◌∙◌, arith, eq-eqb, ne_eqb, eqb, ⊎_elim, Some, get_or-set_same, get_or-set_other}
 use Rattle.std.proofs.Math.ListN.{length-set}
 use mathlib.Core.Option.{some, none}
 use mathlib.Core.Option as opt
@@ -40,18 +40,18 @@ module _ {Store E X W : Type 0} (m : Meaning Store E X W) where
   took v k x = view v.parts v.entries ((k, x) ∷ v.held) v.since v.tally v.pile
 
   turned_take : (now : Store) (words : List ℕ) (homes : List (opt.Option (Slot X W))) (views : List (View E X W)) (id k : ℕ) (v : View E X W) (x : X)
-      → length words ≡ 101 → k < 64 → 0 < v.parts → get_elem? views id ≡ some v → v.since ≡ [] → get_or words (k + 1) 0 ≡ 0 → m.projects now k x
-      → TurnRule m now words homes views → TurnRule m now (set words (k + 1) 1) (set homes k none) (set views id (took v k x))
+      → length words ≡ 800 → k < 64 → 0 < v.parts → get_elem? views id ≡ some v → v.since ≡ [] → get_or words (k * 8 + 8) 0 ≡ 0 → m.projects now k x
+      → TurnRule m now words homes views → TurnRule m now (set words (k * 8 + 8) 1) (set homes k none) (set views id (took v k x))
   turned_take now words homes views id k v x wide lt part at since free shown t =
       let w : View E X W = took v k x in
       let sums : (j : ℕ) → total (λ u. count j u.held) (set views id w) + count j v.held ≡ total (λ u. count j u.held) views + (one_if (eqb k j) + count j v.held) = λ j. total_set (λ u. count j u.held) views id v w at in
       let here : one_if (eqb k k) ≡ 1 = ap one_if (eq-eqb k k refl) in
       let else : (j : ℕ) → j ≢ k → one_if (eqb k j) ≡ 0 = λ j ne. ap one_if (ne_eqb k j (λ h. ne (sym h))) in
-      let word_here : get_or (set words (k + 1) 1) (k + 1) 0 ≡ 1 = get_or-set_same words (k + 1) 1 0 (omega arith) in
-      let word_else : (j : ℕ) → j ≢ k → get_or (set words (k + 1) 1) (j + 1) 0 ≡ get_or words (j + 1) 0 = λ j ne. get_or-set_other words (k + 1) (j + 1) 1 0 (λ h. ne (omega arith)) in
+      let word_here : get_or (set words (k * 8 + 8) 1) (k * 8 + 8) 0 ≡ 1 = get_or-set_same words (k * 8 + 8) 1 0 (omega arith) in
+      let word_else : (j : ℕ) → j ≢ k → get_or (set words (k * 8 + 8) 1) (j * 8 + 8) 0 ≡ get_or words (j * 8 + 8) 0 = λ j ne. get_or-set_other words (k * 8 + 8) (j * 8 + 8) 1 0 (λ h. ne (omega arith)) in
       record {
         turn = λ j jt. dite (ℕ_discrete j k)
-            (λ e. let P : ℕ → Type 0 = λ i. get_or (set words (k + 1) 1) (i + 1) 0 ≡ total (λ u. count i u.held) (set views id w) in
+            (λ e. let P : ℕ → Type 0 = λ i. get_or (set words (k * 8 + 8) 1) (i * 8 + 8) 0 ≡ total (λ u. count i u.held) (set views id w) in
             subst P (sym e) (let a = sums k in let b = t.turn k lt in omega arith))
             (λ ne. let a = sums j in let b = t.turn j jt in let c = else j ne in let d = word_else j ne in omega arith);
         one = λ j jt. dite (ℕ_discrete j k)
@@ -59,7 +59,7 @@ module _ {Store E X W : Type 0} (m : Meaning Store E X W) where
             subst P (sym e) (let a = sums k in let b = t.turn k lt in omega arith))
             (λ ne. let a = sums j in let b = t.one j jt in let c = else j ne in omega arith);
         home = λ j jt z. dite (ℕ_discrete j k)
-            (λ e. absurd (let P : ℕ → Type 0 = λ i. get_or (set words (k + 1) 1) (i + 1) 0 ≡ 0 in let q : get_or (set words (k + 1) 1) (k + 1) 0 ≡ 0 = subst P e z in omega arith))
+            (λ e. absurd (let P : ℕ → Type 0 = λ i. get_or (set words (k * 8 + 8) 1) (i * 8 + 8) 0 ≡ 0 in let q : get_or (set words (k * 8 + 8) 1) (k * 8 + 8) 0 ≡ 0 = subst P e z in omega arith))
             (λ ne. let h = t.home j jt (sym (word_else j ne) ∙ z) in (h.0, set_else homes k j none ne ∙ h.1, h.2));
         idle = λ j u bt z. ⊎_elim (λ s. absurd (let q = ap (λ (y : View E X W). y.parts) s.1 in omega arith)) (λ s. t.idle j u s.1 z) (at_set views id j w u bt);
         held = λ j u bt. ⊎_elim
@@ -77,10 +77,10 @@ module _ {Store E X W : Type 0} (m : Meaning Store E X W) where
       subst P (sym (set-get_or s.words i 0)) (subst Q (sym (set_again s.views id v at)) b)
 
   pub take_turn : (opened : List X × List W) (terms : Terms) (slots id k : ℕ) (v : View E X W) (c : List (ℕ × Slot X W)) → k < 64 → 0 < v.parts → v.since ≡ []
-      → Allows (HubRule m opened terms) slots id (v, c) (k + 1) (λ n. either (eqb n 0) 1 n) (Took (step slots (k + 1) 0 1 none) (v, c))
+      → Allows (HubRule m opened terms) slots id (v, c) (k * 8 + 8) (λ n. either (eqb n 0) 1 n) (Took (step slots (k * 8 + 8) 0 1 none) (v, c))
   take_turn opened terms slots id k v c lt part since s b len at fits =
-      let n : ℕ = get_or s.words (k + 1) 0 in
-      let F : ℕ → Type 0 = λ n'. (w : View E X W) × (a : Act (Slot X W)) × Valid s.homes c a × HubRule m opened terms (stepped s (k + 1) n' id c w a) × Took (step slots (k + 1) 0 1 none) (v, c) n (w, carried_after c a) in
+      let n : ℕ = get_or s.words (k * 8 + 8) 0 in
+      let F : ℕ → Type 0 = λ n'. (w : View E X W) × (a : Act (Slot X W)) × Valid s.homes c a × HubRule m opened terms (stepped s (k * 8 + 8) n' id c w a) × Took (step slots (k * 8 + 8) 0 1 none) (v, c) n (w, carried_after c a) in
       exchanged n 0 1 F
       (λ free. let h = b.turns.home k lt free in (
         took v k h.0,
@@ -89,24 +89,24 @@ module _ {Store E X W : Type 0} (m : Meaning Store E X W) where
         record {
           store = b.store;
           log = b.log;
-          wide = length-set s.words (k + 1) 1 ∙ b.wide;
+          wide = length-set s.words (k * 8 + 8) 1 ∙ b.wide;
           long = length-set s.homes k none ∙ b.long;
           few = b.few;
           opens = b.opens;
           starts = b.starts;
           legal = b.legal;
           turns = turned_take _ s.words s.homes s.views id k v h.0 b.wide lt part at since free h.2 b.turns;
-          draws = books_stay terms.seats (things_of b.log) _ _ s.views id v (took v k h.0) (get_or-set_other s.words (k + 1) 0 1 0 (λ e. omega arith)) at refl refl b.draws;
-          charges = charges_stay m.price terms (get_or s.words 65 0) _ s.views id v (took v k h.0) (get_or-set_other s.words (k + 1) 65 1 0 (λ e. omega arith)) at refl refl refl refl b.charges;
-          stops = stops_stay m.faults (things_of b.log) (get_or s.words 66 0) _ s.views id v (took v k h.0) (get_or-set_other s.words (k + 1) 66 1 0 (λ e. omega arith)) at refl refl b.stops;
+          draws = books_stay terms.seats (things_of b.log) _ _ s.views id v (took v k h.0) (get_or-set_other s.words (k * 8 + 8) 0 1 0 (λ e. omega arith)) at refl refl b.draws;
+          charges = charges_stay m.price terms (get_or s.words 1 0) _ s.views id v (took v k h.0) (get_or-set_other s.words (k * 8 + 8) 1 1 0 (λ e. omega arith)) at refl refl refl refl b.charges;
+          stops = stops_stay m.faults (things_of b.log) (get_or s.words 2 0) _ s.views id v (took v k h.0) (get_or-set_other s.words (k * 8 + 8) 2 1 0 (λ e. omega arith)) at refl refl b.stops;
           desks = b.desks;
-          places = places_keep s.words (set s.words (k + 1) 1) s.homes (set s.homes k none) b.desks s.views id v (took v k h.0) at refl (λ d dt. get_or-set_other s.words (k + 1) (d + 68) 1 0 (λ e. omega arith)) (λ d dt. set_else s.homes k (d + 64) none (λ e. omega arith)) b.places;
+          places = places_keep s.words (set s.words (k * 8 + 8) 1) s.homes (set s.homes k none) b.desks s.views id v (took v k h.0) at refl (λ d dt. get_or-set_other s.words (k * 8 + 8) (d * 8 + 528) 1 0 (λ e. omega arith)) (λ d dt. set_else s.homes k (d + 64) none (λ e. omega arith)) b.places;
           works = works_keep m opened.1 b.log b.desks s.views id v (took v k h.0) at refl b.works;
-          pending = pending_keep (length opened.1) (get_or s.words 67 0) _ b.desks s.views id v (took v k h.0) (get_or-set_other s.words (k + 1) 67 1 0 (λ e. omega arith)) at refl b.pending;
+          pending = pending_keep (length opened.1) (get_or s.words 520 0) _ b.desks s.views id v (took v k h.0) (get_or-set_other s.words (k * 8 + 8) 520 1 0 (λ e. omega arith)) at refl b.pending;
         },
         ((λ _. (k, h.0, refl, refl)), (λ ne. absurd (ne free))),
       ))
-      (λ ne. (v, keeps, tt, unchanged opened terms s (k + 1) id v c at b, ((λ free. absurd (ne free)), (λ _. refl))))
+      (λ ne. (v, keeps, tt, unchanged opened terms s (k * 8 + 8) id v c at b, ((λ free. absurd (ne free)), (λ _. refl))))
 
   pub held_still : (now : Store) (since : List E) (hs : List (ℕ × X)) → Each (λ n a. (n < 64) × ((z : X) → Follows m since n a z → m.projects now n z)) hs
       → Each (λ n a. (n < 64) × ((z : X) → Follows m (since_after hs since) n a z → m.projects now n z)) hs
@@ -114,8 +114,8 @@ module _ {Store E X W : Type 0} (m : Meaning Store E X W) where
   held_still now since (p ∷ ps) h = h
 
   turned_give : (now : Store) (words : List ℕ) (homes : List (opt.Option (Slot X W))) (views : List (View E X W)) (id k parts : ℕ) (entries : List (ℕ × E)) (hs : List (ℕ × X)) (since : List E) (t' : Tally E) (p' : Pile E W) (x y : X)
-      → length words ≡ 101 → length homes ≡ 96 → get_elem? views id ≡ some (view parts entries ((k, x) ∷ hs) since t' p') → Follows m since k x y
-      → TurnRule m now words homes views → TurnRule m now (set words (k + 1) 0) (set homes k (some (Shard (Some y)))) (set views id (view parts entries hs (since_after hs since) t' p'))
+      → length words ≡ 800 → length homes ≡ 96 → get_elem? views id ≡ some (view parts entries ((k, x) ∷ hs) since t' p') → Follows m since k x y
+      → TurnRule m now words homes views → TurnRule m now (set words (k * 8 + 8) 0) (set homes k (some (Shard (Some y)))) (set views id (view parts entries hs (since_after hs since) t' p'))
   turned_give now words homes views id k parts entries hs since t' p' x y wide long at goes t =
       let v : View E X W = view parts entries ((k, x) ∷ hs) since t' p' in
       let w : View E X W = view parts entries hs (since_after hs since) t' p' in
@@ -124,11 +124,11 @@ module _ {Store E X W : Type 0} (m : Meaning Store E X W) where
       let sums : (j : ℕ) → total (λ u. count j u.held) (set views id w) + (one_if (eqb k j) + count j hs) ≡ total (λ u. count j u.held) views + count j hs = λ j. total_set (λ u. count j u.held) views id v w at in
       let here : one_if (eqb k k) ≡ 1 = ap one_if (eq-eqb k k refl) in
       let else : (j : ℕ) → j ≢ k → one_if (eqb k j) ≡ 0 = λ j ne. ap one_if (ne_eqb k j (λ h. ne (sym h))) in
-      let word_here : get_or (set words (k + 1) 0) (k + 1) 0 ≡ 0 = get_or-set_same words (k + 1) 0 0 (omega arith) in
-      let word_else : (j : ℕ) → j ≢ k → get_or (set words (k + 1) 0) (j + 1) 0 ≡ get_or words (j + 1) 0 = λ j ne. get_or-set_other words (k + 1) (j + 1) 0 0 (λ h. ne (omega arith)) in
+      let word_here : get_or (set words (k * 8 + 8) 0) (k * 8 + 8) 0 ≡ 0 = get_or-set_same words (k * 8 + 8) 0 0 (omega arith) in
+      let word_else : (j : ℕ) → j ≢ k → get_or (set words (k * 8 + 8) 0) (j * 8 + 8) 0 ≡ get_or words (j * 8 + 8) 0 = λ j ne. get_or-set_other words (k * 8 + 8) (j * 8 + 8) 0 0 (λ h. ne (omega arith)) in
       record {
         turn = λ j jt. dite (ℕ_discrete j k)
-            (λ e. let P : ℕ → Type 0 = λ i. get_or (set words (k + 1) 0) (i + 1) 0 ≡ total (λ u. count i u.held) (set views id w) in
+            (λ e. let P : ℕ → Type 0 = λ i. get_or (set words (k * 8 + 8) 0) (i * 8 + 8) 0 ≡ total (λ u. count i u.held) (set views id w) in
             subst P (sym e) (let a = sums k in let b = t.one k lt in omega arith))
             (λ ne. let a = sums j in let b = t.turn j jt in let c = else j ne in let d = word_else j ne in omega arith);
         one = λ j jt. let a = sums j in let b = t.one j jt in omega arith;
@@ -145,9 +145,9 @@ module _ {Store E X W : Type 0} (m : Meaning Store E X W) where
 
   pub give_turn : (opened : List X × List W) (terms : Terms) (slots id k : ℕ) (v : View E X W) (c cs : List (ℕ × Slot X W)) (hs : List (ℕ × X)) (x y : X)
       → v.held ≡ (k, x) ∷ hs → c ≡ (k, Shard (Some y)) ∷ cs → Follows m v.since k x y
-      → Allows (HubRule m opened terms) slots id (v, c) (k + 1) (λ _. 0) (λ _. Gave (step slots (k + 1) 0 0 none) (v, c) 0)
+      → Allows (HubRule m opened terms) slots id (v, c) (k * 8 + 8) (λ _. 0) (λ _. Gave (step slots (k * 8 + 8) 0 0 none) (v, c) 0)
   give_turn opened terms slots id k v c cs hs x y has out goes =
-      let P : List (ℕ × X) → List (ℕ × Slot X W) → Type 0 = λ h d. Allows (HubRule m opened terms) slots id (view v.parts v.entries h v.since v.tally v.pile, d) (k + 1) (λ _. 0) (λ _. Gave (step slots (k + 1) 0 0 none) (view v.parts v.entries h v.since v.tally v.pile, d) 0) in
+      let P : List (ℕ × X) → List (ℕ × Slot X W) → Type 0 = λ h d. Allows (HubRule m opened terms) slots id (view v.parts v.entries h v.since v.tally v.pile, d) (k * 8 + 8) (λ _. 0) (λ _. Gave (step slots (k * 8 + 8) 0 0 none) (view v.parts v.entries h v.since v.tally v.pile, d) 0) in
       subst (λ h. P h c) (sym has) (subst (P ((k, x) ∷ hs)) (sym out) (λ s b len at fits. let lt : k < 64 = (b.turns.held id (view v.parts v.entries ((k, x) ∷ hs) v.since v.tally v.pile) at).0.0 in (
         view v.parts v.entries hs (since_after hs v.since) v.tally v.pile,
         gives,
@@ -155,26 +155,26 @@ module _ {Store E X W : Type 0} (m : Meaning Store E X W) where
         record {
           store = b.store;
           log = b.log;
-          wide = length-set s.words (k + 1) 0 ∙ b.wide;
+          wide = length-set s.words (k * 8 + 8) 0 ∙ b.wide;
           long = length-set s.homes k (some (Shard (Some y))) ∙ b.long;
           few = b.few;
           opens = b.opens;
           starts = b.starts;
           legal = b.legal;
           turns = turned_give _ s.words s.homes s.views id k v.parts v.entries hs v.since v.tally v.pile x y b.wide b.long at goes b.turns;
-          draws = books_stay terms.seats (things_of b.log) _ _ s.views id (view v.parts v.entries ((k, x) ∷ hs) v.since v.tally v.pile) (view v.parts v.entries hs (since_after hs v.since) v.tally v.pile) (get_or-set_other s.words (k + 1) 0 0 0 (λ e. omega arith)) at refl refl b.draws;
-          charges = charges_stay m.price terms (get_or s.words 65 0) _ s.views id (view v.parts v.entries ((k, x) ∷ hs) v.since v.tally v.pile) (view v.parts v.entries hs (since_after hs v.since) v.tally v.pile) (get_or-set_other s.words (k + 1) 65 0 0 (λ e. omega arith)) at refl refl refl refl b.charges;
-          stops = stops_stay m.faults (things_of b.log) (get_or s.words 66 0) _ s.views id (view v.parts v.entries ((k, x) ∷ hs) v.since v.tally v.pile) (view v.parts v.entries hs (since_after hs v.since) v.tally v.pile) (get_or-set_other s.words (k + 1) 66 0 0 (λ e. omega arith)) at refl refl b.stops;
+          draws = books_stay terms.seats (things_of b.log) _ _ s.views id (view v.parts v.entries ((k, x) ∷ hs) v.since v.tally v.pile) (view v.parts v.entries hs (since_after hs v.since) v.tally v.pile) (get_or-set_other s.words (k * 8 + 8) 0 0 0 (λ e. omega arith)) at refl refl b.draws;
+          charges = charges_stay m.price terms (get_or s.words 1 0) _ s.views id (view v.parts v.entries ((k, x) ∷ hs) v.since v.tally v.pile) (view v.parts v.entries hs (since_after hs v.since) v.tally v.pile) (get_or-set_other s.words (k * 8 + 8) 1 0 0 (λ e. omega arith)) at refl refl refl refl b.charges;
+          stops = stops_stay m.faults (things_of b.log) (get_or s.words 2 0) _ s.views id (view v.parts v.entries ((k, x) ∷ hs) v.since v.tally v.pile) (view v.parts v.entries hs (since_after hs v.since) v.tally v.pile) (get_or-set_other s.words (k * 8 + 8) 2 0 0 (λ e. omega arith)) at refl refl b.stops;
           desks = b.desks;
-          places = places_keep s.words (set s.words (k + 1) 0) s.homes (set s.homes k (some (Shard (Some y)))) b.desks s.views id (view v.parts v.entries ((k, x) ∷ hs) v.since v.tally v.pile) (view v.parts v.entries hs (since_after hs v.since) v.tally v.pile) at refl (λ d dt. get_or-set_other s.words (k + 1) (d + 68) 0 0 (λ e. omega arith)) (λ d dt. set_else s.homes k (d + 64) (some (Shard (Some y))) (λ e. omega arith)) b.places;
+          places = places_keep s.words (set s.words (k * 8 + 8) 0) s.homes (set s.homes k (some (Shard (Some y)))) b.desks s.views id (view v.parts v.entries ((k, x) ∷ hs) v.since v.tally v.pile) (view v.parts v.entries hs (since_after hs v.since) v.tally v.pile) at refl (λ d dt. get_or-set_other s.words (k * 8 + 8) (d * 8 + 528) 0 0 (λ e. omega arith)) (λ d dt. set_else s.homes k (d + 64) (some (Shard (Some y))) (λ e. omega arith)) b.places;
           works = works_keep m opened.1 b.log b.desks s.views id (view v.parts v.entries ((k, x) ∷ hs) v.since v.tally v.pile) (view v.parts v.entries hs (since_after hs v.since) v.tally v.pile) at refl b.works;
-          pending = pending_keep (length opened.1) (get_or s.words 67 0) _ b.desks s.views id (view v.parts v.entries ((k, x) ∷ hs) v.since v.tally v.pile) (view v.parts v.entries hs (since_after hs v.since) v.tally v.pile) (get_or-set_other s.words (k + 1) 67 0 0 (λ e. omega arith)) at refl b.pending;
+          pending = pending_keep (length opened.1) (get_or s.words 520 0) _ b.desks s.views id (view v.parts v.entries ((k, x) ∷ hs) v.since v.tally v.pile) (view v.parts v.entries hs (since_after hs v.since) v.tally v.pile) (get_or-set_other s.words (k * 8 + 8) 520 0 0 (λ e. omega arith)) at refl b.pending;
         },
         refl,
       )))
 
 -- what is known of a seat that has just taken the turn of k
-pub took_here : {E X W : Type 0} (slots k : ℕ) (a b : Me (Slot X W) (View E X W)) (r : ℕ) → Took (step slots (k + 1) 0 1 none) a r b → r ≡ 0
+pub took_here : {E X W : Type 0} (slots k : ℕ) (a b : Me (Slot X W) (View E X W)) (r : ℕ) → Took (step slots (k * 8 + 8) 0 1 none) a r b → r ≡ 0
     → (x : X) × (b ≡ (view a.0.parts a.0.entries ((k, x) ∷ a.0.held) a.0.since a.0.tally a.0.pile, (k, Shard (Some x)) ∷ a.1))
 took_here {X = X} slots k a b r h z = let g = h.0 z in
     let same : g.0 ≡ k = let e = g.2 in omega arith in

@@ -1,7 +1,8 @@
 -- What holds between any two steps of a hub, and what each step tells the seat that makes it.
--- Word 0 counts the entries drawn. Word k + 1 is 1 while a seat has the turn of shard k, and else 0. Slot k holds shard k while nobody has its turn.
--- Word 65 is the charged word. Word 66 is the stop word: 0 while the hub runs, 1 where it stops for want of memory, 2 where it stops for a fault. The other
--- words and slots are those of works, and word 100 is the bell.
+-- Word 0 counts the entries drawn. Word 8k + 8 is 1 while a seat has the turn of shard k, and else 0. Slot k holds shard k while nobody has its turn.
+-- Word 1 is the charged word. Word 2 is the stop word: 0 while the hub runs, 1 where it stops for want of memory, 2 where it stops for a fault. Word 520 and
+-- the words 8d + 528 are those of works. The rule says nothing of the others: word 784 is the bell, words 792 and 793 count those who sleep until it rings and
+-- those who sleep for a turn, and word 8d + 529 is 1 where nothing lay on desk d when its turn was last given back.
 use Rattle.std.specs.Prelude.{◌≡◌, ◌≢◌, ℕ, ◌+◌, ◌-◌, ◌*◌, ◌^◌, ◌<◌, ◌≤◌, ◌⊎◌, ◌==◌, Bool, true, false, cond, max, List, [], ◌∷◌, ◌++◌, length, slice_index, slice_get, Option, Some, None, nat_lt, ◌&&◌, map, drop}
 use mathlib.Core.Option.{some, none}
 use mathlib.Core.Option as opt
@@ -37,9 +38,9 @@ module _ {Store E X W : Type 0} (m : Meaning Store E X W) (now : Store) (words :
   -- Turns. A turn word names at most one seat, whose view names the turn. A shard whose turn is free is in its slot, and is the projection of the
   -- store now. A shard whose turn is held is so too, up to what the entries that its holder drew since may make of it.
   pub record TurnRule : Type 0 where
-    pub turn : (k : ℕ) → k < 64 → slice_index words (k + 1) ≡ total (λ v. count k v.held) views
+    pub turn : (k : ℕ) → k < 64 → slice_index words (k * 8 + 8) ≡ total (λ v. count k v.held) views
     pub one : (k : ℕ) → k < 64 → total (λ v. count k v.held) views < 2
-    pub home : (k : ℕ) → k < 64 → slice_index words (k + 1) ≡ 0 → (x : X) × (get_elem? homes k ≡ some (some (Shard (Some x)))) × m.projects now k x
+    pub home : (k : ℕ) → k < 64 → slice_index words (k * 8 + 8) ≡ 0 → (x : X) × (get_elem? homes k ≡ some (some (Shard (Some x)))) × m.projects now k x
     pub idle : (id : ℕ) (v : View E X W) → get_elem? views id ≡ some v → v.parts ≡ 0 → v.held ≡ []
     pub held : (id : ℕ) (v : View E X W) → get_elem? views id ≡ some v → Each (λ k x. (k < 64) × ((y : X) → Follows m v.since k x y → m.projects now k y)) v.held
 
@@ -94,7 +95,7 @@ piles_of views = map share_of views
 pub record HubRule {Store E X W : Type 0} (m : Meaning Store E X W) (opened : List X × List W) (terms : Terms) (s : State (Slot X W) (View E X W)) : Type 0 where
   pub store : Store
   pub log : List (ℕ × E)
-  pub wide : length s.words ≡ 101
+  pub wide : length s.words ≡ 800
   pub long : length s.homes ≡ 96
   pub few : terms.seats ≤ 32
   pub opens : (k : ℕ) (x : X) → get_elem? opened.0 k ≡ some x → m.projects store k x
@@ -102,16 +103,16 @@ pub record HubRule {Store E X W : Type 0} (m : Meaning Store E X W) (opened : Li
   pub legal : Allowed m store opened.1 log
   pub turns : TurnRule m (store_after m store (things_of log)) s.words s.homes s.views
   pub draws : DrawRule terms.seats (things_of log) (slice_index s.words 0) s.views
-  pub charges : ChargeRule m.price terms (slice_index s.words 65) s.views
-  pub stops : StopRule m.faults (things_of log) (slice_index s.words 66) s.views
+  pub charges : ChargeRule m.price terms (slice_index s.words 1) s.views
+  pub stops : StopRule m.faults (things_of log) (slice_index s.words 2) s.views
   pub desks : List (List (ℕ × W))
   pub places : DeskRule s.words s.homes desks (piles_of s.views)
   pub works : WorkRule m opened.1 log desks (piles_of s.views)
-  pub pending : PendRule (length opened.1) (slice_index s.words 67) desks (piles_of s.views)
+  pub pending : PendRule (length opened.1) (slice_index s.words 520) desks (piles_of s.views)
 
 -- a turn is taken, with what its slot holds, where the word was 0; else nothing changes
 abbrev pub Took : {E X W : Type 0} → Step (Slot X W) → Me (Slot X W) (View E X W) → ℕ → Me (Slot X W) (View E X W) → Type 0
-Took st a r b = (r ≡ 0 → (k : ℕ) × (x : _) × (st.word ≡ k + 1) × (b ≡ (view a.0.parts a.0.entries ((k, x) ∷ a.0.held) a.0.since a.0.tally a.0.pile, (k, Shard (Some x)) ∷ a.1))) × (r ≢ 0 → b ≡ a)
+Took st a r b = (r ≡ 0 → (k : ℕ) × (x : _) × (st.word ≡ k * 8 + 8) × (b ≡ (view a.0.parts a.0.entries ((k, x) ∷ a.0.held) a.0.since a.0.tally a.0.pile, (k, Shard (Some x)) ∷ a.1))) × (r ≢ 0 → b ≡ a)
 
 -- what is known of entries is forgotten with the last shard
 abbrev pub since_after : {E X : Type 0} → List (ℕ × X) → List E → List E
@@ -196,7 +197,7 @@ at_desk p d ps = pile p.kept p.taken p.offered p.took p.counted p.owes ((d, ps) 
 -- the turn of a desk is taken, with the works in its slot, where the word was 0; else nothing changes
 abbrev pub TookDesk : {E X W : Type 0} → Step (Slot X W) → Me (Slot X W) (View E X W) → ℕ → Me (Slot X W) (View E X W) → Type 0
 TookDesk {W = W} st a r b =
-    (r ≡ 0 → (d : ℕ) × (v : _) × (ps : List (ℕ × W)) × (st.word ≡ d + 68) × (v.items ≡ things_of ps) × (b ≡ (with_pile a.0 (at_desk a.0.pile d ps), (d + 64, Desk v) ∷ a.1))) × (r ≢ 0 → b ≡ a)
+    (r ≡ 0 → (d : ℕ) × (v : _) × (ps : List (ℕ × W)) × (st.word ≡ d * 8 + 528) × (v.items ≡ things_of ps) × (b ≡ (with_pile a.0 (at_desk a.0.pile d ps), (d + 64, Desk v) ∷ a.1))) × (r ≢ 0 → b ≡ a)
 
 -- the works that lay on the desk whose turn is held
 abbrev pub lying : {W : Type 0} → List (ℕ × List (ℕ × W)) → List (ℕ × W)

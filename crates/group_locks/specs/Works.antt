@@ -1,6 +1,6 @@
 -- Works that are pending: on desks and in hand. A work stands with its index, which is its place among all works.
--- Word 67 is the pending word, how many works are pending. Word d + 68 is 1 while a seat has the turn of desk d, and else 0. Slot d + 64 holds the works of
--- desk d while nobody has its turn.
+-- Word 520 is the pending word, how many works are pending. Word 8d + 528 is 1 while a seat has the turn of desk d, and else 0. Slot d + 64 holds the works
+-- of desk d while nobody has its turn.
 use Rattle.std.specs.Prelude.{◌≡◌, ℕ, ◌+◌, ◌*◌, ◌^◌, ◌<◌, ◌≤◌, Bool, true, false, List, [], ◌∷◌, ◌++◌, length, map, slice_index, slice_index_or, Some}
 use mathlib.Core.Option.{some}
 use mathlib.Core.Option as opt
@@ -8,7 +8,7 @@ use lib.ListN.{get_elem?}
 use Rattle.group_locks.specs.declared.view.Pile.{Pile}
 use Rattle.group_locks.specs.declared.slot.Slot.{Slot}
 use Rattle.group_locks.specs.declared.slot.Slot.TheVariants.{Shard, Desk}
-use Rattle.group_locks.specs.Counts.{count, total, once_below, Each, things_of}
+use Rattle.group_locks.specs.Counts.{count, total, once_below, all_of, Each, things_of}
 use Rattle.group_locks.specs.Meaning.{Meaning, offered, ended, taking}
 
 -- a pile, field by field
@@ -32,9 +32,9 @@ module _ {E X W : Type 0} (words : List ℕ) (homes : List (opt.Option (Slot X W
   -- Desks. The turn word of a desk names at most one seat, whose pile names the desk. Where the turn is free, the works are in the desk's slot.
   pub record DeskRule : Type 0 where
     pub many : length desks ≡ 32
-    pub turn : (d : ℕ) → d < 32 → slice_index words (d + 68) ≡ total (λ v. count d v.1.desk) piles
+    pub turn : (d : ℕ) → d < 32 → slice_index words (d * 8 + 528) ≡ total (λ v. count d v.1.desk) piles
     pub one : (d : ℕ) → d < 32 → total (λ v. count d v.1.desk) piles < 2
-    pub home : (d : ℕ) → d < 32 → slice_index words (d + 68) ≡ 0 → (v : _) × (ps : List (ℕ × W)) × (get_elem? homes (d + 64) ≡ some (some (Desk v))) × (get_elem? desks d ≡ some ps) × (v.items ≡ things_of ps)
+    pub home : (d : ℕ) → d < 32 → slice_index words (d * 8 + 528) ≡ 0 → (v : _) × (ps : List (ℕ × W)) × (get_elem? homes (d + 64) ≡ some (some (Desk v))) × (get_elem? desks d ≡ some ps) × (v.items ≡ things_of ps)
     pub held : (id : ℕ) (v : ℕ × Pile E W) → get_elem? piles id ≡ some v → Each (λ d ps. (d < 32) × (get_elem? desks d ≡ some ps)) v.1.desk
     pub idle : (id : ℕ) (v : ℕ × Pile E W) → get_elem? piles id ≡ some v → v.0 ≡ 0 → v.1.desk ≡ []
 
@@ -63,16 +63,18 @@ module _ {E W : Type 0} (opened pending : ℕ) (desks : List (List (ℕ × W))) 
     pub idle : (id : ℕ) (v : ℕ × Pile E W) → get_elem? piles id ≡ some v → v.0 ≡ 0 → v.1.left + v.1.fetched ≡ 0
     pub moved : total length desks + total (λ v. v.1.fetched) piles ≡ opened + total (λ v. v.1.left) piles
 
--- these slots are desks on which nothing lies
-abbrev pub NothingLies : {X W : Type 0} → List (Slot X W) → Type 0
-NothingLies [] = Unit {0}
-NothingLies (Shard x ∷ ss) = ⊥
-NothingLies (Desk v ∷ ss) = (v.items ≡ []) × NothingLies ss
+-- these slots are desks, on which these lists of works lie
+abbrev pub AreDesks : {X W : Type 0} → List (List W) → List (Slot X W) → Type 0
+AreDesks [] [] = Unit {0}
+AreDesks [] (s ∷ ss) = ⊥
+AreDesks (l ∷ ls) [] = ⊥
+AreDesks (l ∷ ls) (Shard x ∷ ss) = ⊥
+AreDesks (l ∷ ls) (Desk v ∷ ss) = (v.items ≡ l) × AreDesks ls ss
 
--- the slots of these shards, and of so many desks with the works on the first
+-- the slots of these shards, and of so many desks on which all these works lie, one after another
 abbrev pub Laid : {X W : Type 0} → ℕ → List X → List W → List (Slot X W) → Type 0
 Laid {X = X} {W = W} count shards works slots =
-    (first : _) × (rest : List (Slot X W)) × (slots ≡ (map (λ x. Shard (Some x)) shards ++ Desk first ∷ []) ++ rest) × (first.items ≡ works) × (length rest + 1 ≡ count) × NothingLies rest
+    (lists : List (List W)) × (desks : List (Slot X W)) × (slots ≡ map (λ x. Shard (Some x)) shards ++ desks) × AreDesks lists desks × (length lists ≡ count) × (all_of (λ l. l) lists ≡ works)
 
 -- the works of these lists lie on the desks, whose slots are from 64 on
 abbrev pub LiesOn : {X W : Type 0} → List (Slot X W) → List (List W) → Type 0

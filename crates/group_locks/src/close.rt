@@ -22,20 +22,20 @@ use crate::steps::{Board, CHARGED, STOP, Token};
 use crate::terms::StopCause;
 use std::alloc::{AllocError, Global};
 
-// Makes all seats one, and moves their entries into one list.
+// Makes all seats one, and hands out the lists of their entries.
 fn gather<S: Scene>(
     board: &Board<S>,
     seats: Vec<Seat<S>>,
     token: &mut Token<S>,
-    all: &mut Vec<(u64, S::Entry)>,
+    lists: &mut Vec<Vec<(u64, S::Entry)>>,
 )
     requires table { (token.old.table_id ≡ board.now.table_id) × (0 < board.now.table_id.words) }
-    requires start { (token.old.me ≡ (spent, [])) × (all.old.items ≡ []) }
+    requires start { (token.old.me ≡ (spent, [])) × (lists.old.items ≡ []) }
     requires seats { All (λ s. AtRest board.now.table_id s.state) seats.items }
-    requires room { total (λ s. length (drawn_by s.state)) seats.items ≤ vec_capacity all.old }
+    requires room { length seats.items ≤ vec_capacity lists.old }
     ensures same { token.new.table_id ≡ token.old.table_id }
-    ensures all { all.new.items ≡ all_of (λ s. drawn_by s.state) seats.items }
-    ensures view { token.new.me ≡ (view (32 * length seats.items) all.new.items [] [] (gathered (λ s. s.state) seats.items) (heap_of (λ s. s.state) seats.items), []) }
+    ensures all { all_of (λ l. l.items) lists.new.items ≡ all_of (λ s. drawn_by s.state) seats.items }
+    ensures view { token.new.me ≡ (view (32 * length seats.items) (all_of (λ l. l.items) lists.new.items) [] [] (gathered (λ s. s.state) seats.items) (heap_of (λ s. s.state) seats.items), []) }
 {
     for seat in seats {
         let Seat { state } = seat;
@@ -44,9 +44,10 @@ fn gather<S: Scene>(
             entries,
             desk: _,
             moved: _,
+            turns: _,
         } = state;
         board.join_seat::<Merge>(token, other);
-        move_all(entries, all);
+        lists.push_reserved(entries);
     }
 }
 
@@ -108,7 +109,7 @@ fn take_left<X: Drop, W: Drop>(
 // What a hub leaves, with the entries as the seats drew them.
 #[derive(Drop)]
 struct Ended<S: Scene> {
-    entries: Vec<(u64, S::Entry)>,
+    lists: Vec<Vec<(u64, S::Entry)>>,
     shards: Vec<S::Shard>,
     left: Vec<S::Work>,
     charged: u64,
@@ -119,17 +120,17 @@ struct Ended<S: Scene> {
 fn end<S: Scene>(
     hub: Hub<S>,
     seats: Vec<Seat<S>>,
-    mut entries: Vec<(u64, S::Entry)>,
+    mut lists: Vec<Vec<(u64, S::Entry)>>,
     shards: Vec<S::Shard>,
     left: Vec<S::Work>,
 ) -> Ended<S>
     requires seats { All (λ s. AtRest hub.table.shared.table_id s.state) seats.items }
     requires count { length seats.items ≡ seat_count hub.table.shared.key }
     requires left { (left.items ≡ []) × FitsLeft (length (opened_works hub.table.shared.key)) (λ s. s.state) seats.items (vec_capacity left) }
-    requires room { (entries.items ≡ []) × (total (λ s. length (drawn_by s.state)) seats.items ≤ vec_capacity entries) × (shards.items ≡ []) × (64 ≤ vec_capacity shards) }
-    ensures entries { result.entries.items ≡ all_of (λ s. drawn_by s.state) seats.items }
+    requires room { (lists.items ≡ []) × (length seats.items ≤ vec_capacity lists) × (shards.items ≡ []) × (64 ≤ vec_capacity shards) }
+    ensures entries { all_of (λ l. l.items) result.lists.items ≡ all_of (λ s. drawn_by s.state) seats.items }
     ensures shards { length result.shards.items ≡ 64 }
-    ensures ran { RanBy S.meaning (opened_shards hub.table.shared.key) (opened_works hub.table.shared.key) result.entries.items result.shards.items result.left.items (all_of (λ s. hand_of s.state) seats.items) (FaultCause S.meaning.faults result.stop) }
+    ensures ran { RanBy S.meaning (opened_shards hub.table.shared.key) (opened_works hub.table.shared.key) (all_of (λ l. l.items) result.lists.items) result.shards.items result.left.items (all_of (λ s. hand_of s.state) seats.items) (FaultCause S.meaning.faults result.stop) }
     ensures empty { All (λ s. 0 < empty_of s.state → (result.left.items ≡ []) × (all_of (λ t. hand_of t.state) seats.items ≡ [])) seats.items }
     ensures paid { result.charged ≡ spent_of hub.table.shared.key + total (λ s. cost S.meaning.price (charged_by s.state)) seats.items }
     ensures bounded { spent_of hub.table.shared.key + total (λ s. cost S.meaning.price (settled_by s.state)) seats.items ≤ max (spent_of hub.table.shared.key) (limit_of hub.table.shared.key) }
@@ -145,7 +146,7 @@ fn end<S: Scene>(
         work: _,
     } = hub;
     let mut token = table.shared.load_new_seat::<Enter>(0).1;
-    gather(&table.shared, seats, &mut token, &mut entries);
+    gather(&table.shared, seats, &mut token, &mut lists);
     let closed = table.close_with(token);
     let charged = closed.word(CHARGED);
     let stop_word = closed.word(STOP);
@@ -153,7 +154,7 @@ fn end<S: Scene>(
     let (shards, closed) = take_shards(closed, shards);
     let left = take_left(closed, left);
     Ended {
-        entries,
+        lists,
         shards,
         left,
         charged,
@@ -174,7 +175,7 @@ pub struct Closed<S: Scene> {
 // Room for what a hub leaves.
 #[derive(Drop)]
 struct Room<S: Scene> {
-    drawn: Vec<(u64, S::Entry)>,
+    drawn: Vec<Vec<(u64, S::Entry)>>,
     places: Vec<Option<S::Entry>>,
     entries: Vec<S::Entry>,
     shards: Vec<S::Shard>,
@@ -186,7 +187,7 @@ fn end_in_order<S: Scene>(hub: Hub<S>, seats: Vec<Seat<S>>, room: Room<S>) -> Cl
     requires seats { All (λ s. AtRest hub.table.shared.table_id s.state) seats.items }
     requires count { length seats.items ≡ seat_count hub.table.shared.key }
     requires left { (room.left.items ≡ []) × FitsLeft (length (opened_works hub.table.shared.key)) (λ s. s.state) seats.items (vec_capacity room.left) }
-    requires drawn { (room.drawn.items ≡ []) × (total (λ s. length (drawn_by s.state)) seats.items ≤ vec_capacity room.drawn) }
+    requires drawn { (room.drawn.items ≡ []) × (length seats.items ≤ vec_capacity room.drawn) }
     requires shards { (room.shards.items ≡ []) × (64 ≤ vec_capacity room.shards) }
     requires order { (length room.places.items ≡ total (λ s. length (drawn_by s.state)) seats.items) × (room.entries.items ≡ []) × (length room.places.items ≤ vec_capacity room.entries) }
     ensures count { length result.entries.items ≡ total (λ s. length (drawn_by s.state)) seats.items }
@@ -210,7 +211,7 @@ fn end_in_order<S: Scene>(hub: Hub<S>, seats: Vec<Seat<S>>, room: Room<S>) -> Cl
         left,
     } = room;
     let Ended {
-        entries: drawn,
+        lists: drawn,
         shards,
         left,
         charged,
@@ -259,25 +260,30 @@ impl<S: Scene> Hub<S> {
 
 // Room for what these seats and the desks leave, of so many works at the start.
 fn room_to_end<S: Scene>(seats: &Vec<Seat<S>>, start: u64) -> Option<Room<S>>
-    ensures drawn { IfSome result (λ r. (r.drawn.items ≡ []) × (total (λ s. length (drawn_by s.state)) seats.now.items ≤ vec_capacity r.drawn)) }
+    ensures drawn { IfSome result (λ r. (r.drawn.items ≡ []) × (length seats.now.items ≤ vec_capacity r.drawn)) }
     ensures order { IfSome result (λ r. (length r.places.items ≡ total (λ s. length (drawn_by s.state)) seats.now.items) × (r.entries.items ≡ []) × (length r.places.items ≤ vec_capacity r.entries)) }
     ensures shards { IfSome result (λ r. (r.shards.items ≡ []) × (64 ≤ vec_capacity r.shards)) }
     ensures left { IfSome result (λ r. (r.left.items ≡ []) × FitsLeft start (λ s. s.state) seats.now.items (vec_capacity r.left)) }
 {
     let count = entry_count(seats)?;
     let standing = left_count(seats, start);
-    room_for(*seats.allocator(), count, standing as usize).ok()
+    room_for(*seats.allocator(), seats.len(), count, standing as usize).ok()
 }
 
-// Room for so many entries, all shards and so many works.
-fn room_for<S: Scene>(alloc: Global, count: usize, standing: usize) -> Result<Room<S>, AllocError>
-    ensures drawn { IfOk result (λ r. (r.drawn.items ≡ []) × (count ≤ vec_capacity r.drawn)) }
+// Room for the lists of so many seats, so many entries, all shards and so many works.
+fn room_for<S: Scene>(
+    alloc: Global,
+    seats: usize,
+    count: usize,
+    standing: usize,
+) -> Result<Room<S>, AllocError>
+    ensures drawn { IfOk result (λ r. (r.drawn.items ≡ []) × (seats ≤ vec_capacity r.drawn)) }
     ensures order { IfOk result (λ r. (length r.places.items ≡ count) × (r.entries.items ≡ []) × (count ≤ vec_capacity r.entries)) }
     ensures shards { IfOk result (λ r. (r.shards.items ≡ []) × (64 ≤ vec_capacity r.shards)) }
     ensures left { IfOk result (λ r. (r.left.items ≡ []) × (standing ≤ vec_capacity r.left)) }
 {
     Ok(Room {
-        drawn: Vec::with_capacity(alloc, count)?,
+        drawn: Vec::with_capacity(alloc, seats)?,
         places: empty_places(alloc, count)?,
         entries: Vec::with_capacity(alloc, count)?,
         shards: Vec::with_capacity(alloc, 64)?,

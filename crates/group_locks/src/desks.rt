@@ -9,24 +9,27 @@ use crate::order::move_all;
 use crate::rule::{Fetch, FindPending, Leave, Ring, TakeDesk, Tell};
 use crate::scene::Scene;
 use crate::slot::Slot;
-use crate::steps::{BELL, Board, DESK, DESK_TURN, PENDING, Token};
+use crate::steps::{ASLEEP, BELL, Board, DESK, DESK_TURN, LINE, MARK, PENDING, Token, WAITING};
 use std::alloc::Global;
 use std::sync::Wait;
 
 // Adds this to the pending word, modulo 2^64, and answers what it was.
 pub fn tell<S: Scene>(board: &Board<S>, token: &mut Token<S>, offers: u64) -> u64
-    requires table { (token.old.table_id ≡ board.now.table_id) × (board.now.table_id.words ≡ 101) }
+    requires table { (token.old.table_id ≡ board.now.table_id) × (board.now.table_id.words ≡ 800) }
     requires owes { token.old.me.0.pile.owes ≡ true }
     requires offers { offers ≡ (length (hand token.old.me.0.pile) + (2 ^ 64 - token.old.me.0.pile.counted)) % 2 ^ 64 }
     ensures same { (token.new.table_id ≡ token.old.table_id) × (token.new.id ≡ token.old.id) }
     ensures told { token.new.me ≡ (with_pile token.old.me.0 (tells_of token.old.me.0.pile), token.old.me.1) }
 {
+    if offers == 0 {
+        return board.load::<Tell>(token, PENDING);
+    }
     board.fetch_add::<Tell>(token, PENDING, offers)
 }
 
 // Reads the pending word.
 pub fn read_pending<S: Scene>(board: &Board<S>, token: &mut Token<S>) -> u64
-    requires table { (token.old.table_id ≡ board.now.table_id) × (board.now.table_id.words ≡ 101) }
+    requires table { (token.old.table_id ≡ board.now.table_id) × (board.now.table_id.words ≡ 800) }
     ensures same { (token.new.table_id ≡ token.old.table_id) × (token.new.id ≡ token.old.id) }
     ensures none { result ≡ 0 → token.new.me ≡ (with_pile token.old.me.0 (saw_empty token.old.me.0.pile), token.old.me.1) }
     ensures some { 0 < result → token.new.me ≡ token.old.me }
@@ -34,31 +37,94 @@ pub fn read_pending<S: Scene>(board: &Board<S>, token: &mut Token<S>) -> u64
     board.load::<FindPending>(token, PENDING)
 }
 
-// Rings the bell where that is wanted, and wakes all that wait for it.
-pub fn ring<S: Scene>(board: &Board<S>, token: &mut Token<S>, wanted: bool)
-    requires table { (token.old.table_id ≡ board.now.table_id) × (board.now.table_id.words ≡ 101) }
+// Rings the bell, and wakes one that waits for it, or all, where any seat does.
+fn ring_for<S: Scene>(board: &Board<S>, token: &mut Token<S>, all: bool)
+    requires table { (token.old.table_id ≡ board.now.table_id) × (board.now.table_id.words ≡ 800) }
     ensures same { (token.new.table_id ≡ token.old.table_id) × (token.new.id ≡ token.old.id) × (token.new.me ≡ token.old.me) }
 {
-    if !wanted {
+    board.fetch_add::<Ring>(token, BELL, 1);
+    if board.peek(WAITING) == 0 {
         return;
     }
-    board.fetch_add::<Ring>(token, BELL, 1);
-    board.wake_all(BELL);
+    if all {
+        board.wake_all(BELL);
+    } else {
+        board.wake_one(BELL);
+    }
+}
+
+// Rings the bell where that is wanted, and wakes all that wait for it.
+pub fn ring<S: Scene>(board: &Board<S>, token: &mut Token<S>, wanted: bool)
+    requires table { (token.old.table_id ≡ board.now.table_id) × (board.now.table_id.words ≡ 800) }
+    ensures same { (token.new.table_id ≡ token.old.table_id) × (token.new.id ≡ token.old.id) × (token.new.me ≡ token.old.me) }
+{
+    if wanted {
+        ring_for(board, token, true);
+    }
+}
+
+// Wakes one that sleeps for this turn, where any seat sleeps for a turn.
+pub fn wake_turn<S: Scene>(board: &Board<S>, word: usize)
+    requires { (board.now.table_id.words ≡ 800) × (word < 800) }
+{
+    if board.peek(ASLEEP) != 0 {
+        board.wake_one(word);
+    }
+}
+
+// Sleeps on this word, and is counted in that one meanwhile.
+fn sleep<S: Scene, R: Wait>(
+    rt: &R,
+    board: &Board<S>,
+    token: &mut Token<S>,
+    counted: usize,
+    word: usize,
+    expected: u32,
+)
+    requires table { (token.old.table_id ≡ board.now.table_id) × (board.now.table_id.words ≡ 800) }
+    requires words { (784 ≤ counted) × (counted < 800) × (word < 800) }
+    ensures same { (token.new.table_id ≡ token.old.table_id) × (token.new.id ≡ token.old.id) × (token.new.me ≡ token.old.me) }
+{
+    board.fetch_add::<Ring>(token, counted, 1);
+    board.park(rt, word, expected);
+    board.fetch_add::<Ring>(token, counted, u64::MAX);
+}
+
+// Sleeps while the turn of this word is taken.
+pub fn sleep_for_turn<S: Scene, R: Wait>(
+    rt: &R,
+    board: &Board<S>,
+    token: &mut Token<S>,
+    word: usize,
+)
+    requires table { (token.old.table_id ≡ board.now.table_id) × (board.now.table_id.words ≡ 800) }
+    requires word { word < 800 }
+    ensures same { (token.new.table_id ≡ token.old.table_id) × (token.new.id ≡ token.old.id) × (token.new.me ≡ token.old.me) }
+{
+    sleep(rt, board, token, ASLEEP, word, 1);
+}
+
+// Sleeps until the bell, which was read as this, rings.
+pub fn sleep_for_bell<S: Scene, R: Wait>(rt: &R, board: &Board<S>, token: &mut Token<S>, bell: u64)
+    requires table { (token.old.table_id ≡ board.now.table_id) × (board.now.table_id.words ≡ 800) }
+    ensures same { (token.new.table_id ≡ token.old.table_id) × (token.new.id ≡ token.old.id) × (token.new.me ≡ token.old.me) }
+{
+    sleep(rt, board, token, WAITING, BELL, (bell & 0xffff_ffff) as u32);
 }
 
 // Takes the turn of a desk, and the works out of its slot.
 fn take_desk<S: Scene, R: Wait>(rt: &R, board: &Board<S>, token: &mut Token<S>, desk: u32)
-    requires table { (token.old.table_id ≡ board.now.table_id) × (board.now.table_id.words ≡ 101) }
+    requires table { (token.old.table_id ≡ board.now.table_id) × (board.now.table_id.words ≡ 800) }
     requires desk { (desk < 32) × (token.old.me.0.pile.desk ≡ []) × (0 < token.old.me.0.parts) }
     ensures same { (token.new.table_id ≡ token.old.table_id) × (token.new.id ≡ token.old.id) }
     ensures taken { (v : _) × (ps : _) × (token.new.me ≡ (with_pile token.old.me.0 (at_desk token.old.me.0.pile desk ps), (desk + 64, Slot.Desk v) ∷ token.old.me.1)) × (v.items ≡ things_of ps) }
 {
-    let word = desk as usize + DESK_TURN;
+    let word = desk as usize * LINE + DESK_TURN;
     for _ in rt.forever() {
         if board.compare_exchange::<TakeDesk>(token, word, 0, 1) == 0 {
             return;
         }
-        board.park(rt, word, 1);
+        sleep_for_turn(rt, board, token, word);
     }
     unreachable!()
 }
@@ -84,15 +150,29 @@ fn desk_out<S: Scene>(
     works
 }
 
-// Puts works on the desk whose turn is held.
+// Puts works on the desk whose turn is held, and marks the desk where there are none.
 fn desk_in<S: Scene>(board: &Board<S>, token: &mut Token<S>, desk: u32, works: Vec<S::Work>)
-    requires table { token.old.table_id ≡ board.now.table_id }
+    requires table { (token.old.table_id ≡ board.now.table_id) × (board.now.table_id.words ≡ 800) }
     requires held { (old : _) × (token.old.me.1 ≡ (desk + 64, Slot.Desk old) ∷ rest token.old.me.1) }
     requires low { desk < 32 }
     ensures same { (token.new.table_id ≡ token.old.table_id) × (token.new.id ≡ token.old.id) }
     ensures left { token.new.me ≡ (token.old.me.0, (desk + 64, Slot.Desk works) ∷ rest token.old.me.1) }
 {
+    let mark = if works.is_empty() { 1 } else { 0 };
     board.exchange(token, desk as usize + DESK, Slot::Desk(works));
+    put_mark(board, token, desk, mark);
+}
+
+// Marks the desk, whose turn is held: 1 where nothing lies on it.
+fn put_mark<S: Scene>(board: &Board<S>, token: &mut Token<S>, desk: u32, mark: u64)
+    requires table { (token.old.table_id ≡ board.now.table_id) × (board.now.table_id.words ≡ 800) }
+    requires low { desk < 32 }
+    ensures same { (token.new.table_id ≡ token.old.table_id) × (token.new.id ≡ token.old.id) × (token.new.me ≡ token.old.me) }
+{
+    let word = desk as usize * LINE + MARK;
+    if board.peek(word) != mark {
+        board.store::<Ring>(token, word, mark);
+    }
 }
 
 // Gives the turn of a desk back, where these works and the one taken, if there is one, lay on it.
@@ -103,7 +183,7 @@ fn give_desk<S: Scene>(
     works: Vec<S::Work>,
     taken: &Option<S::Work>,
 )
-    requires table { (token.old.table_id ≡ board.now.table_id) × (board.now.table_id.words ≡ 101) }
+    requires table { (token.old.table_id ≡ board.now.table_id) × (board.now.table_id.words ≡ 800) }
     requires held { (old : _) × (token.old.me.1 ≡ (desk + 64, Slot.Desk old) ∷ rest token.old.me.1) }
     requires desk { (ps : _) × (token.old.me.0.pile.desk ≡ (desk, ps) ∷ []) × (things_of ps ≡ works.items ++ option_to_list taken.now) }
     requires low { (desk < 32) × (32 ≤ token.old.me.0.parts) × (token.old.me.0.pile.owes ≡ false) }
@@ -114,8 +194,8 @@ fn give_desk<S: Scene>(
 {
     let _ = taken;
     desk_in(board, token, desk, works);
-    board.store::<Fetch>(token, desk as usize + DESK_TURN, 0);
-    board.wake_one(desk as usize + DESK_TURN);
+    board.store::<Fetch>(token, desk as usize * LINE + DESK_TURN, 0);
+    wake_turn(board, desk as usize * LINE + DESK_TURN);
 }
 
 // Takes a work from a desk, if one lies there.
@@ -126,7 +206,7 @@ fn fetch_work<S: Scene, R: Wait>(
     token: &mut Token<S>,
     desk: u32,
 ) -> Option<S::Work>
-    requires table { (token.old.table_id ≡ board.now.table_id) × (board.now.table_id.words ≡ 101) }
+    requires table { (token.old.table_id ≡ board.now.table_id) × (board.now.table_id.words ≡ 800) }
     requires desk { (desk < 32) × (token.old.me.0.pile.desk ≡ []) × (32 ≤ token.old.me.0.parts) × (token.old.me.0.pile.owes ≡ false) }
     requires idle { hand token.old.me.0.pile ≡ [] }
     ensures same { (token.new.table_id ≡ token.old.table_id) × (token.new.id ≡ token.old.id) }
@@ -140,6 +220,27 @@ fn fetch_work<S: Scene, R: Wait>(
     taken
 }
 
+// Takes a work from a desk, if one lies there. The turn is not taken where the desk is marked as empty.
+fn fetch_unmarked<S: Scene, R: Wait>(
+    rt: &R,
+    alloc: Global,
+    board: &Board<S>,
+    token: &mut Token<S>,
+    desk: u32,
+) -> Option<S::Work>
+    requires table { (token.old.table_id ≡ board.now.table_id) × (board.now.table_id.words ≡ 800) }
+    requires desk { (desk < 32) × (token.old.me.0.pile.desk ≡ []) × (32 ≤ token.old.me.0.parts) × (token.old.me.0.pile.owes ≡ false) }
+    requires idle { hand token.old.me.0.pile ≡ [] }
+    ensures same { (token.new.table_id ≡ token.old.table_id) × (token.new.id ≡ token.old.id) }
+    ensures some { IfSome result (λ w. (i : ℕ) × (token.new.me ≡ (with_pile token.old.me.0 (takes_up token.old.me.0.pile ((i, w) ∷ [])), token.old.me.1))) }
+    ensures none { IfNone result (token.new.me ≡ token.old.me) }
+{
+    if board.peek(desk as usize * LINE + MARK) == 1 {
+        return None;
+    }
+    fetch_work(rt, alloc, board, token, desk)
+}
+
 // Takes a work from the first desk, from this one on, where one lies.
 pub fn look_round<S: Scene, R: Wait>(
     rt: &R,
@@ -149,7 +250,7 @@ pub fn look_round<S: Scene, R: Wait>(
     first: u32,
     desks: u32,
 ) -> Option<S::Work>
-    requires table { (token.old.table_id ≡ board.now.table_id) × (board.now.table_id.words ≡ 101) }
+    requires table { (token.old.table_id ≡ board.now.table_id) × (board.now.table_id.words ≡ 800) }
     requires desk { (first < 32) × (1 ≤ desks) × (desks ≤ 32) × (token.old.me.0.pile.desk ≡ []) × (32 ≤ token.old.me.0.parts) × (token.old.me.0.pile.owes ≡ false) }
     requires idle { hand token.old.me.0.pile ≡ [] }
     ensures same { (token.new.table_id ≡ token.old.table_id) × (token.new.id ≡ token.old.id) }
@@ -157,7 +258,7 @@ pub fn look_round<S: Scene, R: Wait>(
     ensures none { IfNone result (token.new.me ≡ token.old.me) }
 {
     for step in 0..desks {
-        if let Some(work) = fetch_work(rt, alloc, board, token, (first + step) % desks) {
+        if let Some(work) = fetch_unmarked(rt, alloc, board, token, (first + step) % desks) {
             return Some(work);
         }
     }
@@ -166,7 +267,7 @@ pub fn look_round<S: Scene, R: Wait>(
 
 // Gives the turn of a desk back, where these works lie on it, of which the last are those that were offered.
 fn give_left<S: Scene>(board: &Board<S>, token: &mut Token<S>, desk: u32, works: Vec<S::Work>)
-    requires table { (token.old.table_id ≡ board.now.table_id) × (board.now.table_id.words ≡ 101) }
+    requires table { (token.old.table_id ≡ board.now.table_id) × (board.now.table_id.words ≡ 800) }
     requires held { (old : _) × (token.old.me.1 ≡ (desk + 64, Slot.Desk old) ∷ rest token.old.me.1) }
     requires desk { (ps : _) × (token.old.me.0.pile.desk ≡ (desk, ps) ∷ []) × (works.items ≡ things_of ps ++ things_of token.old.me.0.pile.offered) }
     requires low { (desk < 32) × (32 ≤ token.old.me.0.parts) × (token.old.me.0.pile.owes ≡ false) × (length works.items ≤ 2 ^ 58) }
@@ -174,8 +275,8 @@ fn give_left<S: Scene>(board: &Board<S>, token: &mut Token<S>, desk: u32, works:
     ensures left { token.new.me ≡ (with_pile token.old.me.0 (leaves token.old.me.0.pile), rest token.old.me.1) }
 {
     desk_in(board, token, desk, works);
-    board.store::<Leave>(token, desk as usize + DESK_TURN, 0);
-    board.wake_one(desk as usize + DESK_TURN);
+    board.store::<Leave>(token, desk as usize * LINE + DESK_TURN, 0);
+    wake_turn(board, desk as usize * LINE + DESK_TURN);
 }
 
 // Reserves room for so many further works, of 2^58 at most.
@@ -195,7 +296,7 @@ pub fn leave_works<S: Scene, R: Wait>(
     desk: u32,
     ops: Vec<S::Work>,
 ) -> Result<(), Vec<S::Work>>
-    requires table { (token.old.table_id ≡ board.now.table_id) × (board.now.table_id.words ≡ 101) }
+    requires table { (token.old.table_id ≡ board.now.table_id) × (board.now.table_id.words ≡ 800) }
     requires desk { (desk < 32) × (token.old.me.0.pile.desk ≡ []) × (32 ≤ token.old.me.0.parts) × (token.old.me.0.pile.owes ≡ false) }
     requires ops { ops.items ≡ things_of token.old.me.0.pile.offered }
     ensures same { (token.new.table_id ≡ token.old.table_id) × (token.new.id ≡ token.old.id) }
@@ -208,8 +309,9 @@ pub fn leave_works<S: Scene, R: Wait>(
         give_desk(board, token, desk, works, &None);
         return Err(ops);
     }
+    let many = ops.len() != 1;
     move_all(ops, &mut works);
     give_left(board, token, desk, works);
-    ring(board, token, true);
+    ring_for(board, token, many);
     Ok(())
 }

@@ -1,5 +1,6 @@
 //! The hub, which all seats share.
-ghost use Rattle.std.specs.Prelude.{◌≡◌, ℕ, ◌≤◌, ◌<◌, ◌^◌, [], Some, IfOk, length, map};
+ghost use Rattle.std.specs.Prelude.{◌≡◌, ℕ, ◌≤◌, ◌<◌, ◌^◌, ◌++◌, [], Some, IfOk, length, map};
+ghost use Rattle.std.specs.Vec.Iter.{into_iter_items};
 ghost use Rattle.std.specs.List.{All};
 ghost use Rattle.group_locks.specs.Counts.{Projected};
 ghost use Rattle.group_locks.specs.Rule.{newcomer, blank};
@@ -17,6 +18,7 @@ use crate::view::View;
 use atomic_table::Table;
 use std::alloc::{AllocError, Global};
 use std::snapshot::Snapshot;
+use std::vec::IntoIter;
 
 /// The turns and the slots of 64 shards, the count of entries drawn, what is charged, and the stop. Each step on them is one atomic step, and there is no lock round the whole.
 #[derive(Drop)]
@@ -33,7 +35,7 @@ pub struct Hub<S: Scene> {
     pub(crate) terms: Terms,
     pub(crate) work: usize,
     ghost dealt: { work ≡ length table.shared.key.works.value.items },
-    ghost wide: { table.shared.table_id.words ≡ 101 },
+    ghost wide: { table.shared.table_id.words ≡ 800 },
     ghost long: { table.shared.table_id.slots ≡ 96 },
     ghost few: { (1 ≤ terms.seats) × (terms.seats ≤ 32) },
     ghost agreed: { terms ≡ table.shared.key.terms },
@@ -68,10 +70,10 @@ impl<S: Scene> Hub<S> {
             terms,
         };
         let count = work.len();
-        let mut words = [0u64; 101];
+        let mut words = [0u64; 800];
         words[CHARGED] = terms.spent;
         words[PENDING] = count as u64;
-        let slots = slots_of(alloc, shards, work)?;
+        let slots = slots_of(alloc, shards, work, terms.seats)?;
         match Table::new(alloc, &words, slots, &key) {
             Ok((table, token)) => Ok((
                 Hub {
@@ -87,7 +89,7 @@ impl<S: Scene> Hub<S> {
     }
 
     /// A hub over these 64 shards, in the order of their numbers, with 1 to 32 seats. There is a store that the shards project, and with which and these works
-    /// a hub may open. The works lie on the first desk. `spent` is what was charged before, and seats may go on while no more than `limit` is charged. The
+    /// a hub may open. The works are dealt out to the desks of the seats. `spent` is what was charged before, and seats may go on while no more than `limit` is charged. The
     /// only error is want of memory; the arguments are then gone.
     pub fn start(
         alloc: Global,
@@ -138,24 +140,58 @@ fn new_seat<S: Scene>(alloc: Global, token: Token<S>, desk: u32) -> Seat<S>
             entries: Vec::new(alloc),
             desk,
             moved: 0,
+            turns: 0,
         },
     }
 }
 
-// The slots of these shards, with the works on the first desk and nothing on the others.
+// The slots of these shards, and of 32 desks. As many desks as seats share the works.
 fn slots_of<X: Drop, W: Drop>(
     alloc: Global,
     shards: Vec<X>,
     work: Vec<W>,
+    seats: u32,
 ) -> Result<Vec<Slot<X, W>>, AllocError>
+    requires { 1 ≤ seats }
     ensures { IfOk result (λ v. Laid 32 shards.items work.items v.items) }
 {
+    let share = work.len().div_ceil(seats as usize);
     let mut slots = all_shards(alloc, shards)?;
-    slots.push(Slot::Desk(work))?;
-    for _ in 1..32u32 {
-        slots.push(Slot::Desk(Vec::new(alloc)))?;
+    let mut works = work.into_iter();
+    for _ in 0..31u32 {
+        slots.push(Slot::Desk(take_some(alloc, &mut works, share)?))?;
     }
+    slots.push(Slot::Desk(take_rest(alloc, works)?))?;
     Ok(slots)
+}
+
+// Moves so many things out, or all where there are no more.
+fn take_some<T: Drop>(
+    alloc: Global,
+    things: &mut IntoIter<T>,
+    count: usize,
+) -> Result<Vec<T>, AllocError>
+    ensures { IfOk result (λ v. v.items ++ into_iter_items things.new ≡ into_iter_items things.old) }
+{
+    let mut some = Vec::with_capacity(alloc, count.min(things.len()))?;
+    for _ in 0..count {
+        let Some(thing) = things.next() else {
+            return Ok(some);
+        };
+        some.push(thing)?;
+    }
+    Ok(some)
+}
+
+// Moves all out.
+fn take_rest<T: Drop>(alloc: Global, things: IntoIter<T>) -> Result<Vec<T>, AllocError>
+    ensures { IfOk result (λ v. v.items ≡ into_iter_items things) }
+{
+    let mut rest = Vec::with_capacity(alloc, things.len())?;
+    for thing in things {
+        rest.push(thing)?;
+    }
+    Ok(rest)
 }
 
 fn all_shards<X: Drop, W: Drop>(

@@ -1,6 +1,6 @@
 //! Puts numbered things in their order.
 ghost use Rattle.std.specs.Prelude.{◌≡◌, ℕ, ◌+◌, ◌<◌, ◌≤◌, ◌++◌, List, [], None, Some, Option, IsSome, length, map, replicate, IfOk, slice_get, vec_len, vec_capacity};
-ghost use Rattle.group_locks.specs.Counts.{count, once_below, placed, Each};
+ghost use Rattle.group_locks.specs.Counts.{count, once_below, placed, all_of, Each};
 
 use std::alloc::{AllocError, Global};
 
@@ -37,6 +37,17 @@ fn place_all<T: Drop>(mut places: Vec<Option<T>>, things: Vec<(u64, T)>) -> Vec<
     places
 }
 
+// Puts each thing of these lists at its number. A list is freed once its things are placed.
+fn place_lists<T: Drop>(mut places: Vec<Option<T>>, lists: Vec<Vec<(u64, T)>>) -> Vec<Option<T>>
+    requires { (n : ℕ) → length places.items ≤ n → count n (all_of (λ l. l.items) lists.items) ≡ 0 }
+    ensures { result.items ≡ placed places.items (all_of (λ l. l.items) lists.items) }
+{
+    for list in lists {
+        places = place_all(places, list);
+    }
+    places
+}
+
 fn unwrap_all<T: Drop>(places: Vec<Option<T>>, mut out: Vec<T>) -> Vec<T>
     requires full { (k : ℕ) → k < length places.items → (x : T) × (slice_get places.items k ≡ Some (Some x)) }
     requires room { (out.items ≡ []) × (length places.items ≤ vec_capacity out) }
@@ -50,10 +61,10 @@ fn unwrap_all<T: Drop>(places: Vec<Option<T>>, mut out: Vec<T>) -> Vec<T>
 }
 
 /// The things in the order of their numbers, each of which stands once.
-pub fn in_order<T: Drop>(places: Vec<Option<T>>, things: Vec<(u64, T)>, out: Vec<T>) -> Vec<T>
-    requires once { (n : ℕ) → count n things.items ≡ once_below n (length places.items) }
+pub fn in_order<T: Drop>(places: Vec<Option<T>>, lists: Vec<Vec<(u64, T)>>, out: Vec<T>) -> Vec<T>
+    requires once { (n : ℕ) → count n (all_of (λ l. l.items) lists.items) ≡ once_below n (length places.items) }
     requires room { (out.items ≡ []) × (length places.items ≤ vec_capacity out) }
-    ensures { (length result.items ≡ length places.items) × Each (λ n x. slice_get result.items n ≡ Some x) things.items }
+    ensures { (length result.items ≡ length places.items) × Each (λ n x. slice_get result.items n ≡ Some x) (all_of (λ l. l.items) lists.items) }
 {
-    unwrap_all(place_all(places, things), out)
+    unwrap_all(place_lists(places, lists), out)
 }

@@ -8,7 +8,7 @@ ghost use Rattle.group_locks.specs.Meaning.{AllFollow};
 ghost use Rattle.group_locks.specs.Works.{hand};
 ghost use Rattle.group_locks.specs.Seats.{home_of, pile_of, hand_of, taken_by, offered_by, took_by, empty_of, drawn_by, held_by, since_of, tally_of, charged_by, due_of, low_of, over_of, unset_of, found_of, stops_of, HasLeave, HasRoom, SameRoom};
 
-use crate::desks::{leave_works, look_round, read_pending, ring, tell};
+use crate::desks::{leave_works, look_round, read_pending, ring, sleep_for_bell, tell};
 use crate::hub::Hub;
 use crate::scene::Scene;
 use crate::state::SeatState;
@@ -41,14 +41,7 @@ impl<S: Scene> Seat<S> {
         ensures turns { (k : ℕ) → count k (held_by self.new.state) ≡ bit_at shards k }
         ensures carries { Carries S.meaning [] (held_by self.new.state) (S.in_hand held.new) }
     {
-        take_turns(
-            rt,
-            &hub.scene,
-            &hub.table.shared,
-            &mut self.state.token,
-            held,
-            shards,
-        );
+        take_group_at(rt, hub, &mut self.state, held, shards);
     }
 
     /// Moves all shards in hand home, and gives their turns back. They are as they were when their turns were taken, changed by what this seat drew since.
@@ -63,7 +56,7 @@ impl<S: Scene> Seat<S> {
         ensures free { held_by self.new.state ≡ [] }
         ensures empty { (k : ℕ) → S.in_hand held.new k ≡ None }
     {
-        give_turns(&hub.scene, &hub.table.shared, &mut self.state.token, held);
+        give_group_at(hub, &mut self.state, held);
     }
 
     /// Reserves room for one further entry. All else stays as it was. The only error is want of memory, which an entry past 2^58 is too.
@@ -226,9 +219,65 @@ impl<S: Scene> Seat<S> {
     }
 }
 
+fn take_group_at<S: Scene, R: Wait>(
+    rt: &R,
+    hub: &Hub<S>,
+    state: &mut SeatState<S::Entry, S::Shard, S::Work>,
+    held: &mut S::Held,
+    shards: u64,
+)
+    requires hub { home_of state.old ≡ hub.now.table.shared.table_id }
+    requires free { held_by state.old ≡ [] }
+    requires empty { (k : ℕ) → S.in_hand held.old k ≡ None }
+    ensures hub { home_of state.new ≡ home_of state.old }
+    ensures drawn { drawn_by state.new ≡ drawn_by state.old }
+    ensures since { since_of state.new ≡ [] }
+    ensures tally { tally_of state.new ≡ tally_of state.old }
+    ensures works { pile_of state.new ≡ pile_of state.old }
+    ensures room { SameRoom state.old state.new }
+    ensures turns { (k : ℕ) → count k (held_by state.new) ≡ bit_at shards k }
+    ensures carries { Carries S.meaning [] (held_by state.new) (S.in_hand held.new) }
+{
+    take_turns(
+        rt,
+        &hub.scene,
+        &hub.table.shared,
+        &mut state.token,
+        held,
+        shards,
+    );
+    state.turns = shards;
+}
+
+fn give_group_at<S: Scene>(
+    hub: &Hub<S>,
+    state: &mut SeatState<S::Entry, S::Shard, S::Work>,
+    held: &mut S::Held,
+)
+    requires hub { home_of state.old ≡ hub.now.table.shared.table_id }
+    requires carries { Carries S.meaning (since_of state.old) (held_by state.old) (S.in_hand held.old) }
+    ensures hub { home_of state.new ≡ home_of state.old }
+    ensures drawn { drawn_by state.new ≡ drawn_by state.old }
+    ensures room { SameRoom state.old state.new }
+    ensures tally { tally_of state.new ≡ tally_of state.old }
+    ensures works { pile_of state.new ≡ pile_of state.old }
+    ensures free { held_by state.new ≡ [] }
+    ensures empty { (k : ℕ) → S.in_hand held.new k ≡ None }
+{
+    let shards = state.turns;
+    give_turns(
+        &hub.scene,
+        &hub.table.shared,
+        &mut state.token,
+        held,
+        shards,
+    );
+    state.turns = 0;
+}
+
 // Reads the stop word and the charged word.
 fn may_go_at<S: Scene>(board: &Board<S>, token: &mut Token<S>, limit: u64) -> bool
-    requires table { (token.old.table_id ≡ board.now.table_id) × (board.now.table_id.words ≡ 101) }
+    requires table { (token.old.table_id ≡ board.now.table_id) × (board.now.table_id.words ≡ 800) }
     requires limit { limit ≡ board.now.key.terms.limit }
     ensures same { (token.new.table_id ≡ token.old.table_id) × (token.new.id ≡ token.old.id) }
     ensures view { token.new.me ≡ (with_tally token.old.me.0 token.new.me.0.tally, token.old.me.1) }
@@ -251,7 +300,7 @@ fn commit_at<S: Scene>(
     entry: S::Entry,
     offers: u64,
 ) -> u64
-    requires table { (state.old.token.table_id ≡ board.now.table_id) × (board.now.table_id.words ≡ 101) }
+    requires table { (state.old.token.table_id ≡ board.now.table_id) × (board.now.table_id.words ≡ 800) }
     requires leave { (state.old.token.me.0.tally.leave ≡ true) × (state.old.token.me.0.tally.due ≡ []) }
     requires room { (vec_len state.old.entries < vec_capacity state.old.entries) × (vec_len state.old.entries < 2 ^ 58) }
     requires within { (k : ℕ) → S.meaning.touched entry k ≡ true → 0 < count k state.old.token.me.0.held }
@@ -273,7 +322,7 @@ fn draw_and_tell<S: Scene>(
     entry: &S::Entry,
     offers: u64,
 ) -> u64
-    requires table { (token.old.table_id ≡ board.now.table_id) × (board.now.table_id.words ≡ 101) }
+    requires table { (token.old.table_id ≡ board.now.table_id) × (board.now.table_id.words ≡ 800) }
     requires may { MayDraw S.meaning token.old.me.0 entry.now }
     requires counted { token.old.me.0.pile.counted ≡ 1 }
     requires offers { offers ≡ (length (S.meaning.offers entry.now) + (2 ^ 64 - one_if (S.meaning.ends entry.now))) % 2 ^ 64 }
@@ -295,7 +344,7 @@ fn find_work<S: Scene, R: Wait>(
     desk: u32,
     terms: Terms,
 ) -> Option<S::Work>
-    requires table { (token.old.table_id ≡ board.now.table_id) × (board.now.table_id.words ≡ 101) }
+    requires table { (token.old.table_id ≡ board.now.table_id) × (board.now.table_id.words ≡ 800) }
     requires terms { (terms.limit ≡ board.now.key.terms.limit) × (1 ≤ terms.seats) × (terms.seats ≤ 32) }
     requires desk { (desk < 32) × (token.old.me.0.pile.desk ≡ []) × (32 ≤ token.old.me.0.parts) × (token.old.me.0.pile.owes ≡ false) }
     requires idle { hand token.old.me.0.pile ≡ [] }
@@ -317,7 +366,7 @@ fn find_work<S: Scene, R: Wait>(
         if read_pending(board, token) == 0 {
             return None;
         }
-        board.park(rt, BELL, (bell & 0xffff_ffff) as u32);
+        sleep_for_bell(rt, board, token, bell);
     }
     unreachable!()
 }
@@ -328,7 +377,7 @@ fn take_at<S: Scene, R: Wait>(
     state: &mut SeatState<S::Entry, S::Shard, S::Work>,
     terms: Terms,
 ) -> Option<S::Work>
-    requires table { (state.old.token.table_id ≡ board.now.table_id) × (board.now.table_id.words ≡ 101) }
+    requires table { (state.old.token.table_id ≡ board.now.table_id) × (board.now.table_id.words ≡ 800) }
     requires terms { (terms.limit ≡ board.now.key.terms.limit) × (1 ≤ terms.seats) × (terms.seats ≤ 32) }
     requires idle { hand state.old.token.me.0.pile ≡ [] }
     ensures hub { state.new.token.table_id ≡ state.old.token.table_id }
@@ -353,7 +402,7 @@ fn leave_at<S: Scene, R: Wait>(
     state: &mut SeatState<S::Entry, S::Shard, S::Work>,
     ops: Vec<S::Work>,
 ) -> Result<(), Vec<S::Work>>
-    requires table { (state.old.token.table_id ≡ board.now.table_id) × (board.now.table_id.words ≡ 101) }
+    requires table { (state.old.token.table_id ≡ board.now.table_id) × (board.now.table_id.words ≡ 800) }
     requires ops { ops.items ≡ things_of state.old.token.me.0.pile.offered }
     ensures hub { state.new.token.table_id ≡ state.old.token.table_id }
     ensures room { (vec_len state.new.entries ≡ vec_len state.old.entries) × (vec_capacity state.new.entries ≡ vec_capacity state.old.entries) }

@@ -1,5 +1,7 @@
 //! The state of a seat.
-ghost use Rattle.std.specs.Prelude.{◌≡◌, ◌+◌, ◌%◌, ◌^◌, ◌<◌, ◌≤◌, ◌++◌, true, false, [], length};
+ghost use Rattle.std.specs.Prelude.{◌≡◌, ℕ, ◌+◌, ◌%◌, ◌^◌, ◌<◌, ◌≤◌, ◌++◌, true, false, [], length};
+ghost use Rattle.std.specs.Int.{bit_at};
+ghost use Rattle.group_locks.specs.Counts.{count};
 ghost use Rattle.group_locks.specs.Rule.{emptied, below, descends};
 ghost use Rattle.group_locks.specs.Works.{hand};
 
@@ -15,10 +17,13 @@ pub struct SeatState<E, X, W> {
     pub(crate) desk: u32,
     // How many works it left on desks, less those that it took, modulo 2^64.
     pub(crate) moved: u64,
+    // The bits of the shards whose turn it holds.
+    pub(crate) turns: u64,
     ghost near: { desk < 32 },
     ghost told: { entries.items ≡ token.me.0.entries },
     ghost out: { token.me.1 ≡ emptied token.me.0.held },
     ghost falls: { (below 64 token.me.0.held ≡ true) × (descends token.me.0.held ≡ true) },
+    ghost bits: { (k : ℕ) → k < 64 → bit_at turns k ≡ count k token.me.0.held },
     ghost part: { token.me.0.parts ≡ 32 },
     ghost fresh: { token.me.0.held ≡ [] → token.me.0.since ≡ [] },
     ghost owed: { token.me.0.entries ≡ (token.me.0.tally.settled ++ token.me.0.tally.fresh) ++ token.me.0.tally.due },

@@ -7,7 +7,7 @@ ghost use Rattle.group_locks.specs.Meaning.{Follows};
 ghost use Rattle.group_locks.specs.Stops.{code_of, HasFault};
 ghost use Rattle.atomic_table.specs.Table.{rest};
 
-use crate::desks::ring;
+use crate::desks::{ring, sleep_for_turn, wake_turn};
 use crate::rule::{
     Draw, FindCharged, FindStop, Give, Halt, Limiting, Naming, Opened, Pay, Rule, Take,
 };
@@ -39,13 +39,13 @@ fn take_turn<S: Scene, R: Wait>(
     number: u32,
 ) -> S::Shard
     requires table { token.old.table_id ≡ board.now.table_id }
-    requires counts { (board.now.table_id.words ≡ 101) × (number < 64) }
+    requires counts { (board.now.table_id.words ≡ 800) × (number < 64) }
     requires fresh { (token.old.me.0.since ≡ []) × (0 < token.old.me.0.parts) }
     ensures same { (token.new.table_id ≡ token.old.table_id) × (token.new.id ≡ token.old.id) }
     ensures view { token.new.me.0 ≡ view token.old.me.0.parts token.old.me.0.entries ((number, result) ∷ token.old.me.0.held) token.old.me.0.since token.old.me.0.tally token.old.me.0.pile }
     ensures out { token.new.me.1 ≡ (number, Slot.Shard None) ∷ token.old.me.1 }
 {
-    let word = number as usize + 1;
+    let word = number as usize * LINE + TURN;
     for _ in rt.forever() {
         if board.compare_exchange::<Take>(token, word, 0, 1) == 0 {
             let Slot::Shard(Some(shard)) = board.exchange(token, number as usize, Slot::Shard(None))
@@ -54,7 +54,7 @@ fn take_turn<S: Scene, R: Wait>(
             };
             return shard;
         }
-        board.park(rt, word, 1);
+        sleep_for_turn(rt, board, token, word);
     }
     unreachable!()
 }
@@ -69,7 +69,7 @@ pub fn take_turns<S: Scene, R: Wait>(
     shards: u64,
 )
     requires table { token.old.table_id ≡ board.now.table_id }
-    requires counts { board.now.table_id.words ≡ 101 }
+    requires counts { board.now.table_id.words ≡ 800 }
     requires part { 0 < token.old.me.0.parts }
     requires fresh { (token.old.me.0.held ≡ []) × (token.old.me.0.since ≡ []) × (token.old.me.1 ≡ []) }
     requires none { (k : ℕ) → S.in_hand held.old k ≡ None }
@@ -80,18 +80,19 @@ pub fn take_turns<S: Scene, R: Wait>(
     ensures carries { Carries S.meaning [] token.new.me.0.held (S.in_hand held.new) }
     ensures numbers { (k : ℕ) → k < 64 → count k token.new.me.0.held ≡ bit_at shards k }
 {
-    for number in 0..64u32 {
-        if (shards >> number) % 2 == 1 {
-            let shard = take_turn(rt, board, token, number);
-            scene.add(held, number, shard);
-        }
+    let mut rest = shards;
+    while rest != 0 {
+        let number = rest.trailing_zeros();
+        let shard = take_turn(rt, board, token, number);
+        scene.add(held, number, shard);
+        rest &= !(1 << number);
     }
 }
 
 // Gives back the turn that was taken last, with this shard.
 fn give_turn<S: Scene>(board: &Board<S>, token: &mut Token<S>, number: u32, shard: S::Shard)
     requires table { token.old.table_id ≡ board.now.table_id }
-    requires counts { board.now.table_id.words ≡ 101 }
+    requires counts { board.now.table_id.words ≡ 800 }
     requires number { number < 64 }
     requires out { token.old.me.1 ≡ emptied token.old.me.0.held }
     requires top { (found : S.Shard) × (token.old.me.0.held ≡ (number, found) ∷ rest token.old.me.0.held) × Follows S.meaning token.old.me.0.since number found shard }
@@ -100,27 +101,36 @@ fn give_turn<S: Scene>(board: &Board<S>, token: &mut Token<S>, number: u32, shar
     ensures out { token.new.me.1 ≡ emptied token.new.me.0.held }
 {
     board.exchange(token, number as usize, Slot::Shard(Some(shard)));
-    board.store::<Give>(token, number as usize + 1, 0);
-    board.wake_one(number as usize + 1);
+    board.store::<Give>(token, number as usize * LINE + TURN, 0);
+    wake_turn(board, number as usize * LINE + TURN);
 }
 
-// Moves all shards in hand home, and gives their turns back.
-pub fn give_turns<S: Scene>(scene: &S, board: &Board<S>, token: &mut Token<S>, held: &mut S::Held)
-    requires table { (token.old.table_id ≡ board.now.table_id) × (board.now.table_id.words ≡ 101) }
+// Moves all shards in hand home, and gives their turns back: those whose bits are set.
+pub fn give_turns<S: Scene>(
+    scene: &S,
+    board: &Board<S>,
+    token: &mut Token<S>,
+    held: &mut S::Held,
+    shards: u64,
+)
+    requires table { (token.old.table_id ≡ board.now.table_id) × (board.now.table_id.words ≡ 800) }
     requires since { token.old.me.0.held ≡ [] → token.old.me.0.since ≡ [] }
     requires out { token.old.me.1 ≡ emptied token.old.me.0.held }
     requires falls { (below 64 token.old.me.0.held ≡ true) × (descends token.old.me.0.held ≡ true) }
     requires carries { Carries S.meaning token.old.me.0.since token.old.me.0.held (S.in_hand held.old) }
+    requires numbers { (k : ℕ) → k < 64 → bit_at shards k ≡ count k token.old.me.0.held }
     ensures same { (token.new.table_id ≡ token.old.table_id) × (token.new.id ≡ token.old.id) }
     ensures view { token.new.me ≡ (view token.old.me.0.parts token.old.me.0.entries [] [] token.old.me.0.tally token.old.me.0.pile, []) }
     ensures none { (k : ℕ) → S.in_hand held.new k ≡ None }
 {
-    let mut number = 64u32;
-    while number > 0 {
-        number -= 1;
-        if let Some(shard) = scene.remove(held, number) {
-            give_turn(board, token, number, shard);
-        }
+    let mut rest = shards;
+    while rest != 0 {
+        let number = rest.ilog2();
+        let Some(shard) = scene.remove(held, number) else {
+            unreachable!()
+        };
+        give_turn(board, token, number, shard);
+        rest &= !(1 << number);
     }
 }
 
@@ -130,7 +140,7 @@ fn draw_as<S: Scene, J: Naming<S::Entry>>(
     token: &mut Token<S>,
     entry: &S::Entry,
 ) -> u64
-    requires table { (token.old.table_id ≡ board.now.table_id) × (board.now.table_id.words ≡ 101) }
+    requires table { (token.old.table_id ≡ board.now.table_id) × (board.now.table_id.words ≡ 800) }
     requires named { J.entry ≡ Some entry.now }
     requires may { MayDraw S.meaning token.old.me.0 entry.now }
     ensures same { (token.new.table_id ≡ token.old.table_id) × (token.new.id ≡ token.old.id) }
@@ -142,7 +152,7 @@ fn draw_as<S: Scene, J: Naming<S::Entry>>(
 
 // Draws the entry.
 pub fn draw<S: Scene>(board: &Board<S>, token: &mut Token<S>, entry: &S::Entry) -> u64
-    requires table { (token.old.table_id ≡ board.now.table_id) × (board.now.table_id.words ≡ 101) }
+    requires table { (token.old.table_id ≡ board.now.table_id) × (board.now.table_id.words ≡ 800) }
     requires may { MayDraw S.meaning token.old.me.0 entry.now }
     ensures same { (token.new.table_id ≡ token.old.table_id) × (token.new.id ≡ token.old.id) }
     ensures drawn { (base : ℕ) × (token.new.me ≡ (after_draw S.meaning token.old.me.0 result entry.now base, token.old.me.1)) }
@@ -150,22 +160,37 @@ pub fn draw<S: Scene>(board: &Board<S>, token: &mut Token<S>, entry: &S::Entry) 
     draw_as::<S, Brand>(board, token, entry)
 }
 
-pub const CHARGED: usize = 65;
+// Words that lie on one line of a cache. Words that different seats write lie on lines of their own.
+pub const LINE: usize = 8;
 
-pub const STOP: usize = 66;
+// The word of the turn of the first shard.
+pub const TURN: usize = 8;
 
-pub const PENDING: usize = 67;
+pub const CHARGED: usize = 1;
 
-pub const BELL: usize = 100;
+pub const STOP: usize = 2;
+
+pub const PENDING: usize = 520;
+
+pub const BELL: usize = 784;
+
+// How many seats sleep until the bell rings, or are about to.
+pub const WAITING: usize = 792;
+
+// How many seats sleep for a turn, or are about to.
+pub const ASLEEP: usize = 793;
 
 // The first slot of a desk, and the word of its turn.
 pub const DESK: usize = 64;
 
-pub const DESK_TURN: usize = 68;
+pub const DESK_TURN: usize = 528;
+
+// The first word of those that mark desks: 1 where nothing lay on the desk when its turn was last given back.
+pub const MARK: usize = 529;
 
 // Adds the price of what is due to the charged word, and rings the bell where that passes the limit.
 pub fn pay<S: Scene>(board: &Board<S>, token: &mut Token<S>, price: u64, limit: u64)
-    requires table { (token.old.table_id ≡ board.now.table_id) × (board.now.table_id.words ≡ 101) }
+    requires table { (token.old.table_id ≡ board.now.table_id) × (board.now.table_id.words ≡ 800) }
     requires part { token.old.me.0.parts ≡ 32 }
     requires due { (price ≡ cost S.meaning.price token.old.me.0.tally.due) × (price ≤ 2 ^ 56) }
     requires clear { length token.old.me.0.tally.fresh ≡ 0 }
@@ -182,7 +207,7 @@ pub fn pay<S: Scene>(board: &Board<S>, token: &mut Token<S>, price: u64, limit: 
 
 // Reads the charged word, under the limit that the proof names.
 fn read_charged_as<S: Scene, J: Limiting>(board: &Board<S>, token: &mut Token<S>) -> u64
-    requires table { (token.old.table_id ≡ board.now.table_id) × (board.now.table_id.words ≡ 101) }
+    requires table { (token.old.table_id ≡ board.now.table_id) × (board.now.table_id.words ≡ 800) }
     requires named { J.limit ≡ board.now.key.terms.limit }
     ensures same { (token.new.table_id ≡ token.old.table_id) × (token.new.id ≡ token.old.id) }
     ensures over { board.now.key.terms.limit < result → token.new.me ≡ (with_tally token.old.me.0 (saw_over token.old.me.0.tally), token.old.me.1) }
@@ -195,7 +220,7 @@ fn read_charged_as<S: Scene, J: Limiting>(board: &Board<S>, token: &mut Token<S>
 
 // Reads the charged word.
 pub fn read_charged<S: Scene>(board: &Board<S>, token: &mut Token<S>) -> u64
-    requires table { (token.old.table_id ≡ board.now.table_id) × (board.now.table_id.words ≡ 101) }
+    requires table { (token.old.table_id ≡ board.now.table_id) × (board.now.table_id.words ≡ 800) }
     ensures same { (token.new.table_id ≡ token.old.table_id) × (token.new.id ≡ token.old.id) }
     ensures over { board.now.key.terms.limit < result → token.new.me ≡ (with_tally token.old.me.0 (saw_over token.old.me.0.tally), token.old.me.1) }
     ensures low { result ≤ board.now.key.terms.limit → token.new.me ≡ (with_tally token.old.me.0 (saw_low token.old.me.0.tally), token.old.me.1) }
@@ -207,7 +232,7 @@ pub fn read_charged<S: Scene>(board: &Board<S>, token: &mut Token<S>) -> u64
 
 // Reads the stop word.
 pub fn read_stop<S: Scene>(board: &Board<S>, token: &mut Token<S>) -> u64
-    requires table { (token.old.table_id ≡ board.now.table_id) × (board.now.table_id.words ≡ 101) }
+    requires table { (token.old.table_id ≡ board.now.table_id) × (board.now.table_id.words ≡ 800) }
     ensures same { (token.new.table_id ≡ token.old.table_id) × (token.new.id ≡ token.old.id) }
     ensures low { result ≤ 2 }
     ensures found { token.new.me ≡ (with_tally token.old.me.0 (saw_stop token.old.me.0.tally result), token.old.me.1) }
@@ -217,7 +242,7 @@ pub fn read_stop<S: Scene>(board: &Board<S>, token: &mut Token<S>) -> u64
 
 // Sets the stop word and rings the bell, if it was not set.
 pub fn halt<S: Scene>(board: &Board<S>, token: &mut Token<S>, cause: StopCause) -> u64
-    requires table { (token.old.table_id ≡ board.now.table_id) × (board.now.table_id.words ≡ 101) }
+    requires table { (token.old.table_id ≡ board.now.table_id) × (board.now.table_id.words ≡ 800) }
     requires fault { cause ≡ StopCause.Fault → HasFault S.meaning.faults token.old.me.0.entries }
     ensures same { (token.new.table_id ≡ token.old.table_id) × (token.new.id ≡ token.old.id) }
     ensures low { result ≤ 2 }

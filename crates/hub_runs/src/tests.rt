@@ -1,182 +1,18 @@
-ghost use Rattle.std.specs.Prelude.{◌≡◌, ◌≢◌, ℕ, ◌<◌, true, [], ◌+◌, ◌-◌, ◌%◌, ◌^◌, ◌≤◌, ◌∷◌, None, Some, IfOk, length, slice_index_or, slice_get};
+ghost use Rattle.std.specs.Prelude.{◌≡◌, ℕ, ◌<◌, ◌^◌, ◌≤◌, IfOk, length};
 ghost use Rattle.std.specs.List.{All};
-ghost use Rattle.group_locks.specs.Counts.{count, things_of};
-ghost use Rattle.group_locks.specs.Rule.{Carries};
-ghost use Rattle.group_locks.specs.Seats.{home_of, held_by, since_of, due_of, hand_of, taken_by, offered_by, HasLeave, HasRoom, AtRest, IsIdle};
-ghost use Rattle.hub_runs.specs.Numbers.{numbers, touches, offer, lawful};
+ghost use Rattle.group_locks.specs.Seats.{AtRest, IsIdle};
 
-use group_locks::{Closed, Hub, Pool, Scene, Seat, StopCause};
+use group_locks::{Closed, Hub, Pool, Seat, StopCause};
+use number_hub::{Busy, Hand, Numbers, do_work, side_by_side, zeros};
 use std::alloc::{AllocError, Global};
 use std::sync::Wait;
 use std::test::*;
-use std::thread;
 use std::thread::Threads;
 
-struct Numbers;
-
-impl Drop for Numbers {
-    fn drop(self) {
-        let Numbers = self;
-    }
-}
-
-#[derive(Drop)]
-struct Hand {
-    rows: [Option<u64>; 64],
-}
-
-impl Hand {
-    fn empty() -> Hand
-        ensures { (k : ℕ) → slice_index_or result.rows k None ≡ None }
-    {
-        Hand { rows: [None; 64] }
-    }
-
-    fn put(&mut self, number: u32, x: u64)
-        requires { number < 64 }
-        ensures here { slice_index_or self.new.rows number None ≡ Some x }
-        ensures others { (k : ℕ) → k ≢ number → slice_index_or self.new.rows k None ≡ slice_index_or self.old.rows k None }
-    {
-        self.rows[number as usize] = Some(x);
-    }
-
-    fn get(&self, number: u32) -> Option<u64>
-        requires { number < 64 }
-        ensures { result ≡ slice_index_or self.now.rows number None }
-    {
-        self.rows[number as usize]
-    }
-}
-
-impl Scene for Numbers {
-    type Entry = u64;
-
-    type Work = u64;
-
-    type Shard = u64;
-
-    type Held = Hand;
-
-    ghost Store = { ℕ → ℕ };
-
-    ghost meaning = { numbers };
-
-    ghost in_hand = { λ held k. slice_index_or held.rows k None };
-
-    fn add(&self, held: &mut Hand, number: u32, shard: u64) {
-        held.put(number, shard);
-    }
-
-    fn remove(&self, held: &mut Hand, number: u32) -> Option<u64> {
-        held.rows[number as usize].take()
-    }
-
-    fn touches(&self, entry: &u64) -> u64 {
-        1 << (*entry % 64)
-    }
-
-    ghost lawful = { lawful };
-}
-
-// Draws the work, where its number is in hand and has space.
-fn draw_work(hub: &Hub<Numbers>, seat: &mut Seat<Numbers>, hand: &mut Hand, work: u64) -> bool
-    requires hub { home_of seat.old.state ≡ hub.now.table.shared.table_id }
-    requires leave { HasLeave seat.old.state × HasRoom seat.old.state }
-    requires charged { due_of seat.old.state ≡ [] }
-    requires work { (index : ℕ) × (taken_by seat.old.state ≡ (index, work) ∷ []) × (offered_by seat.old.state ≡ []) }
-    requires within { (k : ℕ) → touches work k ≡ true → 0 < count k (held_by seat.old.state) }
-    requires since { since_of seat.old.state ≡ [] }
-    requires carries { Carries numbers [] (held_by seat.old.state) (λ k. slice_index_or hand.old.rows k None) }
-    ensures hub { home_of seat.new.state ≡ home_of seat.old.state }
-    ensures carries { Carries numbers (since_of seat.new.state) (held_by seat.new.state) (λ k. slice_index_or hand.new.rows k None) }
-    ensures charged { due_of seat.new.state ≡ [] }
-    ensures drawn { result ≡ true → (taken_by seat.new.state ≡ []) × (things_of (offered_by seat.new.state) ≡ offer work) }
-{
-    let number = (work % 64) as u32;
-    let Some(x) = hand.get(number) else {
-        return false;
-    };
-    if x >= u64::MAX {
-        return false;
-    }
-    hand.put(number, x + 1);
-    seat.commit(hub, hand, work, more_works(work));
-    seat.charge(hub, 1);
-    true
-}
-
-// How many works a work offers less the one that it ends, modulo 2^64.
-fn more_works(work: u64) -> u64
-    ensures { result ≡ (length (offer work) + (2 ^ 64 - 1)) % 2 ^ 64 }
-{
-    if work < 64 { u64::MAX } else { 0 }
-}
-
-// Does one work under the turn of its shard, and leaves the work that it offers. False where memory was wanting.
-fn do_work<R: Wait>(
-    rt: &R,
-    alloc: Global,
-    hub: &Hub<Numbers>,
-    seat: &mut Seat<Numbers>,
-    hand: &mut Hand,
-    work: u64,
-) -> bool
-    requires seat { AtRest hub.now.table.shared.table_id seat.old.state × (due_of seat.old.state ≡ []) }
-    requires leave { HasLeave seat.old.state × HasRoom seat.old.state }
-    requires work { (index : ℕ) × (taken_by seat.old.state ≡ (index, work) ∷ []) × (offered_by seat.old.state ≡ []) }
-    requires empty { (k : ℕ) → slice_index_or hand.old.rows k None ≡ None }
-    ensures seat { AtRest hub.now.table.shared.table_id seat.new.state × (due_of seat.new.state ≡ []) }
-    ensures empty { (k : ℕ) → slice_index_or hand.new.rows k None ≡ None }
-    ensures left { result ≡ true → hand_of seat.new.state ≡ [] }
-{
-    let Ok(ops) = offered_works(alloc, work) else {
-        return false;
-    };
-    seat.take_group(rt, hub, hand, Numbers.touches(&work));
-    let drawn = draw_work(hub, seat, hand, work);
-    seat.give_group(hub, hand);
-    if !drawn {
-        return false;
-    }
-    let Ok(()) = seat.leave_ops(rt, hub, ops) else {
-        return false;
-    };
-    true
-}
-
-// The works that a work offers.
-fn offered_works(alloc: Global, work: u64) -> Result<Vec<u64>, AllocError>
-    ensures { IfOk result (λ v. v.items ≡ offer work) }
-{
-    let mut ops = Vec::new(alloc);
-    if work < 64 {
-        return Ok(ops);
-    }
-    ops.push(work - 64)?;
-    Ok(ops)
-}
-
-// Does works until there is an end.
-fn work_through<R: Wait>(
-    rt: &R,
-    alloc: Global,
-    hub: &Hub<Numbers>,
-    mut seat: Seat<Numbers>,
-) -> Seat<Numbers>
-    requires { IsIdle hub.now.table.shared.table_id seat.state }
-    ensures { AtRest hub.now.table.shared.table_id result.state }
-{
-    let mut hand = Hand::empty();
-    for _ in rt.forever() {
-        let Some(work) = seat.take_op(rt, hub) else {
-            return seat;
-        };
-        if !do_work(rt, alloc, hub, &mut seat, &mut hand, work) {
-            return seat;
-        }
-    }
-    unreachable!()
-}
+const AT_ONCE: Busy = Busy {
+    inside: 0,
+    outside: 0,
+};
 
 // Does up to three works and then stops the hub.
 fn work_and_stop<R: Wait>(
@@ -193,40 +29,12 @@ fn work_and_stop<R: Wait>(
         let Some(work) = seat.take_op(rt, hub) else {
             return seat;
         };
-        if !do_work(rt, alloc, hub, &mut seat, &mut hand, work) {
+        if !do_work(rt, alloc, hub, &mut seat, &mut hand, work, AT_ONCE) {
             return seat;
         }
     }
     seat.stop(hub, StopCause::NoMemory);
     seat
-}
-
-// Each seat in a thread of its own.
-fn side_by_side<R: Threads + Wait + Sync>(
-    rt: &R,
-    alloc: Global,
-    hub: &Hub<Numbers>,
-    seats: Vec<Seat<Numbers>>,
-) -> Result<Vec<Seat<Numbers>>, AllocError>
-    requires { All (λ s. IsIdle hub.now.table.shared.table_id s.state) seats.items }
-    ensures count { IfOk result (λ v. length v.items ≡ length seats.items) }
-    ensures each { IfOk result (λ v. All (λ s. AtRest hub.now.table.shared.table_id s.state) v.items) }
-{
-    thread::map_vec(
-        rt,
-        seats,
-        &|seat: Seat<Numbers>| -> Seat<Numbers>
-            requires { IsIdle hub.now.table.shared.table_id seat.state }
-            ensures { AtRest hub.entry.now.table.shared.table_id result.state }
-        { work_through(rt, alloc, hub, seat) },
-    )
-}
-
-fn zeros(alloc: Global) -> Result<Vec<u64>, AllocError>
-    ensures count { IfOk result (λ v. length v.items ≡ 64) }
-    ensures zero { IfOk result (λ v. (k : ℕ) (x : ℕ) → slice_get v.items k ≡ Some x → 0 ≡ x) }
-{
-    vec![in alloc; 0u64; 64]
 }
 
 // The works below this number.
@@ -287,7 +95,7 @@ fn worked<R: Threads + Wait + Sync>(
     let shards = zeros(alloc)?;
     let work = works(alloc, count)?;
     let Pool { hub, seats } = Hub::start(alloc, Numbers, shards, work, seats, 0, limit)?;
-    let seats = side_by_side(rt, alloc, &hub, seats)?;
+    let seats = side_by_side(rt, alloc, &hub, seats, AT_ONCE)?;
     let Ok(closed) = hub.close(seats) else {
         return Err(AllocError);
     };
@@ -310,7 +118,7 @@ fn one_seat_does_all_works(rt: HostRuntime) -> Result<(), Fail> {
     let shards = zeros(rt.alloc())?;
     let work = works(rt.alloc(), 128)?;
     let Pool { hub, seats } = Hub::start(rt.alloc(), Numbers, shards, work, 1, 0, 1000)?;
-    let seats = side_by_side(&rt, rt.alloc(), &hub, seats)?;
+    let seats = side_by_side(&rt, rt.alloc(), &hub, seats, AT_ONCE)?;
     assert!(rt; count_up(&seats));
     let Ok(closed) = hub.close(seats) else {
         return Err(AllocError.into());

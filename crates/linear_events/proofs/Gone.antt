@@ -1,12 +1,13 @@
 -- What is left of a store after a step of a pending operation.
-use Rattle.std.proofs.Common.{◌≡◌, ◌≤◌, ◌⊎◌, ℕ, ◌+◌, Bool, true, false, cond, List, [], ◌∷◌, ◌++◌, refl, ap, sym, ◌∙◌, subst, inl, inr, arith}
-use Rattle.calculus.specs.Rows.{Row}
-use Rattle.calculus.specs.Steps.{is_one_of, standing}
-use Rattle.calculus.proofs.Candidates.{Member}
+use Rattle.std.proofs.Common.{◌≡◌, ◌≤◌, ◌⊎◌, ℕ, ◌+◌, Bool, true, false, ◌||◌, cond, List, [], ◌∷◌, ◌++◌, refl, ap, sym, ◌∙◌, subst, inl, inr, arith}
+use Rattle.std.specs.Str.{bytes_eq}
+use Rattle.list_laws.proofs.Members.{Member, member-left, member-right}
+use Rattle.calculus.specs.Rows.{Row, stdout, stdout_ack}
+use Rattle.calculus.specs.Steps.{Bag, is_one_of, standing, stored_rows}
 use Rattle.events.specs.Events.{with_operation}
-use Rattle.events.specs.Found.{without}
-use Rattle.events.proofs.Counts.{ids, times, AreDistinct, times-one_of, member-times}
-use Rattle.events.proofs.Standing.{ids-times, standing-times, none-leaves}
+use Rattle.events.specs.Found.{without, has_built_in_id}
+use Rattle.events.proofs.Counts.{ids, times, one_if, AreDistinct, times-one_of, member-times}
+use Rattle.events.proofs.Standing.{built_ins, ids-times, standing-times, none-leaves}
 use Rattle.events.proofs.Spent.{row-of-id}
 use Rattle.events.proofs.Leaving.{without-append}
 use Rattle.events.proofs.Following.{operation-distinct}
@@ -29,6 +30,27 @@ none-of x rs h = go (is_one_of x (ids rs)) refl
     go : (b : Bool) → is_one_of x (ids rs) ≡ b → b ≡ false
     go false e = refl
     go true e = let u = row-of-id x rs e in absurd (h u.0 u.1 u.2)
+
+-- an id that stands beside others as often as allowed is none of them
+other-id : (x y : List ℕ) (n : ℕ) → one_if (bytes_eq x y) + n ≤ 1 → 1 ≤ n → bytes_eq x y ≡ false
+other-id x y n h k = go (bytes_eq x y) refl
+  where
+    go : (b : Bool) → bytes_eq x y ≡ b → b ≡ false
+    go false e = refl
+    go true e = absurd (omega (arith, ap one_if e, h, k))
+
+-- no stored row has the id of a built-in receiver
+pub not-built-in : (b : Bag) (r : Row) → AreDistinct (ids (standing b)) → Member r (stored_rows b) → has_built_in_id r ≡ false
+not-built-in b r d m = ap (λ z. z || bytes_eq r.id stdout_ack.id) first ∙ second
+  where
+    few : times r.id (ids (stored_rows b)) + times r.id (ids built_ins) ≤ 1
+    few = omega (arith, d r.id, standing-times r.id b)
+
+    first : bytes_eq r.id stdout.id ≡ false
+    first = other-id r.id stdout.id (times r.id (ids (stored_rows b))) (omega (arith, few)) (member-times r (stored_rows b) m)
+
+    second : bytes_eq r.id stdout_ack.id ≡ false
+    second = other-id r.id stdout_ack.id (times r.id (ids (stored_rows b))) (omega (arith, few)) (member-times r (stored_rows b) m)
 
 -- where the operation alone is taken away, the store stays
 pub store-kept : (store : List Row) (operation : Row) → AreDistinct (ids (standing (with_operation store operation))) → without (ids (operation ∷ [])) store ≡ store
@@ -96,10 +118,18 @@ module _ (xs ys : List Row) (q operation r d : Row) (these : AreThese r d operat
   pub operation-gone : without (ids (r ∷ d ∷ [])) (operation ∷ []) ≡ []
   operation-gone = one-gone operation (r ∷ d ∷ []) (operation-named these)
 
+  -- the receive is no built-in receiver
+  pub receive-own : has_built_in_id r ≡ false
+  receive-own = not-built-in (with_operation (xs ++ q ∷ ys) operation) r distinct (place (whose r (inl refl)))
+    where
+      place : (r ≡ operation) ⊎ (r ≡ q) → Member r ((xs ++ q ∷ ys) ++ operation ∷ [])
+      place (inl e) = member-right r (xs ++ q ∷ ys) (operation ∷ []) (inl e)
+      place (inr e) = member-left r (xs ++ q ∷ ys) (operation ∷ []) (member-right r xs (q ∷ ys) (inl e))
+
 pub both_rows_leave : BothRowsLeave
-both_rows_leave p cap rows t source w c operation before after s xs ys q e r d these step v =
-    let k = kept-all p cap rows t source w c s.begins s.events s.fresh in
-    let one : AreDistinct (ids (standing (with_operation c.store operation))) = operation-distinct p cap rows t source c k s.fresh operation before after s.pending in
+both_rows_leave deploy w c operation before after s xs ys q e r d these step v =
+    let k = kept-all deploy w c s.begins s.events s.fresh in
+    let one : AreDistinct (ids (standing (with_operation c.store operation))) = operation-distinct deploy c k s.fresh operation before after s.pending in
     let distinct : AreDistinct (ids (standing (with_operation (xs ++ q ∷ ys) operation))) = subst (λ l. AreDistinct (ids (standing (with_operation l operation)))) e one in
     let stored : without (ids (r ∷ d ∷ [])) c.store ≡ xs ++ ys = ap (without (ids (r ∷ d ∷ []))) e ∙ stored-gone xs ys q operation r d these distinct in
-    rw (stored, operation-gone xs ys q operation r d these distinct) refl
+    rw (stored, operation-gone xs ys q operation r d these distinct, receive-own xs ys q operation r d these distinct) refl

@@ -9,7 +9,7 @@ use Rattle.calculus.specs.Shape.{leaf, two, many, held, label_of, at}
 use Rattle.calculus.specs.Congruence.{congruent}
 use Rattle.calculus.specs.Matching.{Bindings, bind_matches, first_of_all}
 use Rattle.calculus.specs.Rows.{Row, channels, built_bind, system_name, stdout}
-use Rattle.calculus.specs.Steps.{Receiver, Datum, as_datum, taken, all_taken}
+use Rattle.calculus.specs.Steps.{Receiver, Datum, as_datum, bindings_of, all_bindings}
 use Rattle.events.proofs.Meetings.{Joined, as_facts, join}
 use Rattle.linear_unfold.specs.Linear.{is_variable}
 use Rattle.linear_unfold.proofs.Receiving.{received}
@@ -26,11 +26,11 @@ one_receive k b body = two (receive k) (many row (b ∷ [])) body
 
 -- what a linear receive and a linear send join to
 abbrev pub joined_of : Row → Row → Joined
-joined_of r d = record { receiver = record { kind = kinds.Linear; binds = held (at 0 (held r.part)); body = body_of r }; facts = fact_of d ∷ []; bindings = bound_of d }
+joined_of r d = record { receiver = record { kind = kinds.Linear; binds = held (at 0 (held r.part)); body = body_of r }; sends = fact_of d ∷ []; bindings = bound_of d }
 
 -- what the receiver behind `rho:io:stdout` and a linear send join to
 abbrev pub printed_of : Row → Joined
-printed_of d = record { receiver = record { kind = kinds.Persistent; binds = held (at 0 (held stdout.part)); body = leaf par }; facts = fact_of d ∷ []; bindings = bound_of d }
+printed_of d = record { receiver = record { kind = kinds.Persistent; binds = held (at 0 (held stdout.part)); body = leaf par }; sends = fact_of d ∷ []; bindings = bound_of d }
 
 pub join-printed : (j : List ℕ) (e x : Tree) → congruent (system_name 0) e ≡ true → join (stdout ∷ row_of j (sent_on e x) ∷ []) ≡ Some (printed_of (row_of j (sent_on e x)))
 unfolding bind_matches
@@ -45,7 +45,7 @@ join-linear i j c e x body _ h k = absurd (false≢true h)
 
 -- what a receiver joins to with these data, where there are such
 abbrev with_facts : Receiver → Option (List Datum) → Option Joined
-with_facts c o = option_and_then (λ ds. option_and_then (λ xs. Some (record { receiver = c; facts = ds; bindings = xs })) (all_taken c.binds ds)) o
+with_facts c o = option_and_then (λ ds. option_and_then (λ xs. Some (record { receiver = c; sends = ds; bindings = xs })) (all_bindings c.binds ds)) o
 
 -- more than one datum
 abbrev more_facts : Option Datum → Option Datum → Option (List Datum) → Option (List Datum)
@@ -53,7 +53,7 @@ more_facts o p q = option_and_then (λ d. option_and_then (λ ds. Some (d ∷ ds
 
 -- what a receiver joins to with these data and bindings, where there are such
 abbrev bound-as : Receiver → List Datum → Option Bindings → Option Joined
-bound-as c ds o = option_and_then (λ xs. Some (record { receiver = c; facts = ds; bindings = xs })) o
+bound-as c ds o = option_and_then (λ xs. Some (record { receiver = c; sends = ds; bindings = xs })) o
 
 no-second : (o : Option Bindings) → option_and_then (λ (xs : Bindings). option_and_then (λ (ys : Bindings). Some (xs ++ ys)) None) o ≡ None
 no-second None = refl
@@ -64,7 +64,7 @@ too-many : (k : Kind) (b body : Tree) (o p : Option Datum) (q : Option (List Dat
 too-many k b body None p q = refl
 too-many k b body (Some d) None q = refl
 too-many k b body (Some d) (Some e) None = refl
-too-many k b body (Some d) (Some e) (Some ds) = ap (bound-as (record { kind = k; binds = b ∷ []; body = body }) (d ∷ e ∷ ds)) (no-second (taken b d))
+too-many k b body (Some d) (Some e) (Some ds) = ap (bound-as (record { kind = k; binds = b ∷ []; body = body }) (d ∷ e ∷ ds)) (no-second (bindings_of b d))
 
 -- a receive of one bind joins with one row alone
 pub only-one : (i : List ℕ) (k : Kind) (b body : Tree) (ds : List Row) → ((d : Row) → ds ≡ d ∷ [] → join (row_of i (one_receive k b body) ∷ d ∷ []) ≡ None) → join (row_of i (one_receive k b body) ∷ ds) ≡ None
@@ -90,7 +90,7 @@ no-match : (c x : Tree) → bind_matches (two_bind c) (x ∷ []) ≡ []
 unfolding bind_matches
 no-match c x = refl
 
-none-taken : (c e x : Tree) → taken (two_bind c) (record { persistent = false; channel = e; args = x ∷ [] }) ≡ None
+none-taken : (c e x : Tree) → bindings_of (two_bind c) (record { persistent = false; channel = e; args = x ∷ [] }) ≡ None
 none-taken c e x = ap (λ l. cond (congruent c e) (first_of_all l) None) (no-match c x) ∙ go (congruent c e)
   where
     go : (b : Bool) → cond b (first_of_all []) None ≡ None

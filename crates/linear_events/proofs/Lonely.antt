@@ -2,13 +2,12 @@
 use Rattle.std.proofs.Common.{◌≡◌, ◌⊎◌, Bool, true, false, List, [], ◌∷◌, ◌++◌, refl, ap, sym, ◌∙◌, subst, inl, inr}
 use Rattle.std.specs.Prelude.{◌&&◌, None}
 use Rattle.std.proofs.lemmas.Bool.{false≢true}
+use Rattle.list_laws.proofs.Members.{Member, member-split}
 use Rattle.calculus.specs.Tree.{Label, send, receive}
 use Rattle.calculus.specs.Shape.{label_of}
 use Rattle.calculus.specs.Congruence.{congruent}
 use Rattle.calculus.specs.Rows.{Row, stdout, stdout_ack}
-use Rattle.calculus.proofs.Candidates.{Member}
 use Rattle.events.specs.Found.{met, Among, AreAtHand}
-use Rattle.events.proofs.Standing.{member-split}
 use Rattle.events.proofs.Making.{among, member, lonely_operations_are_stored}
 use Rattle.linear_unfold.specs.Linear.{is_linear_part}
 use Rattle.linear_unfold.specs.Offers.{IsLinearRow}
@@ -100,6 +99,6 @@ module _ (store : List Row) (operation : Row) (linear : IsLinearRow operation) (
   all-lonely r ds (inr (inr (inr (inr z)))) h o = absurd z
 
 pub lonely_linear_operations : LonelyLinearOperations
-lonely_linear_operations p cap rows t source w c operation before after s apart quiet =
-    lonely_operations_are_stored p cap rows t source w c s.begins s.events s.fresh operation before after s.pending
+lonely_linear_operations deploy w c operation before after s apart quiet =
+    lonely_operations_are_stored deploy w c s.begins s.events s.fresh operation before after s.pending
     (λ r ds h o _. all-lonely c.store operation s.linear apart quiet r ds (stands c.store operation s.linear apart quiet r h.0) h.1 o)

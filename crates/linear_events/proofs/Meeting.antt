@@ -8,7 +8,7 @@ use Rattle.calculus.specs.Shape.{held, at, label_of, process}
 use Rattle.calculus.specs.Normal.{ascending}
 use Rattle.calculus.specs.Congruence.{congruent}
 use Rattle.calculus.specs.Rows.{Row, system_name, stdout, stdout_ack}
-use Rattle.calculus.specs.Steps.{Receiver, Datum, as_receiver, as_datum, all_taken}
+use Rattle.calculus.specs.Steps.{Receiver, Datum, as_receiver, as_datum, all_bindings}
 use Rattle.events.specs.Found.{met, Among}
 use Rattle.events.proofs.Meetings.{Joined, as_facts, join, meeting_with, meet_rows-of}
 use Rattle.rho_term.specs.Normal.{IsNormal}
@@ -88,7 +88,7 @@ printed-unmet ds h = unmet (stdout ∷ ds) (no-join stdout.id kinds.Persistent (
 
 -- what a receiver joins to with these data, where there are such
 abbrev joined-with : Option Receiver → Option (List Datum) → Option Joined
-joined-with o f = option_and_then (λ c. option_and_then (λ ds. option_and_then (λ xs. Some (record { receiver = c; facts = ds; bindings = xs })) (all_taken c.binds ds)) f) o
+joined-with o f = option_and_then (λ c. option_and_then (λ ds. option_and_then (λ xs. Some (record { receiver = c; sends = ds; bindings = xs })) (all_bindings c.binds ds)) f) o
 
 none-with : (o : Option Receiver) → joined-with o None ≡ None
 none-with None = refl

@@ -1,13 +1,12 @@
 -- A pending linear operation and a stored row that are partners make a step.
 use Rattle.std.proofs.Common.{◌≡◌, List, [], ◌∷◌, refl, ap, sym, subst, inl, inr}
 use Rattle.std.specs.Prelude.{Some, count_by}
+use Rattle.list_laws.proofs.Members.{Every, Member, each-there, member-left, member-right}
 use Rattle.calculus.specs.Rows.{Row, stdout, stdout_ack}
 use Rattle.calculus.specs.Steps.{standing, same_meeting}
 use Rattle.calculus.specs.Runs.{body_work}
-use Rattle.calculus.proofs.Candidates.{Member, Every}
 use Rattle.events.specs.Events.{with_operation, Event}
 use Rattle.events.specs.Found.{Among, AreAtHand, after_meeting, step_of}
-use Rattle.events.proofs.Standing.{member-left, member-right, each-there}
 use Rattle.events.proofs.Following.{Kept, operation-there}
 use Rattle.events.proofs.Keeping.{kept-all}
 use Rattle.events.proofs.Spent.{all-past, not-made}
@@ -40,11 +39,11 @@ operation-takes r d operation q (inl (e, f)) = inl (sym e)
 operation-takes r d operation q (inr (e, f)) = inr (inl (sym f))
 
 pub linear_steps_are_events : LinearStepsAreEvents
-linear_steps_are_events p cap rows t source w c operation before after s q m l r d these h v room body =
-    subst (λ x. Event p cap c (after_meeting c operation before after (r ∷ d ∷ []) (one_meeting r d) x v)) same
-    (meetings_are_steps p cap rows t source w c s.begins s.events s.fresh operation before after s.pending r (d ∷ []) hand
+linear_steps_are_events deploy w c operation before after s q m l r d these h v room body =
+    subst (λ x. Event deploy.prices deploy.limit c (after_meeting c operation before after (r ∷ d ∷ []) (one_meeting r d) x v)) same
+    (meetings_are_steps deploy w c s.begins s.events s.fresh operation before after s.pending r (d ∷ []) hand
     (operation-takes r d operation q these) refl (one_meeting r d) (partners-meet r d linear.0 linear.1 h) v room
-    (subst (λ x. body_work p cap room x (one_meeting r d) ≡ Some v) (sym same) body)).0
+    (subst (λ x. body_work deploy.prices deploy.limit room x (one_meeting r d) ≡ Some v) (sym same) body)).0
   where
     linear : IsLinearRow r × IsLinearRow d
     linear = both-linear r d operation q these s.linear l
@@ -55,14 +54,14 @@ linear_steps_are_events p cap rows t source w c operation before after s q m l r
     hand : AreAtHand c.store operation (r ∷ d ∷ [])
     hand = (among r (standing (with_operation c.store operation)) there.0, (among d (standing (with_operation c.store operation)) there.1.0, tt))
 
-    k : Kept p cap rows t source c
-    k = kept-all p cap rows t source w c s.begins s.events s.fresh
+    k : Kept deploy c
+    k = kept-all deploy w c s.begins s.events s.fresh
 
     in-state : Every (λ z. Member z (standing k.state.bag)) (r ∷ d ∷ [])
-    in-state = each-there _ _ (r ∷ d ∷ []) (λ z i j. operation-there p cap rows t source c k s.fresh operation before after s.pending z j) there
+    in-state = each-there _ _ (r ∷ d ∷ []) (λ z i j. operation-there deploy c k s.fresh operation before after s.pending z j) there
 
     once : count_by (same_meeting (step_of c.made r (d ∷ []))) c.made ≡ 0
-    once = not-made p cap rows t source c k s.fresh (all-past p cap rows t source w c s.begins s.events s.fresh) (step_of c.made r (d ∷ [])) (r ∷ d ∷ []) (joined_of r d) refl in-state (partners-join r d linear.0 linear.1 h) refl
+    once = not-made deploy c k s.fresh (all-past deploy w c s.begins s.events s.fresh) (step_of c.made r (d ∷ [])) (r ∷ d ∷ []) (joined_of r d) refl in-state (partners-join r d linear.0 linear.1 h) refl
 
     same : step_of c.made r (d ∷ []) ≡ one_step r d
     same = ap (λ n. record { receiver = r.id; data_ids = d.id ∷ []; repeat = n }) once

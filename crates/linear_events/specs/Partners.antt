@@ -1,5 +1,5 @@
 -- Linear receives and sends that meet, and the step that they make.
-use Rattle.std.specs.Prelude.{◌≡◌, ◌⊎◌, Bool, true, false, ◌&&◌, List, [], ◌∷◌, ◌++◌}
+use Rattle.std.specs.Prelude.{◌≡◌, ◌⊎◌, ℕ, Bool, true, false, ◌&&◌, List, [], ◌∷◌, ◌++◌}
 use Rattle.std.specs.Str.{bytes_eq}
 use Rattle.calculus.specs.declared.plain.Kind.TheVariants as kinds
 use Rattle.calculus.specs.Tree.{Label, par, send, receive, Tree}
@@ -12,7 +12,7 @@ use Rattle.calculus.specs.Log.{Step}
 use Rattle.calculus.specs.Rows.{Row, channels, stdout, stdout_ack}
 use Rattle.calculus.specs.Steps.{Datum, Meeting}
 use Rattle.calculus.specs.Unfolding.{rows_of}
-use Rattle.calculus.specs.Runs.{Work, work_things}
+use Rattle.calculus.specs.Runs.{Work, work_products}
 use Rattle.events.specs.Events.{Core}
 use Rattle.linear_unfold.specs.Offers.{IsLinearRow}
 
@@ -63,7 +63,8 @@ bound_of d = process (ascending (held (sent d))) ∷ []
 abbrev pub one_meeting : Row → Row → Meeting
 one_meeting r d = record {
   receiver = record { kind = kinds.Linear; binds = held (at 0 (held r.part)); body = body_of r };
-  facts = fact_of d ∷ [];
+  place = 0;
+  sends = fact_of d ∷ [];
   bindings = bound_of d;
   leaving = 0 ∷ 0 ∷ [];
 }
@@ -72,7 +73,8 @@ one_meeting r d = record {
 abbrev pub print_meeting : Row → Meeting
 print_meeting d = record {
   receiver = record { kind = kinds.Persistent; binds = held (at 0 (held stdout.part)); body = leaf par };
-  facts = fact_of d ∷ [];
+  place = 0;
+  sends = fact_of d ∷ [];
   bindings = bound_of d;
   leaving = 0 ∷ [];
 }
@@ -97,6 +99,6 @@ are_coded_partners r d = receives (label_of r.part) && (sends (label_of d.part) 
 abbrev pub AreThese : Row → Row → Row → Row → Type 0
 AreThese r d operation q = ((r ≡ operation) × (d ≡ q)) ⊎ ((r ≡ q) × (d ≡ operation))
 
--- the core with these rows stored after a step of a pending operation that leaves, where the body came to this work
-abbrev pub after_step : Core → List Row → List Row → List Row → Step → Work → Core
-after_step c store before after s w = record { store = store; pending = before ++ (rows_of (work_things w) ++ after); made = c.made ++ s ∷ []; works = c.works ++ w ∷ [] }
+-- the core with these rows stored after a step of a pending operation that leaves, where the body came to this work and the step printed this
+abbrev pub after_step : Core → List Row → List Row → List Row → Step → Work → List ℕ → Core
+after_step c store before after s w out = record { store = store; pending = before ++ (rows_of (work_products w) ++ after); made = c.made ++ s ∷ []; works = c.works ++ w ∷ []; output = c.output ++ out }

@@ -1,26 +1,25 @@
 -- How a run ends.
 use Rattle.std.proofs.Common.{◌≡◌, ◌≢◌, ◌<◌, ℕ, Bool, true, false, cond, List, [], map as each, refl, sym, ◌∙◌, ap, subst, inl, inr, arith, All}
-use Rattle.std.specs.Prelude.{◌⊎◌, ltb, Option, Some, None}
+use Rattle.std.specs.Prelude.{◌⊎◌, ltb, Option, Some, None, IsPermutation}
 use Rattle.std.proofs.lemmas.Bool.Decides.{nat_tests}
 use Rattle.std.proofs.lemmas.List.Elements.{All-nil, All-weaker}
-use Rattle.calculus.specs.declared.fault.FaultKind.{FaultKind}
 use Rattle.calculus.specs.Tree.{Tree}
 use Rattle.calculus.specs.Outcome.{Prices}
 use Rattle.calculus.specs.Steps.{stored_rows}
 use Rattle.calculus.specs.Runs.{Verdict, done, exhausted, faulted}
 use Rattle.rho_term.specs.declared.op.Op.{Op}
 use Rattle.rho_term.specs.Rows.{row_of_op}
-use Rattle.events.specs.Orders.{Moved}
 use Rattle.linear_runs.specs.Premises.{IsCalm}
 use Rattle.linear_store.specs.Channels.{IsOnOneChannel}
 use Rattle.linear_runs.specs.Courses.{IsSound, verdict_at, charge_at, IsRunOf}
 use Rattle.linear_runs.proofs.Ending.{courses_end}
 use Rattle.linear_play.specs.declared.course.Course.{Course}
 use Rattle.linear_play.specs.declared.course.Fault.{Fault}
-use Rattle.linear_play.specs.declared.played.Verdict.{Verdict as Ending}
-use Rattle.linear_play.specs.declared.played.Verdict.TheVariants as ending
-use Rattle.linear_play.proofs.Meetings.{on-one-channel}
-use Rattle.linear_play.specs.Courses.{IsOn, IsOver, made, fault_verdict, verdict_of}
+use Rattle.run_verdict.specs.declared.verdict.Verdict.{Verdict as Ending}
+use Rattle.run_verdict.specs.declared.verdict.Verdict.TheVariants as ending
+use Rattle.run_verdict.specs.View.{verdict_of}
+use Rattle.linear_runs.proofs.Storing.{on-one-channel}
+use Rattle.linear_play.specs.Courses.{IsOn, IsOver, made, fault_verdict}
 
 above : (cap n : ℕ) → cap < n → ltb cap n ≡ true
 above cap n h = grind (arith, nat_tests)
@@ -38,12 +37,6 @@ fault-not-done (Some f) h e = faulted-is-not-done f e
 
 exhausted-is-not-done : (v : Verdict) → cond true exhausted v ≡ done → ⊥
 exhausted-is-not-done v e = cc
-
-exhausted-is-none : exhausted ≡ done → ⊥
-exhausted-is-none e = cc
-
-faulted-is-none : (step : Option ℕ) (kind : FaultKind) → faulted step kind ≡ done → ⊥
-faulted-is-none step kind e = cc
 
 -- a run that is over has nothing pending, or another verdict than done
 over-ended : (cap : ℕ) (c : Course) → IsOver cap c → (c.pending.items ≡ []) ⊎ (verdict_at cap c.total (fault_verdict c.fault) ≢ done)
@@ -63,14 +56,8 @@ on-end p cap t source c on over v e charge f rows kept calm =
       run = r.run;
       verdict_is = r.verdict_is ∙ sym e;
       cost_is = r.cost_is ∙ sym f;
-      left = λ d. subst (λ (rs : List Op). Moved (each row_of_op rs) (stored_rows r.state.bag)) (sym (kept d)) (r.left (sym e ∙ d));
+      left = λ d. subst (λ (rs : List Op). IsPermutation (each row_of_op rs) (stored_rows r.state.bag)) (sym (kept d)) (r.left (sym e ∙ d));
     }
-
--- the verdict done of the program
-pub is-done : (v : Ending) → verdict_of v ≡ done → v ≡ ending.Done
-is-done ending.Done e = refl
-is-done ending.Exhausted e = absurd (exhausted-is-none e)
-is-done (ending.Faulted step kind) e = absurd (faulted-is-none step kind e)
 
 -- what is left where a run is done or not is on one channel each
 pub left-on-channels : (v : Ending) (store rows : List Op) → All IsSound store → (v ≡ ending.Done → rows ≡ store) → (v ≢ ending.Done → rows ≡ []) → All IsOnOneChannel rows

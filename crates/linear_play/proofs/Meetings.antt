@@ -1,24 +1,18 @@
 -- Operations that a store took.
 use Rattle.std.proofs.Common.{◌≡◌, ℕ, List, ◌∷◌, sym, subst, inl, inr, All}
 use Rattle.std.proofs.lemmas.List.Elements.{All-cons, All-head, All-tail}
+use Rattle.list_laws.proofs.Permutations.{moved_so, unmoved}
 use Rattle.calculus.specs.Tree.{Tree}
 use Rattle.calculus.specs.Outcome.{Prices}
 use Rattle.calculus.specs.Log.{Step}
 use Rattle.calculus.specs.Runs.{Verdict}
 use Rattle.rho_term.specs.declared.op.Op.{Op}
-use Rattle.events.proofs.Orders.{moved_so, unmoved}
-use Rattle.linear_store.specs.Channels.{IsOnOneChannel}
 use Rattle.linear_store.specs.Meetings.{Adds, Pairs}
 use Rattle.linear_store.proofs.Becoming.{all_moved}
-use Rattle.linear_store.proofs.Rows.{linear_is_on_one_channel}
 use Rattle.linear_runs.specs.Premises.{IsCalm}
 use Rattle.linear_runs.specs.Courses.{IsSound, IsAt}
 use Rattle.linear_runs.proofs.Storing.{courses_store}
 use Rattle.linear_work.specs.Pairs.{IsPair}
-
--- a sound operation is on one channel
-pub on-one-channel : (o : Op) → IsSound o → IsOnOneChannel o
-on-one-channel o s = linear_is_on_one_channel o s.0.0
 
 -- what is stored is sound once one more was stored
 pub stored-sound : (o : Op) (before after : List Op) → All IsSound (o ∷ before) → Adds o before after → All IsSound after

@@ -1,6 +1,7 @@
 -- A receive and a send that make a step.
 use Rattle.std.proofs.Common.{◌≡◌, ℕ, suc, ◌+◌, List, [], ◌∷◌, ◌++◌, length, sym, ◌∙◌, ap, subst, arith, append_assoc}
 use Rattle.std.specs.Prelude.{None}
+use Rattle.list_laws.proofs.Permutations.{unmoved}
 use Rattle.calculus.specs.Tree.{Tree}
 use Rattle.calculus.specs.Outcome.{Prices}
 use Rattle.calculus.specs.Log.{Step}
@@ -10,7 +11,6 @@ use Rattle.rho_term.specs.declared.op.Op.{Op}
 use Rattle.rho_term.specs.Normal.{IsNormal}
 use Rattle.calculus.specs.Unfolding.{UnfoldsUnder}
 use Rattle.rho_term.specs.Rows.{row_of_op}
-use Rattle.events.proofs.Orders.{unmoved}
 use Rattle.linear_events.specs.Partners.{body_of, sent, one_step}
 use Rattle.linear_runs.specs.Premises.{IsCalm}
 use Rattle.linear_runs.specs.Courses.{IsAt}
@@ -36,13 +36,6 @@ same-at p cap t source s s' q q' m m' n n' v v' a b c d e h =
     (subst (λ x. IsAt p cap t source s q x n' v') (sym c)
     (subst (λ x. IsAt p cap t source s q m x v') (sym d)
     (subst (λ x. IsAt p cap t source s q m n x) (sym e) h))))
-
--- work of what is the same body under the same values and seed
-pub same-work : (p : Prices) (cap : ℕ) (vs us : List Tree) (b d : Tree) (s z : List ℕ) (w : Worked) → vs ≡ us → b ≡ d → s ≡ z → IsWork (UnfoldsUnder p cap vs b s) cap w → IsWork (UnfoldsUnder p cap us d z) cap w
-same-work p cap vs us b d s z w e f g h =
-    subst (λ (x : List ℕ). IsWork (UnfoldsUnder p cap us d x) cap w) g
-    (subst (λ (x : Tree). IsWork (UnfoldsUnder p cap us x s) cap w) f
-    (subst (λ (x : List Tree). IsWork (UnfoldsUnder p cap x b s) cap w) e h))
 
 module _ (p : Prices) (cap : ℕ) (t : Tree) (source : List ℕ) (c : Course) (receive send : Op) (met : IsMet p cap t source c receive send) (sound : c.fault ≡ None) (normal : IsNormal (sent (row_of_op send))) (w : Worked)
     (work : IsWork (UnfoldsUnder p cap (sent (row_of_op send) ∷ []) (body_of (row_of_op receive)) (digest_of (Comm (row_of_op receive).id ((row_of_op send).id ∷ []) 0))) cap w) where

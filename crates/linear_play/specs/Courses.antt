@@ -1,10 +1,10 @@
 -- A run on its way.
-use Rattle.std.specs.Prelude.{◌≡◌, ◌≢◌, ◌≤◌, ◌<◌, ◌⊎◌, ℕ, ◌+◌, ◌*◌, List, [], ◌∷◌, length, map as each, Option, Some, None, All}
+use Rattle.std.specs.Prelude.{◌≡◌, ◌≢◌, ◌≤◌, ◌<◌, ◌⊎◌, ℕ, ◌+◌, ◌*◌, List, [], ◌∷◌, length, Option, Some, None, All}
 use Rattle.calculus.specs.Tree.{Tree}
 use Rattle.calculus.specs.Outcome.{Prices}
 use Rattle.calculus.specs.Log.{Step}
-use Rattle.calculus.specs.Runs.{Verdict, done, exhausted, faulted}
-use Rattle.event_log.specs.View.{step_of}
+use Rattle.calculus.specs.Runs.{Verdict, done, faulted}
+use Rattle.event_log.specs.View.{steps_of}
 use Rattle.event_log.specs.declared.log.LogStep.{LogStep}
 use Rattle.rho_term.specs.declared.op.Op.{Op}
 use Rattle.linear_store.specs.Meetings.{Pairs}
@@ -12,22 +12,10 @@ use Rattle.linear_runs.specs.Premises.{IsCalm}
 use Rattle.linear_runs.specs.Courses.{IsSound, IsAt}
 use Rattle.linear_play.specs.declared.course.Course.{Course}
 use Rattle.linear_play.specs.declared.course.Fault.{Fault}
-use Rattle.linear_play.specs.declared.played.Verdict.{Verdict as Ending}
-use Rattle.linear_play.specs.declared.played.Verdict.TheVariants as ending
-
--- the steps of a log
-abbrev pub steps_of : List LogStep → List Step
-steps_of ss = each step_of ss
 
 -- a step takes one datum
 abbrev pub TakesOne : LogStep → Type 0
 TakesOne s = length s.taken.items ≡ 1
-
--- how a run ended
-abbrev pub verdict_of : Ending → Verdict
-verdict_of ending.Done = done
-verdict_of ending.Exhausted = exhausted
-verdict_of (ending.Faulted step kind) = faulted step kind
 
 -- the verdict of the first fault, where there is one
 abbrev pub fault_verdict : Option Fault → Verdict

@@ -10,16 +10,18 @@ ghost use Rattle.linear_store.specs.Channels.{IsOnOneChannel};
 ghost use Rattle.linear_runs.specs.Courses.{charge_at, IsRunOf, verdict_at};
 ghost use Rattle.linear_runs.specs.Premises.{IsCalm};
 ghost use Rattle.linear_work.specs.Pairs.{IsPair};
-ghost use Rattle.linear_play.specs.Courses.{AreSound, fault_verdict, IsMet, IsOn, IsOver, IsPaid, IsSameBut, made, verdict_of};
+ghost use Rattle.run_verdict.specs.View.{verdict_of};
+ghost use Rattle.linear_play.specs.Courses.{AreSound, fault_verdict, IsMet, IsOn, IsOver, IsPaid, IsSameBut, made};
 
-use crate::played::{Played, Verdict};
+use crate::played::Played;
 use calculus::{Digest, FaultKind};
 use event_log::LogStep;
 use linear_store::{Met, Store};
 use linear_work::{Pair, id_and_body, id_and_process, work_body, work_source};
-use name_seed::Seed;
+use name_seed::{EMPTY_ROOT, Seed};
 use price_table::Prices;
 use rho_term::{Op, Term};
+use run_verdict::Verdict;
 use std::alloc::{AllocError, Global};
 use std::collections::VecDeque;
 
@@ -44,9 +46,6 @@ pub(crate) struct Course {
     /// The first fault.
     pub fault: Option<Fault>,
 }
-
-/// The root of the empty state.
-const EMPTY_ROOT: Digest = Digest([0; 32]);
 
 /// The fault of a work, which belongs to this step.
 fn fault_of(kind: Option<FaultKind>, step: Option<u32>) -> Option<Fault>

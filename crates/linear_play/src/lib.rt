@@ -4,4 +4,4 @@
 mod course;
 pub mod played;
 
-pub use played::{Played, Verdict, play};
+pub use played::{Played, play};

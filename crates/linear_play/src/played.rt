@@ -5,25 +5,17 @@ ghost use Rattle.linear_unfold.specs.Linear.{is_linear};
 ghost use Rattle.linear_store.specs.Channels.{IsOnOneChannel};
 ghost use Rattle.linear_runs.specs.Courses.{IsRunOf};
 ghost use Rattle.linear_runs.specs.Premises.{IsCalm};
-ghost use Rattle.linear_play.specs.Courses.{TakesOne, steps_of, verdict_of};
+ghost use Rattle.event_log.specs.View.{steps_of};
+ghost use Rattle.run_verdict.specs.View.{verdict_of};
+ghost use Rattle.linear_play.specs.Courses.{TakesOne};
 
 use crate::course::Course;
-use calculus::{Digest, FaultKind};
+use calculus::Digest;
 use event_log::LogStep;
 use price_table::Prices;
 use rho_term::{Op, Term};
+use run_verdict::Verdict;
 use std::alloc::{AllocError, Global};
-
-/// How a run ended.
-#[derive(Clone, Copy, Debug, PartialEq, Eq)]
-pub enum Verdict {
-    /// No step is allowed any more.
-    Done,
-    /// The price passed the limit.
-    Exhausted,
-    /// The source, where `step` is None, or the body of that step has a fault. Steps are counted from 0.
-    Faulted { step: Option<u32>, kind: FaultKind },
-}
 
 /// What a run came to.
 #[derive(Drop)]

@@ -1,9 +1,11 @@
 -- A step that is allowed is that of a receive and a send on one channel.
 use Rattle.std.proofs.Common.{◌≡◌, ℕ, Bool, true, false, not, ◌&&◌, ◌||◌, List, [], ◌∷◌, map as each, refl, ap, sym, ◌∙◌, subst, inl, inr, All}
-use Rattle.std.specs.Prelude.{Some, eqb, count_by}
+use Rattle.std.specs.Prelude.{Some, eqb, count_by, IsPermutation}
 use Rattle.std.specs.Str.{bytes_eq}
 use Rattle.std.proofs.lemmas.Bool.{and_parts, false≢true, eqb-true}
 use Rattle.std.proofs.lemmas.List.Elements.{All-head, All-tail}
+use Rattle.list_laws.proofs.Members.{Every, Member}
+use Rattle.list_laws.proofs.Permutations.{each-moved, exchange, join, keep, moved_so, unmoved}
 use Rattle.calculus.specs.Shape.{label_of}
 use Rattle.calculus.specs.Tree.{Tree}
 use Rattle.calculus.specs.Outcome.{Prices}
@@ -11,18 +13,15 @@ use Rattle.calculus.specs.Log.{Step}
 use Rattle.calculus.specs.Rows.{Row}
 use Rattle.calculus.specs.Steps.{Meeting, standing, stored_rows, same_meeting, right_repeat, meeting}
 use Rattle.calculus.specs.Runs.{Verdict}
-use Rattle.calculus.proofs.Candidates.{Member, Every}
 use Rattle.rho_term.specs.declared.op.Op.{Op}
 use Rattle.linear_unfold.specs.Offers.{IsLinearRow}
 use Rattle.rho_term.specs.Rows.{row_of_op}
-use Rattle.events.specs.Orders.{Moved, keep, exchange, join}
 use Rattle.events.proofs.Counts.{ids, bytes_same}
 use Rattle.events.proofs.Meetings.{Joined, join as joins_to, meeting_at, MadeBy, made_by}
 use Rattle.events.proofs.Lasting.{Joins, joins-of}
-use Rattle.events.proofs.Orders.{unmoved, moved_so, member-moved}
+use Rattle.events.proofs.Orders.{member-moved}
 use Rattle.events.proofs.Following.{append_nothing}
 use Rattle.linear_store.specs.Channels.{is_send, channel_code}
-use Rattle.linear_store.proofs.Rows.{each-moved}
 use Rattle.linear_store.proofs.Becoming.{all_moved}
 use Rattle.linear_events.specs.Partners.{sends, receives, are_partners, prints, one_step}
 use Rattle.linear_events.proofs.Joining.{joined_of}
@@ -39,7 +38,7 @@ use Rattle.linear_replays.proofs.Pairs.{one}
 record OpOf (rows : List Op) (z : Row) : Type 0 where
   pub op : Op
   pub rest : List Op
-  pub moved : Moved rows (op ∷ rest)
+  pub moved : IsPermutation rows (op ∷ rest)
   pub is : row_of_op op ≡ z
 
 op-of : (z : Row) (rows : List Op) → Member z (each row_of_op rows) → OpOf rows z
@@ -74,7 +73,7 @@ made-of rows sound r d m n h = second (member-moved d (each-moved row_of_op a.mo
 
     pair-of : (b : OpOf a.rest d) → ArePairIn rows a.op b.op b.rest
     pair-of b =
-        let moved : Moved rows (a.op ∷ b.op ∷ b.rest) = join a.moved (keep a.op b.moved) in
+        let moved : IsPermutation rows (a.op ∷ b.op ∷ b.rest) = join a.moved (keep a.op b.moved) in
         let sounds : All IsSound (a.op ∷ b.op ∷ b.rest) = all_moved IsSound (moved_so moved) sound in
         let coded = sym (partners-coded a.op b.op (All-head IsSound a.op (b.op ∷ b.rest) sounds) (All-head IsSound b.op b.rest (All-tail IsSound a.op (b.op ∷ b.rest) sounds)))
         ∙ ap (λ z. are_partners z (row_of_op b.op)) a.is ∙ ap (are_partners r) b.is ∙ h in

@@ -1,14 +1,13 @@
 -- The answer to a log under a right header.
 use Rattle.std.proofs.Common.{◌≡◌, ℕ, List, [], map as each, refl, ap, sym, ◌∙◌, subst, inl, inr}
-use Rattle.std.specs.Prelude.{◌≢◌, ◌⊎◌, cond, ltb, None, All}
+use Rattle.std.specs.Prelude.{◌≢◌, ◌⊎◌, cond, ltb, None, All, IsPermutation}
 use Rattle.calculus.specs.Tree.{Tree}
 use Rattle.calculus.specs.Outcome.{Prices}
 use Rattle.calculus.specs.Log.{Step, Header}
 use Rattle.calculus.specs.Steps.{Bag}
-use Rattle.calculus.specs.Runs.{Verdict, done, exhausted, faulted, fault_verdict, verdict, cost, next_rows, IsEnd}
+use Rattle.calculus.specs.Runs.{deploy_of, Verdict, done, exhausted, faulted, fault_verdict, verdict, cost, next_rows, IsEnd}
 use Rattle.rho_term.specs.declared.op.Op.{Op}
 use Rattle.rho_term.specs.Rows.{row_of_op}
-use Rattle.events.specs.Orders.{Moved}
 use Rattle.linear_runs.specs.Premises.{IsCalm}
 use Rattle.linear_runs.specs.Courses.{IsSound, verdict_at, charge_at}
 use Rattle.replays.specs.Replays.{header_refusal, output_of, outcome_of, by_step, by_rest, by_end}
@@ -38,8 +37,8 @@ module _ (p : Prices) (cap : ℕ) (t : Tree) (source : List ℕ) (rows : List Op
   ends calm sound (inl none) h s = replays_end.none p cap t source rows made price v calm x sound none s
   ends calm sound (inr n) h s = absurd (n (sym verdict-is ∙ h))
 
-  left-rows : verdict_at cap price v ≡ done → Moved (each row_of_op rows) (next_rows [] (verdict p cap x.state) x.state.bag)
-  left-rows h = subst (λ y. Moved (each row_of_op rows) (next_rows [] y x.state.bag)) (sym (verdict-is ∙ h)) x.same
+  left-rows : verdict_at cap price v ≡ done → IsPermutation (each row_of_op rows) (next_rows [] (verdict p cap x.state) x.state.bag)
+  left-rows h = subst (λ y. IsPermutation (each row_of_op rows) (next_rows [] y x.state.bag)) (sym (verdict-is ∙ h)) x.same
 
   lost-rows : verdict_at cap price v ≢ done → next_rows [] (verdict p cap x.state) x.state.bag ≡ []
   lost-rows n = no-rows (verdict p cap x.state) x.state.bag (λ h. n (sym verdict-is ∙ h))
@@ -48,11 +47,11 @@ replayed-to : (p : Prices) (t : Tree) (source : List ℕ) (h : Header) (rows : L
     → header_refusal (from_nothing p t source) h ≡ None → IsCalm p h.limit t source made → IsReplayedTo p h.limit t source rows made price v → All IsSound rows
     → HasNoPair rows ⊎ (verdict_at h.limit price v ≢ done) → Replays p t source h made rows (verdict_at h.limit price v) (charge_at h.limit price)
 replayed-to p t source h rows made price v e calm x sound end = record {
-  outcome = outcome_of (from_nothing p t source) h.limit x.state [];
-  answer = by_end e x.leads (ends p h.limit t source rows made price v x calm sound end) x.silent;
+  outcome = outcome_of (deploy_of p h.limit [] t source) x.state;
+  answer = by_end e x.leads (ends p h.limit t source rows made price v x calm sound end);
   verdict_is = verdict-is p h.limit t source rows made price v x;
   cost_is = cost-is p h.limit t source rows made price v x;
-  output_is = nothing-out (verdict p h.limit x.state);
+  output_is = ap (output_of (verdict p h.limit x.state)) x.silent ∙ nothing-out (verdict p h.limit x.state);
   left = left-rows p h.limit t source rows made price v x;
   lost = lost-rows p h.limit t source rows made price v x;
 }

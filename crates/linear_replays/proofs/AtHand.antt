@@ -2,10 +2,10 @@
 use Rattle.std.proofs.Common.{◌≡◌, Bool, true, false, List, [], ◌∷◌, ap, sym, ◌∙◌, subst, inl, inr, refl}
 use Rattle.std.specs.Prelude.{◌⊎◌, Some, option_map}
 use Rattle.std.proofs.lemmas.Bool.{false≢true}
+use Rattle.list_laws.proofs.Members.{Every, Member}
 use Rattle.calculus.specs.Shape.{label_of}
 use Rattle.calculus.specs.Rows.{Row, stdout}
 use Rattle.calculus.specs.Steps.{Bag, standing, stored_rows}
-use Rattle.calculus.proofs.Candidates.{Member, Every}
 use Rattle.linear_unfold.specs.Offers.{IsLinearRow}
 use Rattle.events.specs.Found.{met}
 use Rattle.events.proofs.Meetings.{Joined, join as joins_to, meeting_with, meet_rows-of}

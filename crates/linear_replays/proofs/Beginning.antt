@@ -1,16 +1,14 @@
 -- A replay begins with what its source offers.
-use Rattle.std.proofs.Common.{◌≡◌, List, [], map as each, refl, ap, sym, subst, arith}
-use Rattle.std.specs.Prelude.{replicate, option_and_then, option_map}
+use Rattle.std.proofs.Common.{◌≡◌, List, [], map as each, refl, sym, subst, arith}
+use Rattle.std.specs.Prelude.{replicate, IsPermutation}
+use Rattle.list_laws.proofs.Permutations.{unmoved}
 use Rattle.calculus.specs.Seeds.{digest_of, Start}
 use Rattle.calculus.specs.Root.{root}
 use Rattle.calculus.specs.Rows.{Row}
 use Rattle.calculus.specs.Unfolding.{Unfolds}
-use Rattle.calculus.specs.Runs.{begun}
+use Rattle.calculus.specs.Runs.{deploy_of, begun}
 use Rattle.rho_term.specs.Rows.{row_of_op}
-use Rattle.events.specs.Orders.{Moved}
-use Rattle.events.proofs.Orders.{unmoved}
 use Rattle.events.proofs.Legal.{leads-none}
-use Rattle.replays.specs.Replays.{output_from}
 use Rattle.linear_replays.specs.Laws.{ReplaysBegin}
 
 -- the root of no rows
@@ -21,13 +19,13 @@ root-of-none = refl
 pub replays_begin : ReplaysBegin
 replays_begin p cap t source w offers unfolds offered = record {
   state = begun [] w;
-  leads = leads-none p cap [] t source w rooted;
-  same = subst (λ (rs : List Row). Moved (each row_of_op offers) rs) offered (unmoved (each row_of_op offers));
+  leads = leads-none (deploy_of p cap [] t source) w rooted;
+  same = subst (λ (rs : List Row). IsPermutation (each row_of_op offers) rs) offered (unmoved (each row_of_op offers));
   made_is = refl;
   works = refl;
   price_is = omega arith;
   verdict_is = refl;
-  silent = (rooted.0, ap (λ o. option_and_then (λ a. output_from p cap rooted.0 a []) (option_map (begun []) o)) rooted.1);
+  silent = refl;
 }
   where
     rooted : Unfolds p cap t (digest_of (Start (root []) source)) w

@@ -11,12 +11,12 @@ use Rattle.rho_term.specs.Rows.{row_of_op}
 use Rattle.linear_events.specs.Partners.{one_step}
 use Rattle.linear_runs.specs.Premises.{IsCalm}
 use Rattle.linear_runs.specs.Courses.{IsSound}
-use Rattle.replays.specs.Replays.{ids_up_to, IsLeastAllowed}
 use Rattle.linear_replays.specs.Replayed.{IsReplayedTo, ArePairIn, HasNoPair}
 use Rattle.linear_replays.specs.Laws.{ReplaysEnd}
 use Rattle.linear_replays.proofs.Pairs.{allowed}
 use Rattle.linear_replays.proofs.Allowed.{makers}
 use Rattle.linear_replays.proofs.Stopping.{not-allowed}
+use Rattle.calculus.specs.Candidates.{ids_up_to, IsLeastAllowed}
 
 module _ (p : Prices) (cap : ℕ) (t : Tree) (source : List ℕ) (rows : List Op) (made : List Step) (price : ℕ) (v : Verdict) (calm : IsCalm p cap t source made) (x : IsReplayedTo p cap t source rows made price v) (sound : All IsSound rows) where
   none-allowed : HasNoPair rows → (s : Step) → meeting x.state.bag x.state.made s ≡ None
@@ -34,7 +34,7 @@ module _ (p : Prices) (cap : ℕ) (t : Tree) (source : List ℕ) (rows : List Op
         let k = makers p cap t source rows made price v calm x sound u m e in
         subst (λ (z : Step). ids_up_to ((row_of_op receive).id ∷ (row_of_op send).id ∷ []) (z.receiver ∷ z.data_ids) ≡ true) (sym k.is) (first k.receive k.send k.rest k.pair)
 
-    least-allowed : IsFirst → IsLeastAllowed x.state (one_step (row_of_op receive) (row_of_op send))
+    least-allowed : IsFirst → IsLeastAllowed x.state.bag x.state.made (one_step (row_of_op receive) (row_of_op send))
     least-allowed first = record {
       allowed = subst (λ (o : Option Meeting). IsSome o) (sym (allowed p cap t source rows made price v calm x sound receive send rest pair)) refl;
       least = λ u h. before-all first u (meeting x.state.bag x.state.made u) refl h;

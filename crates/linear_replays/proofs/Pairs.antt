@@ -1,25 +1,24 @@
 -- A receive and a send on one channel are a step that is allowed.
 use Rattle.std.proofs.Common.{◌≡◌, ℕ, Bool, true, false, ◌&&◌, ◌||◌, cond, ◌+◌, List, [], ◌∷◌, map as each, refl, ap, sym, ◌∙◌, inl, inr, All}
-use Rattle.std.specs.Prelude.{Some, eqb, count_by}
+use Rattle.std.specs.Prelude.{Some, eqb, count_by, IsPermutation}
 use Rattle.std.specs.Str.{bytes_eq}
 use Rattle.std.proofs.lemmas.List.Elements.{All-head, All-tail}
 use Rattle.std.proofs.lemmas.List.Sums.{sum_by-cons}
+use Rattle.list_laws.proofs.Members.{Every, Member}
+use Rattle.list_laws.proofs.Permutations.{each-moved, join, moved_so}
 use Rattle.calculus.specs.Tree.{Tree}
 use Rattle.calculus.specs.Outcome.{Prices}
 use Rattle.calculus.specs.Log.{Step}
 use Rattle.calculus.specs.Rows.{Row}
 use Rattle.calculus.specs.Steps.{standing, stored_rows, as_receiver, same_ids, same_meeting, right_repeat, meeting}
-use Rattle.calculus.specs.Runs.{Verdict}
-use Rattle.calculus.proofs.Candidates.{Member, Every}
+use Rattle.calculus.specs.Runs.{deploy_of, Verdict}
 use Rattle.rho_term.specs.declared.op.Op.{Op}
 use Rattle.rho_term.specs.Rows.{row_of_op}
-use Rattle.events.specs.Orders.{Moved, join}
 use Rattle.events.proofs.Counts.{ids, AreDistinct, bytes_same}
 use Rattle.events.proofs.Meetings.{meeting_at, makes}
 use Rattle.events.proofs.Lasting.{stays_if}
-use Rattle.events.proofs.Orders.{moved_so, member-moved}
+use Rattle.events.proofs.Orders.{member-moved}
 use Rattle.events.proofs.Standing.{in-standing}
-use Rattle.linear_store.proofs.Rows.{each-moved}
 use Rattle.linear_store.proofs.Becoming.{all_moved}
 use Rattle.linear_events.specs.Partners.{one_step, are_partners}
 use Rattle.linear_events.proofs.Parts.{receive-parts}
@@ -45,7 +44,7 @@ first-true false b h = cc
 module _ (p : Prices) (cap : ℕ) (t : Tree) (source : List ℕ) (rows : List Op) (made : List Step) (price : ℕ) (v : Verdict) (calm : IsCalm p cap t source made) (x : IsReplayedTo p cap t source rows made price v) where
   -- no id stands twice at hand
   pub one : AreDistinct (ids (standing x.state.bag))
-  one = distinct p cap [] t source made x.state calm.fresh x.leads
+  one = distinct (deploy_of p cap [] t source) made x.state calm.fresh x.leads
 
   module _ (sound : All IsSound rows) (receive send : Op) (rest : List Op) (pair : ArePairIn rows receive send rest) where
     abbrev pub r : Row
@@ -66,7 +65,7 @@ module _ (p : Prices) (cap : ℕ) (t : Tree) (source : List ℕ) (rows : List Op
     pub partners : are_partners r d ≡ true
     partners = pair-partners receive send receive-sound send-sound pair.sends pair.receives pair.channel
 
-    pub moved : Moved (r ∷ d ∷ each row_of_op rest) (stored_rows x.state.bag)
+    pub moved : IsPermutation (r ∷ d ∷ each row_of_op rest) (stored_rows x.state.bag)
     moved = join (moved_so (each-moved row_of_op pair.moved)) x.same
 
     there : Every (λ z. Member z (standing x.state.bag)) (r ∷ d ∷ [])
@@ -84,7 +83,7 @@ module _ (p : Prices) (cap : ℕ) (t : Tree) (source : List ℕ) (rows : List Op
         go false e = refl
         go true e =
             let same : r.id ≡ u.receiver = bytes_same r.id u.receiver (first-true (bytes_eq r.id u.receiver) (same_ids (d.id ∷ []) u.data_ids) e) in
-            let past = (accounted p cap [] t source made x.state calm.fresh x.leads).spent u m in
+            let past = (accounted (deploy_of p cap [] t source) made x.state calm.fresh x.leads).spent u m in
             absurd (cc (fades, past.remain r (member-moved r moved (inl refl)) (sym same)))
 
     right : right_repeat x.state.made (one_step r d) (meeting_at (standing x.state.bag) (r ∷ d ∷ []) (joined_of r d)) ≡ true

@@ -1,13 +1,12 @@
 -- The rows of a replay.
 use Rattle.std.proofs.Common.{◌≡◌, List, [], ◌∷◌, map as each, refl, ap, sym, ◌∙◌, arith}
+use Rattle.list_laws.proofs.Permutations.{each-moved, join, moved_so}
 use Rattle.calculus.specs.Steps.{differ}
 use Rattle.rho_term.specs.declared.op.Op.{Op}
 use Rattle.rho_term.specs.Rows.{row_of_op}
-use Rattle.events.specs.Orders.{join}
 use Rattle.events.proofs.Counts.{ids, distinct-differ}
-use Rattle.events.proofs.Orders.{moved_so, times-moved}
+use Rattle.events.proofs.Orders.{times-moved}
 use Rattle.events.proofs.Standing.{standing-times}
-use Rattle.linear_store.proofs.Rows.{each-moved}
 use Rattle.linear_replays.specs.Laws.{RowsOfReplays}
 use Rattle.linear_replays.proofs.Pairs.{one}
 

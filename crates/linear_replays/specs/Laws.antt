@@ -1,27 +1,27 @@
 -- Laws of replays of linear operations. Each stands in the contract of a public function that does nothing.
-use Rattle.std.specs.Prelude.{◌≡◌, ◌≢◌, ◌⊎◌, ℕ, suc, ◌+◌, true, List, [], ◌∷◌, ◌++◌, length, map as each, replicate, flat_map, All, None}
+use Rattle.std.specs.Prelude.{◌≡◌, ◌≢◌, ◌⊎◌, ℕ, suc, ◌+◌, true, List, [], ◌∷◌, ◌++◌, length, map as each, replicate, flat_map, All, None, IsPermutation}
 use Rattle.calculus.specs.Tree.{Tree}
 use Rattle.calculus.specs.Outcome.{Prices}
 use Rattle.calculus.specs.Log.{Step, Header}
 use Rattle.calculus.specs.Seeds.{digest_of, Start, Comm}
 use Rattle.calculus.specs.Unfolding.{rows_of, Unfolds, UnfoldsUnder}
 use Rattle.calculus.specs.Steps.{differ, meeting}
-use Rattle.calculus.specs.Runs.{Work, work_things, work_price, work_fault, State, Leads, Verdict, done, at_fault}
+use Rattle.calculus.specs.Runs.{deploy_of, Work, work_products, work_price, work_fault, State, Leads, Verdict, done, at_fault}
 use Rattle.rho_term.specs.declared.op.Op.{Op}
 use Rattle.rho_term.specs.Normal.{IsNormal}
 use Rattle.linear_unfold.specs.Offers.{IsLinearRow}
 use Rattle.rho_term.specs.Rows.{row_of_op}
-use Rattle.events.specs.Orders.{Moved}
 use Rattle.linear_events.specs.Partners.{sent, body_of, one_step}
 use Rattle.linear_runs.specs.Premises.{IsCalm}
 use Rattle.linear_runs.specs.Courses.{IsSound, verdict_at, charge_at}
-use Rattle.replays.specs.Replays.{no_run, reducible, Outcome, refused, replayed, header_refusal, Prints, StopsAt, ids_up_to, IsLeastAllowed, Answers}
+use Rattle.replays.specs.Replays.{no_run, reducible, Outcome, refused, replayed, header_refusal, StopsAt, Answers}
 use Rattle.linear_replays.specs.Replayed.{IsReplayedTo, ArePairIn, NoPairMakes, HasNoPair, next_verdict, from_nothing}
+use Rattle.calculus.specs.Candidates.{ids_up_to, IsLeastAllowed}
 
 -- before the first step, the rows are what the source offers
 abbrev pub ReplaysBegin : Type 0
 ReplaysBegin = (p : Prices) (cap : ℕ) (t : Tree) (source : List ℕ) (w : Work) (offers : List Op)
-    → Unfolds p cap t (digest_of (Start (replicate 32 0) source)) w → each row_of_op offers ≡ rows_of (work_things w)
+    → Unfolds p cap t (digest_of (Start (replicate 32 0) source)) w → each row_of_op offers ≡ rows_of (work_products w)
     → IsReplayedTo p cap t source offers [] (work_price cap w) (at_fault 0 (work_fault w) done)
 
 -- a receive and a send on one channel make a step, also past the limit and after a fault: both leave, and what the body offers comes to the rest
@@ -30,7 +30,7 @@ ReplaysStep = (p : Prices) (cap : ℕ) (t : Tree) (source : List ℕ) (rows : Li
     → IsCalm p cap t source made → IsReplayedTo p cap t source rows made price v → All IsSound rows
     → (receive send : Op) (rest : List Op) → ArePairIn rows receive send rest → IsNormal (sent (row_of_op send))
     → (w : Work) → UnfoldsUnder p cap (sent (row_of_op send) ∷ []) (body_of (row_of_op receive)) (digest_of (Comm (row_of_op receive).id ((row_of_op send).id ∷ []) 0)) w
-    → (offers : List Op) → each row_of_op offers ≡ rows_of (work_things w)
+    → (offers : List Op) → each row_of_op offers ≡ rows_of (work_products w)
     → IsReplayedTo p cap t source (rest ++ offers) (made ++ one_step (row_of_op receive) (row_of_op send) ∷ [])
     (price + (p.comm + work_price cap w)) (next_verdict (suc (length made)) w v)
 
@@ -39,13 +39,13 @@ abbrev pub ReplaysStop : Type 0
 ReplaysStop = (p : Prices) (cap : ℕ) (t : Tree) (source : List ℕ) (rows : List Op) (made : List Step) (price : ℕ) (v : Verdict)
     → IsCalm p cap t source made → IsReplayedTo p cap t source rows made price v → All IsSound rows
     → (s : Step) → NoPairMakes rows s → (after : List Step)
-    → StopsAt p cap [] t source (made ++ s ∷ after) (length made)
+    → StopsAt (deploy_of p cap [] t source) (made ++ s ∷ after) (length made)
 
 -- the rows of a replay
 pub record RowsOfReplays : Type 0 where
   -- may stand in any order
   pub moved : (p : Prices) (cap : ℕ) (t : Tree) (source : List ℕ) (rows others : List Op) (made : List Step) (price : ℕ) (v : Verdict)
-      → IsReplayedTo p cap t source rows made price v → Moved rows others → IsReplayedTo p cap t source others made price v
+      → IsReplayedTo p cap t source rows made price v → IsPermutation rows others → IsReplayedTo p cap t source others made price v
   -- and no two of them have one id
   pub differ_in_ids : (p : Prices) (cap : ℕ) (t : Tree) (source : List ℕ) (rows : List Op) (made : List Step) (price : ℕ) (v : Verdict)
       → IsCalm p cap t source made → IsReplayedTo p cap t source rows made price v → differ (each (λ o. (row_of_op o).id) rows) ≡ true
@@ -53,8 +53,8 @@ pub record RowsOfReplays : Type 0 where
 -- a legal list of steps prints nothing where all that its works offer is linear
 abbrev pub ReplaysPrintNothing : Type 0
 ReplaysPrintNothing = (p : Prices) (cap : ℕ) (t : Tree) (source : List ℕ) (made : List Step) (a : State)
-    → IsCalm p cap t source made → Leads p cap [] t source made a → All IsLinearRow (flat_map (λ w. rows_of (work_things w)) a.works)
-    → Prints p cap [] t source made []
+    → IsCalm p cap t source made → Leads (deploy_of p cap [] t source) made a → All IsLinearRow (flat_map (λ w. rows_of (work_products w)) a.works)
+    → a.output ≡ []
 
 -- which steps are allowed where the steps made have led
 pub record ReplaysEnd : Type 0 where
@@ -68,7 +68,7 @@ pub record ReplaysEnd : Type 0 where
       → (receive send : Op) (rest : List Op) → ArePairIn rows receive send rest
       → ((other datum : Op) (others : List Op) → ArePairIn rows other datum others
       → ids_up_to ((row_of_op receive).id ∷ (row_of_op send).id ∷ []) ((row_of_op other).id ∷ (row_of_op datum).id ∷ []) ≡ true)
-      → IsLeastAllowed r.state (one_step (row_of_op receive) (row_of_op send))
+      → IsLeastAllowed r.state.bag r.state.made (one_step (row_of_op receive) (row_of_op send))
 
 -- what a replay under a right header comes to: its verdict and its cost, no output, and these rows, in any order, where it is done
 pub record Replays (p : Prices) (t : Tree) (source : List ℕ) (h : Header) (made : List Step) (rows : List Op) (v : Verdict) (charge : ℕ) : Type 0 where
@@ -77,7 +77,7 @@ pub record Replays (p : Prices) (t : Tree) (source : List ℕ) (h : Header) (mad
   pub verdict_is : outcome.verdict ≡ v
   pub cost_is : outcome.cost ≡ charge
   pub output_is : outcome.output ≡ []
-  pub left : v ≡ done → Moved (each row_of_op rows) outcome.rows
+  pub left : v ≡ done → IsPermutation (each row_of_op rows) outcome.rows
   pub lost : v ≢ done → outcome.rows ≡ []
 
 -- so a log under a right header has this answer

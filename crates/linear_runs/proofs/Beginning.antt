@@ -1,6 +1,7 @@
 -- A run begins with what its source offers pending.
 use Rattle.std.proofs.Common.{◌≡◌, List, [], map as each, refl, sym, subst, arith}
-use Rattle.std.specs.Prelude.{None, replicate}
+use Rattle.std.specs.Prelude.{None, replicate, IsPermutation}
+use Rattle.list_laws.proofs.Permutations.{unmoved}
 use Rattle.calculus.specs.Log.{Step}
 use Rattle.calculus.specs.Seeds.{digest_of, Start}
 use Rattle.calculus.specs.Root.{root}
@@ -10,9 +11,7 @@ use Rattle.calculus.specs.Steps.{meeting}
 use Rattle.calculus.proofs.Opened.{hashing}
 use Rattle.calculus.proofs.Candidates.{candidates_suffice}
 use Rattle.rho_term.specs.Rows.{row_of_op}
-use Rattle.events.specs.Orders.{Moved, empty}
 use Rattle.events.specs.Events.{stored, started, no_event}
-use Rattle.events.proofs.Orders.{unmoved}
 use Rattle.linear_runs.specs.Laws.{CoursesBegin}
 
 -- the root of no rows
@@ -32,8 +31,8 @@ courses_begin p cap t source w offers unfolds offered = record {
   begins = record { unfolds = subst (λ r. Unfolds p cap t (digest_of (Start r source)) w) (sym root-of-none) unfolds; quiet = nothing-meets };
   events = no_event;
   steps = refl;
-  stored = empty;
-  waiting = subst (λ (rs : List Row). Moved (each row_of_op offers) rs) offered (unmoved (each row_of_op offers));
+  stored = unmoved [];
+  waiting = subst (λ (rs : List Row). IsPermutation (each row_of_op offers) rs) offered (unmoved (each row_of_op offers));
   works = refl;
   price_is = omega arith;
   verdict_is = refl;

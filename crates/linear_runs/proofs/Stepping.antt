@@ -1,24 +1,22 @@
 -- A pending operation and a stored one that are a pair make a step.
 use Rattle.std.proofs.Common.{◌≡◌, ℕ, suc, ◌+◌, ◌*◌, true, false, not, List, [], ◌∷◌, ◌++◌, length, map as each, refl, ap, sym, ◌∙◌, subst, arith, inl, inr, All, length-append}
-use Rattle.std.specs.Prelude.{◌⊎◌, ◌&&◌, Option, Some, None, sum_by}
+use Rattle.std.specs.Prelude.{◌⊎◌, ◌&&◌, Option, Some, None, sum_by, IsPermutation}
 use Rattle.std.proofs.lemmas.List.{map-append}
 use Rattle.std.proofs.lemmas.List.Elements.{All-head, All-tail}
 use Rattle.std.proofs.lemmas.List.Sums.{sum_by-append}
 use Rattle.std.specs.Str.{bytes_eq}
+use Rattle.list_laws.proofs.Permutations.{all_over, each-moved, join, moved_before, moved_so}
 use Rattle.calculus.specs.declared.fault.FaultKind.{FaultKind}
 use Rattle.calculus.specs.Outcome.{Prices}
 use Rattle.calculus.specs.Rows.{Row}
 use Rattle.calculus.specs.Unfolding.{rows_of}
-use Rattle.calculus.specs.Runs.{Work, work_things, work_price, work_fault, Verdict, done, faulted, step_of_work, at_fault, fault_verdict}
+use Rattle.calculus.specs.Runs.{deploy_of, Work, work_products, work_price, work_fault, Verdict, done, faulted, step_of_work, at_fault, fault_verdict}
 use Rattle.rho_term.specs.declared.op.Op.{Op}
 use Rattle.rho_term.specs.Rows.{row_of_op}
-use Rattle.events.specs.Orders.{Moved, join}
 use Rattle.events.specs.Events.{Event, one_more}
 use Rattle.events.proofs.Counts.{same_bytes}
-use Rattle.events.proofs.Orders.{moved_so, moved_before, all_over}
 use Rattle.linear_store.specs.Channels.{is_send, channel_code}
 use Rattle.linear_store.specs.Meetings.{Pairs}
-use Rattle.linear_store.proofs.Rows.{each-moved}
 use Rattle.linear_store.proofs.Becoming.{all_moved}
 use Rattle.linear_store.proofs.Filed.{blocks}
 use Rattle.linear_events.specs.Partners.{one_step, are_partners, AreThese, after_step}
@@ -65,7 +63,7 @@ record Stored (o : Op) (store after : List Op) (receive send : Op) : Type 0 wher
   pub sound : IsSound other
   pub receive_sound : IsSound receive
   pub send_sound : IsSound send
-  pub moved : Moved store (other ∷ after)
+  pub moved : IsPermutation store (other ∷ after)
 
 stored-of : (o : Op) (store after : List Op) (receive send : Op) → All IsSound (o ∷ store) → Pairs o store after receive send → Stored o store after receive send
 stored-of o store after r d sound pair = go pair.rows
@@ -73,10 +71,10 @@ stored-of o store after r d sound pair = go pair.rows
     first : IsSound o
     first = All-head IsSound o store sound
 
-    moved-sound : (q : Op) → Moved store (q ∷ after) → IsSound q
+    moved-sound : (q : Op) → IsPermutation store (q ∷ after) → IsSound q
     moved-sound q m = All-head IsSound q after (all_moved IsSound (moved_so m) (All-tail IsSound o store sound))
 
-    go : ((d ≡ o) × Moved store (r ∷ after)) ⊎ ((r ≡ o) × Moved store (d ∷ after)) → Stored o store after r d
+    go : ((d ≡ o) × IsPermutation store (r ∷ after)) ⊎ ((r ≡ o) × IsPermutation store (d ∷ after)) → Stored o store after r d
     go (inl (e, m)) = record {
       other = r;
       these = inr (refl, ap row_of_op e);
@@ -95,21 +93,21 @@ stored-of o store after r d sound pair = go pair.rows
     }
 
 -- what is pending after a step: the rest and what the body offers
-waiting-after : (rest offers : List Op) (rows before after : List Row) → each row_of_op offers ≡ rows → Moved (each row_of_op rest) (before ++ after) → Moved (each row_of_op (rest ++ offers)) (before ++ (rows ++ after))
+waiting-after : (rest offers : List Op) (rows before after : List Row) → each row_of_op offers ≡ rows → IsPermutation (each row_of_op rest) (before ++ after) → IsPermutation (each row_of_op (rest ++ offers)) (before ++ (rows ++ after))
 waiting-after rest offers rows before after e m =
-    subst (λ l. Moved l (before ++ (rows ++ after))) (sym (map-append row_of_op rest offers ∙ ap (λ l. each row_of_op rest ++ l) e))
+    subst (λ l. IsPermutation l (before ++ (rows ++ after))) (sym (map-append row_of_op rest offers ∙ ap (λ l. each row_of_op rest ++ l) e))
     (join (moved_before rows m) (join (all_over (before ++ after) rows) (blocks rows before after)))
 
 pub courses_step : CoursesStep
 courses_step p cap t source store pending made price calm s o rest m sound after receive send pair normal w unfolds offers offered =
     record {
       work = s.work;
-      core = after_step s.core (q.before ++ q.after) k.before k.after (one_step (row_of_op receive) (row_of_op send)) w;
+      core = after_step s.core (q.before ++ q.after) k.before k.after (one_step (row_of_op receive) (row_of_op send)) w [];
       begins = s.begins;
       events = one_more s.events event;
       steps = ap (λ ss. ss ++ one_step (row_of_op receive) (row_of_op send) ∷ []) s.steps;
       stored = q.moved;
-      waiting = waiting-after rest offers (rows_of (work_things w)) k.before k.after offered k.moved;
+      waiting = waiting-after rest offers (rows_of (work_products w)) k.before k.after offered k.moved;
       works = omega (arith, s.works, length-append s.core.works (w ∷ []), length-append made (one_step (row_of_op receive) (row_of_op send) ∷ []));
       price_is = price-more p cap (length made) price s.core.works w s.price_is ∙ ap (λ n. p.comm * n + sum_by (work_price cap) (s.core.works ++ w ∷ [])) (sym (length-append made (one_step (row_of_op receive) (row_of_op send) ∷ [])));
       verdict_is = fault-more 0 s.core.works w s.verdict_is ∙ ap (λ n. at_fault n (work_fault w) done) number;
@@ -127,8 +125,8 @@ courses_step p cap t source store pending made price calm s o rest m sound after
     number : 0 + length s.core.works ≡ suc (length made)
     number = omega (arith, s.works)
 
-    event : Event p cap s.core (after_step s.core (q.before ++ q.after) k.before k.after (one_step (row_of_op receive) (row_of_op send)) w)
+    event : Event p cap s.core (after_step s.core (q.before ++ q.after) k.before k.after (one_step (row_of_op receive) (row_of_op send)) w [])
     event =
-        linear_steps p cap [] t source s.work s.core (row_of_op o) k.before k.after (is-pending p cap t source store pending made price done calm s o rest m sound)
+        linear_steps (deploy_of p cap [] t source) s.work s.core (row_of_op o) k.before k.after (is-pending p cap t source store pending made price done calm s o rest m sound)
         q.before q.after (row_of_op u.other) q.is u.sound.0 (row_of_op receive) (row_of_op send) u.these
         (pair-partners receive send u.receive_sound u.send_sound pair.sends pair.receives pair.channel) normal w unfolds

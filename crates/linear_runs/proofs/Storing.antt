@@ -1,9 +1,11 @@
 -- A pending operation that meets no stored one is stored.
 use Rattle.std.proofs.Common.{◌≡◌, Bool, true, false, not, List, [], ◌∷◌, ◌++◌, map as each, refl, ap, sym, ◌∙◌, subst, inl, All}
-use Rattle.std.specs.Prelude.{ℕ, ◌&&◌}
+use Rattle.std.specs.Prelude.{ℕ, ◌&&◌, IsPermutation}
 use Rattle.std.specs.Str.{bytes_eq}
 use Rattle.std.proofs.lemmas.Bool.{false≢true}
 use Rattle.std.proofs.lemmas.List.Elements.{All-head, All-tail, All-map, All-nil, All-cons}
+use Rattle.list_laws.proofs.Members.{Member, member-right}
+use Rattle.list_laws.proofs.Permutations.{each-moved, join, keep, moved_back, moved_so}
 use Rattle.calculus.specs.Shape.{at, label_of}
 use Rattle.calculus.specs.Code.{code}
 use Rattle.calculus.specs.CodeLaws.{IsShort}
@@ -11,23 +13,19 @@ use Rattle.calculus.specs.Tree.{Tree}
 use Rattle.calculus.specs.Outcome.{Prices}
 use Rattle.calculus.specs.Log.{Step}
 use Rattle.calculus.specs.Rows.{Row}
-use Rattle.calculus.specs.Runs.{Verdict}
-use Rattle.calculus.proofs.Candidates.{Member}
+use Rattle.calculus.specs.Runs.{deploy_of, Verdict}
 use Rattle.rho_term.specs.declared.op.Op.{Op}
 use Rattle.rho_term.specs.declared.op.Op.TheVariants as op
 use Rattle.rho_term.specs.Rows.{row_of_op}
-use Rattle.events.specs.Orders.{Moved, keep, join}
 use Rattle.events.specs.Events.{after_put, Event, one_more}
 use Rattle.events.specs.Found.{Among}
 use Rattle.events.specs.Laws.{Follows}
 use Rattle.events.proofs.Counts.{bytes_same}
-use Rattle.events.proofs.Orders.{moved_so, moved_back}
-use Rattle.events.proofs.Standing.{member-right}
 use Rattle.events.proofs.Following.{append_nothing}
 use Rattle.events.proofs.Making.{member}
 use Rattle.events.proofs.Keeping.{events_are_legal}
-use Rattle.linear_store.specs.Channels.{is_send, channel_code, channel_of as channel_of_op}
-use Rattle.linear_store.proofs.Rows.{channel_is_of_row, linear_is_on_one_channel, each-moved}
+use Rattle.linear_store.specs.Channels.{is_send, channel_code, channel_of as channel_of_op, IsOnOneChannel}
+use Rattle.linear_store.proofs.Rows.{channel_is_of_row, linear_is_on_one_channel}
 use Rattle.linear_store.proofs.Becoming.{all_moved}
 use Rattle.linear_events.specs.Partners.{receives, sends, channel_of, are_partners, prints, IsApart}
 use Rattle.linear_events.specs.Laws.{IsPending}
@@ -38,9 +36,13 @@ use Rattle.linear_runs.specs.Courses.{IsSound, IsAt}
 use Rattle.linear_runs.specs.Laws.{CoursesStore}
 use Rattle.linear_runs.proofs.Lists.{Taken, taken_out, all_member}
 
+-- a sound operation is on one channel
+pub on-one-channel : (o : Op) → IsSound o → IsOnOneChannel o
+on-one-channel o s = linear_is_on_one_channel o s.0.0
+
 -- the channel of an operation is the first channel of its row
 pub row-channel : (o : Op) → IsSound o → channel_of (row_of_op o) ≡ channel_of_op o
-row-channel o s = ap (λ ts. at 0 ts) (channel_is_of_row o (linear_is_on_one_channel o s.0.0))
+row-channel o s = ap (λ ts. at 0 ts) (channel_is_of_row o (on-one-channel o s))
 
 pub row-sends : (o : Op) → sends (label_of (row_of_op o).part) ≡ is_send o
 row-sends (op.Produce id c xs q) = refl
@@ -89,19 +91,19 @@ module _ (p : Prices) (cap : ℕ) (t : Tree) (source : List ℕ) (store pending 
   pub calm-core : IsCalm p cap t source s.core.made
   calm-core = subst (IsCalm p cap t source) (sym s.steps) calm
 
-  pub follows : Follows p cap [] t source s.core
-  follows = events_are_legal p cap [] t source s.work s.core s.begins s.events calm-core.fresh
+  pub follows : Follows (deploy_of p cap [] t source) s.core
+  follows = events_are_legal (deploy_of p cap [] t source) s.work s.core s.begins s.events calm-core.fresh
 
   -- what is stored or pending does not print
   pub silent-rows : All (λ r. prints r ≡ false) (s.core.store ++ s.core.pending)
   silent-rows = all_moved (λ r. prints r ≡ false) (moved_so follows.same_rows) (calm-core.silent s.core.made [] (sym (append_nothing s.core.made)) follows.state follows.leads)
 
-  module _ (o : Op) (rest : List Op) (m : Moved pending (o ∷ rest)) (sound : All IsSound (o ∷ store)) where
+  module _ (o : Op) (rest : List Op) (m : IsPermutation pending (o ∷ rest)) (sound : All IsSound (o ∷ store)) where
     -- where the operation is pending
     pub place : Taken (row_of_op o) (each row_of_op rest) s.core.pending
     place = taken_out (row_of_op o) (each row_of_op rest) s.core.pending (join (moved_so (each-moved row_of_op m)) s.waiting)
 
-    pub is-pending : IsPending p cap [] t source s.work s.core (row_of_op o) place.before place.after
+    pub is-pending : IsPending (deploy_of p cap [] t source) s.work s.core (row_of_op o) place.before place.after
     is-pending = record { begins = s.begins; events = s.events; fresh = calm-core.fresh; pending = place.is; linear = (All-head IsSound o store sound).0 }
 
     pub no-print : prints (row_of_op o) ≡ false
@@ -132,9 +134,9 @@ courses_store p cap t source store pending made price v calm s o rest m sound af
   where
     event : Event p cap s.core (after_put s.core (row_of_op o) (place p cap t source store pending made price v calm s o rest m sound).before (place p cap t source store pending made price v calm s o rest m sound).after)
     event =
-        lonely_linear_operations p cap [] t source s.work s.core (row_of_op o) _ _ (is-pending p cap t source store pending made price v calm s o rest m sound)
+        lonely_linear_operations (deploy_of p cap [] t source) s.work s.core (row_of_op o) _ _ (is-pending p cap t source store pending made price v calm s o rest m sound)
         (rows-apart p cap t source store pending made price v calm s o rest m sound adds.alone)
         (no-print p cap t source store pending made price v calm s o rest m sound)
 
-    behind : Moved (row_of_op o ∷ s.core.store) (s.core.store ++ row_of_op o ∷ [])
-    behind = subst (λ l. Moved (row_of_op o ∷ l) (s.core.store ++ row_of_op o ∷ [])) (append_nothing s.core.store) (moved_back (row_of_op o) s.core.store [])
+    behind : IsPermutation (row_of_op o ∷ s.core.store) (s.core.store ++ row_of_op o ∷ [])
+    behind = subst (λ l. IsPermutation (row_of_op o ∷ l) (s.core.store ++ row_of_op o ∷ [])) (append_nothing s.core.store) (moved_back (row_of_op o) s.core.store [])

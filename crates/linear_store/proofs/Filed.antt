@@ -1,6 +1,6 @@
 -- What taking a queue out and putting one in makes of the operations.
 use Rattle.std.proofs.Common.{◌≡◌, ◌≢◌, ℕ, Bool, true, false, cond, List, [], ◌∷◌, ◌++◌, refl, sym, ◌∙◌, ap, subst, append_assoc, append-nil, length, All, arith, Vec, Global}
-use Rattle.std.specs.Prelude.{Option, Some, None}
+use Rattle.std.specs.Prelude.{Option, Some, None, IsPermutation}
 use Rattle.std.specs.Bool.{Decides}
 use Rattle.std.specs.Str.{bytes_eq}
 use Rattle.std.specs.Map.{lookup, remove_entry}
@@ -13,15 +13,14 @@ use Rattle.std.specs.BTreeMap.{insert_entry}
 use Rattle.std.proofs.lemmas.Map.Text.{is_eq-slice_cmp}
 use Rattle.std.proofs.lemmas.Map.Lookups.{exact_bytes}
 use Rattle.std.proofs.lemmas.Slice.Eq.{bytes_eq-Decides}
+use Rattle.list_laws.proofs.Permutations.{all_over, join, moved_after, moved_before, unmoved}
 use Rattle.rho_term.specs.declared.op.Op.{Op}
-use Rattle.events.specs.Orders.{Moved, empty, keep, exchange, join}
-use Rattle.events.proofs.Orders.{unmoved, moved_after, moved_before, all_over}
 use Rattle.linear_store.specs.Channels.{channel_code, is_send}
 use Rattle.linear_store.specs.Queues.{Entry, queued, IsQueue, AreFiled, HasNoKey}
 use Rattle.std.proofs.lemmas.List.Elements.{All-nil, All-append, All-weaker, All-rest, All-push}
 
 -- one list moves over another
-pub blocks : {A : Type 0} (xs ys zs : List A) → Moved (xs ++ (ys ++ zs)) (ys ++ (xs ++ zs))
+pub blocks : {A : Type 0} (xs ys zs : List A) → IsPermutation (xs ++ (ys ++ zs)) (ys ++ (xs ++ zs))
 blocks xs ys zs = simp append_assoc at (moved_before zs (all_over xs ys))
 
 -- whether a key is this one
@@ -31,11 +30,11 @@ is_key key k = is_eq (slice_cmp nat_cmp key k.items)
 pub is_key-Decides : (key : List ℕ) (k : Vec ℕ Global) → Decides (is_key key k) (key ≡ k.items)
 is_key-Decides key k = rw is_eq-slice_cmp (bytes_eq-Decides key k.items)
 
-pub rows_taken : (test : Vec ℕ Global → Bool) (q : VecDeque Op Global) (es : List Entry) → lookup test es ≡ Some q → Moved (queued es) (q.items ++ queued (remove_entry test es))
+pub rows_taken : (test : Vec ℕ Global → Bool) (q : VecDeque Op Global) (es : List Entry) → lookup test es ≡ Some q → IsPermutation (queued es) (q.items ++ queued (remove_entry test es))
 rows_taken test q [] h = absurd (cc)
 rows_taken test q (e ∷ es) h =
-    elim (test e.0) as (λ b. cond b (Some e.1) (lookup test es) ≡ Some q → Moved (e.1.items ++ queued es) (q.items ++ queued (cond b es (e ∷ remove_entry test es)))) [
-      | true ↦ λ i. let same : e.1 ≡ q = cc in subst (λ (p : VecDeque Op Global). Moved (e.1.items ++ queued es) (p.items ++ queued es)) same (unmoved (e.1.items ++ queued es))
+    elim (test e.0) as (λ b. cond b (Some e.1) (lookup test es) ≡ Some q → IsPermutation (e.1.items ++ queued es) (q.items ++ queued (cond b es (e ∷ remove_entry test es)))) [
+      | true ↦ λ i. let same : e.1 ≡ q = cc in subst (λ (p : VecDeque Op Global). IsPermutation (e.1.items ++ queued es) (p.items ++ queued es)) same (unmoved (e.1.items ++ queued es))
       | false ↦ λ i. join (moved_after e.1.items (rows_taken test q es i)) (blocks e.1.items q.items (queued (remove_entry test es)))
     ] h
 
@@ -66,10 +65,10 @@ none_has_key key (e ∷ es) h =
 abbrev pub by_code : Vec ℕ Global → Vec ℕ Global → Ordering
 by_code x y = slice_cmp nat_cmp x.items y.items
 
-pub rows_put : (k : Vec ℕ Global) (q : VecDeque Op Global) (es : List Entry) → HasNoKey k.items es → Moved (q.items ++ queued es) (queued (insert_entry by_code es k q))
+pub rows_put : (k : Vec ℕ Global) (q : VecDeque Op Global) (es : List Entry) → HasNoKey k.items es → IsPermutation (q.items ++ queued es) (queued (insert_entry by_code es k q))
 rows_put k q [] n = unmoved (q.items ++ [])
 rows_put k q (e ∷ es) n =
-    elim (by_code k e.0) as (λ o. by_code k e.0 ≡ o → Moved (q.items ++ (e.1.items ++ queued es)) (queued (match_ordering o ((k, q) ∷ e ∷ es) ((e.0, q) ∷ es) (e ∷ insert_entry by_code es k q)))) [
+    elim (by_code k e.0) as (λ o. by_code k e.0 ≡ o → IsPermutation (q.items ++ (e.1.items ++ queued es)) (queued (match_ordering o ((k, q) ∷ e ∷ es) ((e.0, q) ∷ es) (e ∷ insert_entry by_code es k q)))) [
       | Less ↦ λ i. unmoved (q.items ++ (e.1.items ++ queued es))
       | Equal ↦ λ i. absurd (n.0 (sym (exact_bytes _ _ i)))
       | Greater ↦ λ i. join (blocks q.items e.1.items (queued es)) (moved_after e.1.items (rows_put k q es n.1))
@@ -88,7 +87,7 @@ pub queued-push : (es : List Entry) (e : Entry) → queued (es ++ e ∷ []) ≡ 
 queued-push [] e = append-nil e.1.items
 queued-push (d ∷ es) e = ap (λ (os : List Op). d.1.items ++ os) (queued-push es e) ∙ sym (append_assoc d.1.items (queued es) e.1.items)
 
-pub nothing_put : (q : List Op) (es : List Entry) → length q ≡ 0 → Moved (q ++ queued es) (queued es)
+pub nothing_put : (q : List Op) (es : List Entry) → length q ≡ 0 → IsPermutation (q ++ queued es) (queued es)
 nothing_put [] es z = unmoved (queued es)
 nothing_put (o ∷ os) es z = absurd (omega arith)
 

@@ -1,6 +1,7 @@
 -- The operations of a store and the rows that they are.
 use Rattle.std.proofs.Common.{◌≡◌, true, List, [], ◌∷◌, length, map as each, refl, arith}
 use Rattle.std.proofs.lemmas.Bool.{false≢true}
+use Rattle.list_laws.proofs.Permutations.{each-moved}
 use Rattle.calculus.specs.declared.plain.Kind.{Kind}
 use Rattle.calculus.specs.declared.plain.Kind.TheVariants as kinds
 use Rattle.calculus.specs.Tree.{row, receive, Tree, node, none, also, trees}
@@ -10,7 +11,6 @@ use Rattle.rho_term.specs.declared.op.Op.{Op}
 use Rattle.rho_term.specs.declared.op.Op.TheVariants as op
 use Rattle.rho_term.specs.declared.term.TermBind.{TermBind}
 use Rattle.rho_term.specs.Parts.{bind_tree}
-use Rattle.events.specs.Orders.{Moved, empty, keep, exchange, join}
 use Rattle.linear_unfold.specs.Linear.{is_linear_part}
 use Rattle.rho_term.specs.Rows.{row_of_op}
 use Rattle.linear_unfold.proofs.Shapes.{receive-of}
@@ -35,12 +35,6 @@ one-bind k [] body h = absurd (false≢true h)
 pub linear_is_on_one_channel : LinearIsOnOneChannel
 linear_is_on_one_channel (op.Produce id c xs q) h = tt
 linear_is_on_one_channel (op.Consume id k bs body) h = one-bind k bs.items body h
-
-pub each-moved : {A B : Type 0} (f : A → B) {xs ys : List A} → Moved xs ys → Moved (each f xs) (each f ys)
-each-moved f empty = empty
-each-moved f (keep x m) = keep (f x) (each-moved f m)
-each-moved f (exchange x y zs) = exchange (f x) (f y) (each f zs)
-each-moved f (join m n) = join (each-moved f m) (each-moved f n)
 
 pub rows_move_alike : RowsMoveAlike
 rows_move_alike os ps m = each-moved row_of_op m

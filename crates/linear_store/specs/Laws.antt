@@ -1,8 +1,7 @@
 -- What ties the operations of a store to the rows that they are.
-use Rattle.std.specs.Prelude.{◌≡◌, true, List, [], ◌∷◌, map as each}
+use Rattle.std.specs.Prelude.{◌≡◌, true, List, [], ◌∷◌, map as each, IsPermutation}
 use Rattle.calculus.specs.Rows.{channels}
 use Rattle.rho_term.specs.declared.op.Op.{Op}
-use Rattle.events.specs.Orders.{Moved}
 use Rattle.linear_unfold.specs.Linear.{is_linear_part}
 use Rattle.rho_term.specs.Rows.{row_of_op}
 use Rattle.linear_store.specs.Channels.{channel_of, IsOnOneChannel}
@@ -17,4 +16,4 @@ LinearIsOnOneChannel = (o : Op) → is_linear_part (row_of_op o).part ≡ true �
 
 -- operations in another order have their rows in another order
 abbrev pub RowsMoveAlike : Type 0
-RowsMoveAlike = (os ps : List Op) → Moved os ps → Moved (each row_of_op os) (each row_of_op ps)
+RowsMoveAlike = (os ps : List Op) → IsPermutation os ps → IsPermutation (each row_of_op os) (each row_of_op ps)

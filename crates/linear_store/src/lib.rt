@@ -5,4 +5,5 @@ pub mod laws;
 mod queues;
 pub mod store;
 
+pub use queues::{channel_code, is_send};
 pub use store::{Met, Store};

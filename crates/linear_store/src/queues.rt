@@ -1,6 +1,5 @@
 // Operations in queues, each found by the code of its channel.
-ghost use Rattle.std.specs.Prelude.{◌≡◌, ◌∷◌, ◌++◌, ◌≢◌, All, IfOk, MatchOption};
-ghost use Rattle.events.specs.Orders.{Moved};
+ghost use Rattle.std.specs.Prelude.{◌≡◌, ◌∷◌, ◌++◌, ◌≢◌, All, IfOk, MatchOption, IsPermutation};
 ghost use Rattle.linear_store.specs.Channels.{channel_code, is_send, IsOnOneChannel};
 ghost use Rattle.linear_store.specs.Queues.{queued, AreFiled, AreOfOneKind, HasNoKey, IsQueue};
 
@@ -13,7 +12,7 @@ use term_encoder::encode_term;
 pub(crate) type Queues = BTreeMap<Vec<u8>, VecDeque<Op>>;
 
 /// Whether an operation is a send.
-pub(crate) fn is_send(op: &Op) -> bool
+pub fn is_send(op: &Op) -> bool
     ensures { result ≡ is_send op.now }
 {
     match op {
@@ -22,8 +21,8 @@ pub(crate) fn is_send(op: &Op) -> bool
     }
 }
 
-/// The code of an operation's channel. Want of memory is the one error.
-pub(crate) fn channel_code(alloc: Global, op: &Op) -> Result<Vec<u8>, AllocError>
+/// The code of the channel of a send, or of a receive of one bind. Want of memory is the one error.
+pub fn channel_code(alloc: Global, op: &Op) -> Result<Vec<u8>, AllocError>
     requires { IsOnOneChannel op.now }
     ensures { IfOk result (λ v. v.items ≡ channel_code op.now) }
 {
@@ -39,7 +38,7 @@ pub(crate) fn take_queue(alloc: Global, queues: &mut Queues, key: &[u8]) -> VecD
     ensures queue { IsQueue key.now result.items }
     ensures filed { AreFiled queues.new.entries }
     ensures gone { HasNoKey key.now queues.new.entries }
-    ensures rows { Moved (queued queues.old.entries) (result.items ++ queued queues.new.entries) }
+    ensures rows { IsPermutation (queued queues.old.entries) (result.items ++ queued queues.new.entries) }
 {
     match queues.remove(key) {
         Some(queue) => queue,
@@ -58,7 +57,7 @@ pub(crate) fn put_queue(
     requires filed { AreFiled queues.old.entries }
     requires gone { HasNoKey key.items queues.old.entries }
     ensures filed { AreFiled queues.new.entries }
-    ensures rows { IfOk result (λ _. Moved (queue.items ++ queued queues.old.entries) (queued queues.new.entries)) }
+    ensures rows { IfOk result (λ _. IsPermutation (queue.items ++ queued queues.old.entries) (queued queues.new.entries)) }
 {
     if queue.is_empty() {
         return Ok(());

@@ -15,7 +15,7 @@ use Rattle.calculus.specs.Variables.{a_name}
 use Rattle.calculus.specs.Substitution.{put}
 use Rattle.calculus.specs.Form.{IsClosed}
 use Rattle.calculus.specs.Seeds.{digest_of, message, Fresh, Split}
-use Rattle.calculus.specs.Unfolding.{Thing, rows_of, names_made, fresh_names}
+use Rattle.calculus.specs.Unfolding.{Product, rows_of, names_made, fresh_names}
 use Rattle.calculus.proofs.Closing.{put_is_closed}
 use Rattle.calculus.proofs.Digests.{digest-fits}
 use Rattle.linear_unfold.specs.Linear.{all_plain, is_linear, is_linear_part}
@@ -79,7 +79,7 @@ names-closed t k (origins.Plain ∷ os) h =
 names-closed t k (o ∷ os) h = absurd (false≢true h)
 
 -- fresh names are no rows
-pub no-rows : (t : List ℕ) (k : ℕ) (os : List Origin) (ts : List Thing) → rows_of (fresh_names t k os ++ ts) ≡ rows_of ts
+pub no-rows : (t : List ℕ) (k : ℕ) (os : List Origin) (ts : List Product) → rows_of (fresh_names t k os ++ ts) ≡ rows_of ts
 no-rows t k [] ts = refl
 no-rows t k (origins.Plain ∷ os) ts = no-rows t (suc k) os ts
 no-rows t k (origins.Stdout ∷ os) ts = no-rows t (suc k) os ts

@@ -7,7 +7,7 @@ use Rattle.calculus.specs.Normal.{ascending}
 use Rattle.calculus.specs.Form.{part, all, Fits, Hold, IsClosed}
 use Rattle.calculus.specs.Seeds.{digest_of, Split}
 use Rattle.calculus.specs.Outcome.{Prices, Outcome, pure}
-use Rattle.calculus.specs.Unfolding.{Thing, Unfolder, unfold_part, parts_unfolded, unfold_in}
+use Rattle.calculus.specs.Unfolding.{Product, Unfolder, unfold_part, parts_unfolded, unfold_in}
 use Rattle.calculus.proofs.Placing.{listed-trees}
 use Rattle.rho_term.specs.declared.op.Op.{Op}
 use Rattle.rho_term.specs.Normal.{IsNormal}
@@ -40,7 +40,7 @@ closed-at f xs i d l h = (h.0, (fits-at f xs i d l h.1, tt))
 
 module _ {A : Type 0} (p : Prices) (again : Unfolder) (s : List ℕ) (f : A → Tree) (xs : List A) where
   -- what the parts from number i on offer
-  abbrev pub left : ℕ → Outcome (List Thing)
+  abbrev pub left : ℕ → Outcome (List Product)
   left i = parts_unfolded p again s i (each f (drop i xs))
 
   pub next-part : (i : ℕ) (d : A) → i < length xs → left i ≡ both (unfold_part p again (digest_of (Split s i)) (f (get_or xs i d))) (left (i + 1))

@@ -14,7 +14,7 @@ use Rattle.calculus.specs.Code.{code}
 use Rattle.calculus.specs.Outcome.{Prices, Outcome, fails, free, pure}
 use Rattle.calculus.specs.Values.{value}
 use Rattle.calculus.specs.Rows.{Row, row_length}
-use Rattle.calculus.specs.Unfolding.{Thing, opened, row_limits}
+use Rattle.calculus.specs.Unfolding.{Product, opened, row_limits}
 use Rattle.rho_term.specs.Normal.{IsNormal}
 use Rattle.rho_term.specs.declared.op.Op.{Op}
 use Rattle.rho_term.specs.Measures.{in_u32}
@@ -68,13 +68,13 @@ module _ (p : Prices) (t : List ℕ) (c x : Tree) where
     pub first-stops : (e : EvalStop) (k : FaultKind) → size_fault (height c) (length (code c)) ≡ Some k → e ≡ Fault k n → Stopped cap n (send_work p t c x) e
     first-stops e k f w =
         let o = channel-fails k (value-beyond p c k (linear-parts h).0 cn f) in
-        stopped-fault cap n n (send_work p t c x) k e (ap (λ (u : Outcome (List Thing)). u.answer) o) (omega (arith, ap (λ (u : Outcome (List Thing)). u.price) o)) small w
+        stopped-fault cap n n (send_work p t c x) k e (ap (λ (u : Outcome (List Product)). u.answer) o) (omega (arith, ap (λ (u : Outcome (List Product)). u.price) o)) small w
 
     module _ (cf : size_fault (height c) (length (code c)) ≡ None) (xn : IsNormal x) where
       pub second-stops : (e : EvalStop) (k : FaultKind) → size_fault (height x) (length (code x)) ≡ Some k → e ≡ Fault k n → Stopped cap n (send_work p t c x) e
       second-stops e k f w =
           let o = argument-fails k (value-within p c (linear-parts h).0 cn cf) (value-beyond p x k (linear-parts h).1 xn f) in
-          stopped-fault cap n n (send_work p t c x) k e (ap (λ (u : Outcome (List Thing)). u.answer) o) (omega (arith, ap (λ (u : Outcome (List Thing)). u.price) o)) small w
+          stopped-fault cap n n (send_work p t c x) k e (ap (λ (u : Outcome (List Product)). u.answer) o) (omega (arith, ap (λ (u : Outcome (List Product)). u.price) o)) small w
 
       module _ (xf : size_fault (height x) (length (code x)) ≡ None) where
         answered : (send_work p t c x).answer ≡ row_limits sent

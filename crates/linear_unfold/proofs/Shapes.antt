@@ -13,7 +13,7 @@ use Rattle.calculus.specs.Tree.{row, send, receive, bind, pattern, rest, Tree, n
 use Rattle.calculus.specs.Shape.{leaf, two, three, many}
 use Rattle.calculus.specs.Outcome.{Prices, Outcome, pure, charged, after}
 use Rattle.calculus.specs.Values.{value, values}
-use Rattle.calculus.specs.Unfolding.{Thing, Unfolder, rows_of, unfold_part}
+use Rattle.calculus.specs.Unfolding.{Product, Unfolder, rows_of, unfold_part}
 use Rattle.rho_term.specs.declared.op.Op.{Op}
 use Rattle.rho_term.specs.declared.term.Part.{Part}
 use Rattle.rho_term.specs.declared.term.Part.TheVariants as part
@@ -60,14 +60,14 @@ quiet p again t (part.New os u) a b d h = absurd (d os u refl)
 quiet p again t q a b d h = absurd (false≢true h)
 
 -- what a body adds after the price of its names
-pub went-new : (cap n k m cost : ℕ) (xs zs : List Op) (fs : List Thing) (inner : Outcome (List Thing)) → k ≡ n + cost → ((ts : List Thing) → rows_of (fs ++ ts) ≡ rows_of ts) → Went cap k m xs zs inner
+pub went-new : (cap n k m cost : ℕ) (xs zs : List Op) (fs : List Product) (inner : Outcome (List Product)) → k ≡ n + cost → ((ts : List Product) → rows_of (fs ++ ts) ≡ rows_of ts) → Went cap k m xs zs inner
     → Went cap n m xs zs (charged cost (after inner (λ ts. pure (fs ++ ts))))
 went-new cap n k m cost xs zs fs inner e r w =
     let q = after-gives inner w.things (λ ts. pure (fs ++ ts)) w.answer in
     record {
       things = fs ++ w.things;
-      answer = ap (λ (u : Outcome (List Thing)). u.answer) q;
-      price = omega (arith, e, w.price, ap (λ (u : Outcome (List Thing)). u.price) q);
+      answer = ap (λ (u : Outcome (List Product)). u.answer) q;
+      price = omega (arith, e, w.price, ap (λ (u : Outcome (List Product)). u.price) q);
       fits = w.fits;
       rows = w.rows ∙ ap (λ rs. each row_of_op xs ++ rs) (sym (r w.things));
       linear = subst (All IsLinearRow) (sym (r w.things)) w.linear;

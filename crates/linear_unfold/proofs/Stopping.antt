@@ -8,7 +8,7 @@ use Rattle.calculus.specs.declared.fault.FaultKind.{FaultKind}
 use Rattle.calculus.specs.declared.fault.FaultKind.TheVariants as fault
 use Rattle.calculus.specs.Outcome.{Outcome, gives, fails}
 use Rattle.calculus.specs.Rows.{Row}
-use Rattle.calculus.specs.Unfolding.{Thing, a_row}
+use Rattle.calculus.specs.Unfolding.{Product, a_row}
 use Rattle.rho_term.specs.declared.op.Op.{Op}
 use Rattle.linear_unfold.specs.declared.stop.EvalStop.{EvalStop}
 use Rattle.linear_unfold.specs.declared.stop.EvalStop.TheVariants.{Fault, Over, NoMemory}
@@ -22,13 +22,13 @@ exit P Q (Ok x) e h q = absurd h
 exit P Q (Err d) e h q = subst Q (sym h) q
 
 -- what stops without a result where memory runs out
-pub exit-memory : {X : Type 0} (P : X → Type 0) (cap n : ℕ) (o : Outcome (List Thing)) (r : Result X EvalStop) → IsErrAnd r (λ d. d ≡ NoMemory) → MatchResult r P (Stopped cap n o)
+pub exit-memory : {X : Type 0} (P : X → Type 0) (cap n : ℕ) (o : Outcome (List Product)) (r : Result X EvalStop) → IsErrAnd r (λ d. d ≡ NoMemory) → MatchResult r P (Stopped cap n o)
 exit-memory P cap n o r h = exit P (Stopped cap n o) r NoMemory h (search)
 
-pub stopped-fault : (cap n m : ℕ) (o : Outcome (List Thing)) (k : FaultKind) (e : EvalStop) → o.answer ≡ fails k → m ≡ n + o.price → m ≤ cap → e ≡ Fault k m → Stopped cap n o e
+pub stopped-fault : (cap n m : ℕ) (o : Outcome (List Product)) (k : FaultKind) (e : EvalStop) → o.answer ≡ fails k → m ≡ n + o.price → m ≤ cap → e ≡ Fault k m → Stopped cap n o e
 stopped-fault cap n m o k e a p h w = subst (Stopped cap n o) (sym w) (a, p, h)
 
-pub stopped-over : (cap n c : ℕ) (o : Outcome (List Thing)) (e : EvalStop) → c ≡ o.price → cap < n + c → e ≡ Over → Stopped cap n o e
+pub stopped-over : (cap n c : ℕ) (o : Outcome (List Product)) (e : EvalStop) → c ≡ o.price → cap < n + c → e ≡ Over → Stopped cap n o e
 stopped-over cap n c o e q h w = subst (Stopped cap n o) (sym w) (omega arith)
 
 append-one : (xs ys : List Op) (x : Op) → ys ≡ xs ++ x ∷ [] → each row_of_op ys ≡ each row_of_op xs ++ row_of_op x ∷ []
@@ -38,7 +38,7 @@ append-one xs ys x e = ap (each row_of_op) e ∙ each-append xs
     each-append [] = refl
     each-append (y ∷ ys) = ap (λ rs. row_of_op y ∷ rs) (each-append ys)
 
-pub went-row : (cap n m : ℕ) (xs ys : List Op) (x : Op) (r : Row) (o : Outcome (List Thing)) → o.answer ≡ gives (a_row r ∷ []) → m ≡ n + o.price → m ≤ cap → ys ≡ xs ++ x ∷ [] → row_of_op x ≡ r → IsLinearRow r
+pub went-row : (cap n m : ℕ) (xs ys : List Op) (x : Op) (r : Row) (o : Outcome (List Product)) → o.answer ≡ gives (a_row r ∷ []) → m ≡ n + o.price → m ≤ cap → ys ≡ xs ++ x ∷ [] → row_of_op x ≡ r → IsLinearRow r
     → Went cap n m xs ys o
 went-row cap n m xs ys x r o a p h e w l =
     record { things = a_row r ∷ []; answer = a; price = p; fits = h; rows = append-one xs ys x e ∙ ap (λ q. each row_of_op xs ++ q ∷ []) w; linear = All-cons IsLinearRow r [] l (All-nil IsLinearRow) }

@@ -18,7 +18,7 @@ use Rattle.calculus.specs.Code.{code}
 use Rattle.calculus.specs.Form.{IsClosed}
 use Rattle.calculus.specs.Outcome.{Prices, Outcome}
 use Rattle.calculus.specs.Rows.{row_length}
-use Rattle.calculus.specs.Unfolding.{Thing, sorted_receive, row_limits}
+use Rattle.calculus.specs.Unfolding.{Product, sorted_receive, row_limits}
 use Rattle.rho_term.specs.declared.op.Op.{Op}
 use Rattle.rho_term.specs.Measures.{in_u32}
 use Rattle.rho_term.specs.Normal.{IsNormal}
@@ -39,7 +39,7 @@ use Rattle.linear_unfold.proofs.Capping.{capped-cost, size-capped}
 -- a bind of a receive on its channel, beside what it stands for
 module _ (p : Prices) (t : List ℕ) (bind c body : Tree) (v : Label) (same : bind ≡ one_bind c v) (cap n : ℕ) (small : n ≤ cap) (vh : is_variable v ≡ true) (ch : is_linear c ≡ true)
     (given : is_linear_part (two (receive kinds.Linear) (many row (bind ∷ [])) body) ≡ true) (closed : IsClosed (only (two (receive kinds.Linear) (many row (bind ∷ [])) body))) (cn : IsNormal c) where
-  abbrev work : Outcome (List Thing)
+  abbrev work : Outcome (List Product)
   work = receive_work p t bind body
 
   whole : work ≡ receive_work p t (one_bind c v) body
@@ -54,17 +54,17 @@ module _ (p : Prices) (t : List ℕ) (bind c body : Tree) (v : Label) (same : bi
   pub channel-stops : (e : EvalStop) (f : FaultKind) → size_fault (height c) (length (code c)) ≡ Some f → e ≡ Fault f n → Stopped cap n work e
   channel-stops e f z w =
       let o = whole ∙ receive_channel-fails p t c body v f (value-beyond p c f ch cn z) in
-      stopped-fault cap n n work f e (ap (λ (u : Outcome (List Thing)). u.answer) o) (omega (arith, ap (λ (u : Outcome (List Thing)). u.price) o)) small w
+      stopped-fault cap n n work f e (ap (λ (u : Outcome (List Product)). u.answer) o) (omega (arith, ap (λ (u : Outcome (List Product)). u.price) o)) small w
 
   module _ (cf : size_fault (height c) (length (code c)) ≡ None) (bn : IsNormal body) where
     itself : sorted_receive kinds.Linear (one_bind c v ∷ []) body ≡ received c v body
     itself = let s = scopes-of c body v vh k in sorted-itself s.1.0 c body v vh s.0 s.1.1 s.1.2 bn
 
     answered : work.answer ≡ row_limits (taken p t c body v)
-    answered = ap (λ (u : Outcome (List Thing)). u.answer) whole ∙ receive-answer p t c body v ch (value-within p c ch cn cf) itself
+    answered = ap (λ (u : Outcome (List Product)). u.answer) whole ∙ receive-answer p t c body v ch (value-within p c ch cn cf) itself
 
     whole-price : work.price ≡ p.receive + p.byte * (48 + length (code c) + length (code body))
-    whole-price = ap (λ (u : Outcome (List Thing)). u.price) whole ∙ (receive-price p t c body v ch (value-within p c ch cn cf) itself ∙ ap (λ m. p.receive + p.byte * m) (receive-length t c body v vh))
+    whole-price = ap (λ (u : Outcome (List Product)). u.price) whole ∙ (receive-price p t c body v ch (value-within p c ch cn cf) itself ∙ ap (λ m. p.receive + p.byte * m) (receive-length t c body v vh))
 
     -- what is added for it, as far as 64 bits hold it
     pub priced : (r b x y bytes product cost : ℕ) → r ≡ p.receive → b ≡ p.byte → x ≡ length (code c) → y ≡ in_u64 (length (code body)) → bytes ≡ min (y + (48 + x)) (2 ^ 64 - 1) → product ≡ min (b * bytes) (2 ^ 64 - 1)

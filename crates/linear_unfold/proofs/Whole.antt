@@ -8,7 +8,7 @@ use Rattle.calculus.specs.Size.{height}
 use Rattle.calculus.specs.Code.{code}
 use Rattle.calculus.specs.Substitution.{put}
 use Rattle.calculus.specs.Outcome.{Prices, Answer, gives, fails, Outcome, within_limits, Capped, over, within, known, capped}
-use Rattle.calculus.specs.Unfolding.{Thing, rows_of, Unfolds, unfold_in, unfold_within, UnfoldsUnder}
+use Rattle.calculus.specs.Unfolding.{Product, rows_of, Unfolds, unfold_in, unfold_within, UnfoldsUnder}
 use Rattle.rho_term.specs.declared.op.Op.{Op}
 use Rattle.rho_term.specs.Measures.{in_u32}
 use Rattle.term_encoder.specs.Sizes.{in_u64}
@@ -20,7 +20,7 @@ use Rattle.rho_term.specs.Rows.{row_of_op}
 use Rattle.linear_unfold.proofs.Capping.{size-capped}
 use Rattle.linear_unfold.proofs.Sizes.{within-limits, beyond-limits}
 
-as-record : (o : Outcome (List Thing)) (m : ℕ) (a : Answer (List Thing)) → o.price ≡ m → o.answer ≡ a → o ≡ record { price = m; answer = a }
+as-record : (o : Outcome (List Product)) (m : ℕ) (a : Answer (List Product)) → o.price ≡ m → o.answer ≡ a → o ≡ record { price = m; answer = a }
 as-record o m a p q = ap (λ n. record { price = n; answer = o.answer }) p ∙ ap (λ b. record { price = m; answer = b }) q
 
 not-above : (cap m : ℕ) → m ≤ cap → ltb cap m ≡ false
@@ -29,20 +29,20 @@ not-above cap m h = grind (arith, nat_tests)
 is-above : (cap m : ℕ) → cap < m → ltb cap m ≡ true
 is-above cap m h = grind (arith, nat_tests)
 
-below-cap : (cap m : ℕ) (x : Option (Capped (List Thing))) → m ≤ cap → cond (ltb cap m) (Some over) x ≡ x
+below-cap : (cap m : ℕ) (x : Option (Capped (List Product))) → m ≤ cap → cond (ltb cap m) (Some over) x ≡ x
 below-cap cap m x h = ap (λ b. cond b (Some over) x) (not-above cap m h)
 
-capped-gives : (cap m : ℕ) (o : Outcome (List Thing)) (ts : List Thing) → o.answer ≡ gives ts → m ≡ 0 + o.price → m ≤ cap → capped cap o ≡ Some (within (record { price = m; answer = gives ts }))
+capped-gives : (cap m : ℕ) (o : Outcome (List Product)) (ts : List Product) → o.answer ≡ gives ts → m ≡ 0 + o.price → m ≤ cap → capped cap o ≡ Some (within (record { price = m; answer = gives ts }))
 capped-gives cap m o ts a p h =
     let q : o.price ≡ m = omega arith in
     ap (capped cap) (as-record o m (gives ts) q a) ∙ below-cap cap m (Some (within (record { price = m; answer = gives ts }))) h
 
-capped-fails : (cap m : ℕ) (o : Outcome (List Thing)) (k : FaultKind) → o.answer ≡ fails k → m ≡ 0 + o.price → m ≤ cap → capped cap o ≡ Some (within (record { price = m; answer = fails k }))
+capped-fails : (cap m : ℕ) (o : Outcome (List Product)) (k : FaultKind) → o.answer ≡ fails k → m ≡ 0 + o.price → m ≤ cap → capped cap o ≡ Some (within (record { price = m; answer = fails k }))
 capped-fails cap m o k a p h =
     let q : o.price ≡ m = omega arith in
     ap (capped cap) (as-record o m (fails k) q a) ∙ below-cap cap m (Some (within (record { price = m; answer = fails k }))) h
 
-capped-over : (cap : ℕ) (o : Outcome (List Thing)) → cap < 0 + o.price → capped cap o ≡ Some over
+capped-over : (cap : ℕ) (o : Outcome (List Product)) → cap < 0 + o.price → capped cap o ≡ Some over
 capped-over cap o h =
     let q : cap < o.price = omega arith in
     ap (λ b. cond b (Some over) (option_map within (known o.answer o))) (is-above cap o.price q)
@@ -58,7 +58,7 @@ module _ (p : Prices) (cap : ℕ) (s : List ℕ) where
   whole-ends room t NoMemory h = h
 
   module _ (vs : List Tree) (body : Tree) where
-    under : within_limits (put vs body) ≡ gives (put vs body) → (w : Capped (List Thing)) → Unfolds p cap (put vs body) s w → UnfoldsUnder p cap vs body s w
+    under : within_limits (put vs body) ≡ gives (put vs body) → (w : Capped (List Product)) → Unfolds p cap (put vs body) s w → UnfoldsUnder p cap vs body s w
     under e w u = (u.0, ap (λ a. capped cap (unfold_within (unfold_in p u.0) s a)) e ∙ u.1)
 
     -- a body with its values, within the limits

@@ -1,7 +1,7 @@
 -- What the unfolding of a source or of a body came to.
 use Rattle.std.specs.Prelude.{◌≡◌, ◌≤◌, ℕ, ◌+◌, [], map as each, Some, None, All}
 use Rattle.calculus.specs.Unfolding.{rows_of}
-use Rattle.calculus.specs.Runs.{Work, work_things, work_price, work_fault}
+use Rattle.calculus.specs.Runs.{Work, work_products, work_price, work_fault}
 use Rattle.rho_term.specs.Rows.{row_of_op}
 use Rattle.linear_unfold.specs.declared.stop.EvalStop.{EvalStop}
 use Rattle.linear_unfold.specs.declared.stop.EvalStop.TheVariants.{Fault, Over, NoMemory}
@@ -20,6 +20,6 @@ pub record IsWork (says : Work → Type 0) (cap : ℕ) (w : Worked) : Type 0 whe
   pub said : says work
   pub price_is : work_price cap work ≡ w.price
   pub fault_is : work_fault work ≡ w.fault
-  pub rows : each row_of_op w.offers.items ≡ rows_of (work_things work)
+  pub rows : each row_of_op w.offers.items ≡ rows_of (work_products work)
   pub sound : All IsSound w.offers.items
   pub most : w.price ≤ cap + 1

@@ -1,21 +1,21 @@
 -- The answer to a log under a right header.
 use Rattle.std.proofs.Common.{◌≡◌, ◌≢◌, ℕ, true, List, [], ◌∷◌, ◌++◌, length, map as each, sym, ◌∙◌, ap, subst, inl, inr, All}
-use Rattle.std.specs.Prelude.{◌⊎◌, None}
+use Rattle.std.specs.Prelude.{◌⊎◌, None, IsPermutation}
 use Rattle.calculus.specs.Tree.{Tree}
 use Rattle.calculus.specs.Outcome.{Prices}
 use Rattle.calculus.specs.Log.{Step, Header}
 use Rattle.calculus.specs.Runs.{Verdict, done}
 use Rattle.rho_term.specs.declared.op.Op.{Op}
 use Rattle.rho_term.specs.Rows.{row_of_op}
-use Rattle.events.specs.Orders.{Moved}
 use Rattle.linear_runs.specs.Premises.{IsCalm}
 use Rattle.linear_runs.specs.Courses.{IsSound, verdict_at, charge_at}
-use Rattle.replays.specs.Replays.{header_refusal, ids_up_to, refused, no_run, reducible, Answers}
+use Rattle.replays.specs.Replays.{header_refusal, refused, no_run, reducible, Answers}
 use Rattle.linear_replays.specs.Replayed.{IsReplayedTo, ArePairIn, HasNoPair, NoPairMakes, from_nothing}
 use Rattle.linear_replays.specs.Laws.{Replays}
 use Rattle.linear_replays.proofs.Answering.{replays_are_answered}
 use Rattle.log_replay.specs.Rows.{id_of}
 use Rattle.log_replay.specs.Least.{IsLeastPair}
+use Rattle.calculus.specs.Candidates.{ids_up_to}
 
 module _ (p : Prices) (t : Tree) (source : List ℕ) (h : Header) (made : List Step) (cap : ℕ) (e : h.limit ≡ cap) (right : header_refusal (from_nothing p t source) h ≡ None)
     (calm : IsCalm p cap t source made) (rows : List Op) (price : ℕ) (v : Verdict) (x : IsReplayedTo p cap t source rows made price v) (sound : All IsSound rows) where
@@ -42,7 +42,7 @@ module _ (p : Prices) (t : Tree) (source : List ℕ) (h : Header) (made : List S
         verdict_is = r.verdict_is ∙ sym (f ∙ verdict-there);
         cost_is = r.cost_is ∙ sym (g ∙ charge-there);
         output_is = r.output_is;
-        left = λ d. subst (λ (os : List Op). Moved (each row_of_op os) r.outcome.rows) (sym (kept d)) (r.left (sym (f ∙ verdict-there) ∙ d));
+        left = λ d. subst (λ (os : List Op). IsPermutation (each row_of_op os) r.outcome.rows) (sym (kept d)) (r.left (sym (f ∙ verdict-there) ∙ d));
         lost = λ n. r.lost (λ d. n (f ∙ verdict-there ∙ d));
       }
 

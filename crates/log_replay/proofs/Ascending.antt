@@ -6,10 +6,10 @@ use Rattle.std.specs.declared.cmp.Ordering.TheVariants.{Less}
 use Rattle.std.proofs.lemmas.Map.Text.{is_eq-slice_cmp}
 use Rattle.std.proofs.lemmas.List.{take_more, take-append-drop}
 use Rattle.std.proofs.lemmas.List.Elements.{All-nil, All-cons, All-head}
+use Rattle.list_laws.proofs.Permutations.{moved_back}
 use Rattle.calculus.specs.Order.{byte_cmp, up_to}
 use Rattle.calculus.proofs.Ordered.{up_to_total}
 use Rattle.rho_term.specs.declared.op.Op.{Op}
-use Rattle.events.proofs.Orders.{moved_back}
 use Rattle.linear_store.proofs.Becoming.{all_moved}
 use Rattle.log_replay.specs.Rows.{id_of, AreAscending}
 

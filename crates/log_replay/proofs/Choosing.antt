@@ -3,12 +3,11 @@ use Rattle.std.proofs.Common.{◌≡◌, ◌≢◌, ℕ, true, false, List, [], 
 use Rattle.std.specs.Prelude.{◌⊎◌, Some}
 use Rattle.std.proofs.lemmas.Bool.{false≢true}
 use Rattle.std.proofs.lemmas.List.Elements.{All-cons, All-head, All-tail, All-weaker}
+use Rattle.list_laws.proofs.Permutations.{join, keep, moved_so}
 use Rattle.calculus.specs.declared.ids.Digest.{Digest}
 use Rattle.calculus.specs.Log.{Step}
 use Rattle.rho_term.specs.declared.op.Op.{Op}
 use Rattle.rho_term.specs.Rows.{row_of_op}
-use Rattle.events.specs.Orders.{keep, join}
-use Rattle.events.proofs.Orders.{moved_so}
 use Rattle.linear_events.specs.Partners.{one_step}
 use Rattle.linear_store.specs.Channels.{is_send}
 use Rattle.linear_store.proofs.Becoming.{all_moved}

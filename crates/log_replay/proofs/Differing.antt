@@ -3,10 +3,10 @@ use Rattle.std.proofs.Common.{◌≡◌, ◌≢◌, ◌≤◌, ℕ, ◌+◌, tru
 use Rattle.std.specs.Str.{bytes_eq}
 use Rattle.std.proofs.lemmas.List.{map-append}
 use Rattle.std.proofs.lemmas.List.Elements.{All-nil, All-cons, All-head, All-tail}
+use Rattle.std.specs.Prelude.{IsPermutation}
+use Rattle.list_laws.proofs.Permutations.{join, keep, moved_back, moved_so}
 use Rattle.calculus.specs.Steps.{differ}
 use Rattle.rho_term.specs.declared.op.Op.{Op}
-use Rattle.events.specs.Orders.{Moved, keep, join}
-use Rattle.events.proofs.Orders.{moved_so, moved_back}
 use Rattle.events.proofs.Counts.{times, one_if, times-append, same_bytes, differ-distinct, distinct-differ}
 use Rattle.linear_runs.specs.Courses.{IsSound}
 use Rattle.linear_store.proofs.Becoming.{all_moved}
@@ -31,13 +31,13 @@ last_differs os o d =
     let most : times (id_of o) (each id_of (os ++ o ∷ [])) ≤ 1 = differ-distinct (each id_of (os ++ o ∷ [])) d (id_of o) in
     none_there (id_of o) os (omega (arith, here, most, last-counts (id_of o) os o))
 
-at_back : (os : List Op) (o : Op) → Moved (o ∷ os) (os ++ o ∷ [])
-at_back os o = subst (λ (l : List Op). Moved (o ∷ l) (os ++ o ∷ [])) (append-nil os) (moved_back o os [])
+at_back : (os : List Op) (o : Op) → IsPermutation (o ∷ os) (os ++ o ∷ [])
+at_back os o = subst (λ (l : List Op). IsPermutation (o ∷ l) (os ++ o ∷ [])) (append-nil os) (moved_back o os [])
 
 -- one more operation beside those of a list
-pub one_more : (os rows next : List Op) (o : Op) → differ (each id_of (os ++ o ∷ [])) ≡ true → (differ (each id_of os) ≡ true → Moved os rows) → (HasNoId (id_of o) rows → Moved (o ∷ rows) next) → Moved (os ++ o ∷ []) next
+pub one_more : (os rows next : List Op) (o : Op) → differ (each id_of (os ++ o ∷ [])) ≡ true → (differ (each id_of os) ≡ true → IsPermutation os rows) → (HasNoId (id_of o) rows → IsPermutation (o ∷ rows) next) → IsPermutation (os ++ o ∷ []) next
 one_more os rows next o d before put =
-    let moved : Moved os rows = before (differ_before os o d) in
+    let moved : IsPermutation os rows = before (differ_before os o d) in
     let none : HasNoId (id_of o) rows = all_moved (λ p. id_of p ≢ id_of o) (moved_so moved) (last_differs os o d) in
     join (moved_so (at_back os o)) (join (keep o moved) (put none))
 

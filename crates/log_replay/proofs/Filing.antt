@@ -1,6 +1,6 @@
 -- What taking an operation out of a map from ids and putting one in makes of its operations.
 use Rattle.std.proofs.Common.{◌≡◌, ◌≢◌, ℕ, Bool, true, false, cond, List, [], ◌∷◌, refl, sym, ◌∙◌, ap, subst, All}
-use Rattle.std.specs.Prelude.{Option, Some, None}
+use Rattle.std.specs.Prelude.{Option, Some, None, IsPermutation}
 use Rattle.std.specs.Bool.{Decides}
 use Rattle.std.specs.Map.{lookup, remove_entry, keys_of}
 use Rattle.std.specs.Ordering.{is_eq, match_ordering}
@@ -17,10 +17,9 @@ use Rattle.std.proofs.lemmas.Map.Keys.{sorted_tail}
 use Rattle.std.proofs.lemmas.Map.Views.{All-after_first}
 use Rattle.std.proofs.lemmas.Slice.Eq.{bytes_eq-Decides}
 use Rattle.std.proofs.lemmas.List.Elements.{All-nil, All-cons, All-head, All-tail}
+use Rattle.list_laws.proofs.Permutations.{exchange, join, keep, unmoved}
 use Rattle.calculus.specs.Order.{byte_cmp}
 use Rattle.rho_term.specs.declared.op.Op.{Op}
-use Rattle.events.specs.Orders.{Moved, keep, exchange, join}
-use Rattle.events.proofs.Orders.{unmoved}
 use Rattle.log_replay.specs.Rows.{id_of, filed, AreFiled, HasNoId, Takes, AreAscending}
 
 -- whether an id is this one
@@ -30,11 +29,11 @@ is_id id k = is_eq (byte_cmp id k)
 pub is_id-Decides : (id k : List ℕ) → Decides (is_id id k) (id ≡ k)
 is_id-Decides id k = rw is_eq-slice_cmp (bytes_eq-Decides id k)
 
-pub rows_taken : (test : List ℕ → Bool) (o : Op) (es : List (List ℕ × Op)) → lookup test es ≡ Some o → Moved (filed es) (o ∷ filed (remove_entry test es))
+pub rows_taken : (test : List ℕ → Bool) (o : Op) (es : List (List ℕ × Op)) → lookup test es ≡ Some o → IsPermutation (filed es) (o ∷ filed (remove_entry test es))
 rows_taken test o [] h = absurd (cc)
 rows_taken test o (e ∷ es) h =
-    elim (test e.0) as (λ b. cond b (Some e.1) (lookup test es) ≡ Some o → Moved (e.1 ∷ filed es) (o ∷ filed (cond b es (e ∷ remove_entry test es)))) [
-      | true ↦ λ i. let same : e.1 ≡ o = cc in subst (λ (p : Op). Moved (e.1 ∷ filed es) (p ∷ filed es)) same (unmoved (e.1 ∷ filed es))
+    elim (test e.0) as (λ b. cond b (Some e.1) (lookup test es) ≡ Some o → IsPermutation (e.1 ∷ filed es) (o ∷ filed (cond b es (e ∷ remove_entry test es)))) [
+      | true ↦ λ i. let same : e.1 ≡ o = cc in subst (λ (p : Op). IsPermutation (e.1 ∷ filed es) (p ∷ filed es)) same (unmoved (e.1 ∷ filed es))
       | false ↦ λ i. join (keep e.1 (rows_taken test o es i)) (exchange e.1 o (filed (remove_entry test es)))
     ] h
 
@@ -71,10 +70,10 @@ filed_put id o (d ∷ es) e f =
       | Greater ↦ λ _. (f.0, filed_put id o es e f.1)
     ] refl
 
-pub rows_put : (id : List ℕ) (o : Op) (es : List (List ℕ × Op)) → id ≡ id_of o → AreFiled es → HasNoId (id_of o) (filed es) → Moved (o ∷ filed es) (filed (insert_entry byte_cmp es id o))
+pub rows_put : (id : List ℕ) (o : Op) (es : List (List ℕ × Op)) → id ≡ id_of o → AreFiled es → HasNoId (id_of o) (filed es) → IsPermutation (o ∷ filed es) (filed (insert_entry byte_cmp es id o))
 rows_put id o [] e f n = unmoved (o ∷ [])
 rows_put id o (d ∷ es) e f n =
-    elim (byte_cmp id d.0) as (λ r. byte_cmp id d.0 ≡ r → Moved (o ∷ d.1 ∷ filed es) (filed (match_ordering r ((id, o) ∷ d ∷ es) ((d.0, o) ∷ es) (d ∷ insert_entry byte_cmp es id o)))) [
+    elim (byte_cmp id d.0) as (λ r. byte_cmp id d.0 ≡ r → IsPermutation (o ∷ d.1 ∷ filed es) (filed (match_ordering r ((id, o) ∷ d ∷ es) ((d.0, o) ∷ es) (d ∷ insert_entry byte_cmp es id o)))) [
       | Less ↦ λ _. unmoved (o ∷ d.1 ∷ filed es)
       | Equal ↦ λ s. absurd (All-head (λ p. id_of p ≢ id_of o) d.1 (filed es) n (sym f.0 ∙ (sym (exact_bytes _ _ s) ∙ e)))
       | Greater ↦ λ _. join (exchange o d.1 (filed es)) (keep d.1 (rows_put id o es e f.1 (All-tail (λ p. id_of p ≢ id_of o) d.1 (filed es) n)))
@@ -106,7 +105,7 @@ nothing_taken id (e ∷ es) h =
 pub takes : (id : List ℕ) (es ds : List (List ℕ × Op)) (r : Option Op) → AreFiled es → lookup (is_id id) es ≡ r → ds ≡ remove_entry (is_id id) es → lookup (is_id id) ds ≡ None → Takes id (filed es) (filed ds) r
 takes id es ds None f l e n = (ap filed e ∙ nothing_taken id es l, none_has_id id es f l)
 takes id es ds (Some o) f l e n = (
-  subst (λ (bs : List (List ℕ × Op)). Moved (filed es) (o ∷ filed bs)) (sym e) (rows_taken (is_id id) o es l),
+  subst (λ (bs : List (List ℕ × Op)). IsPermutation (filed es) (o ∷ filed bs)) (sym e) (rows_taken (is_id id) o es l),
   id_taken id o es f l,
   none_has_id id ds (subst AreFiled (sym e) (filed_taken (is_id id) es f)) n,
 )

@@ -1,24 +1,24 @@
 -- The least receive that meets a send, and the least send that it meets.
 use Rattle.std.proofs.Common.{◌≡◌, ◌≢◌, ◌<◌, ℕ, ◌+◌, length, get_or, take, drop, Bool, true, false, cond, List, [], ◌∷◌, ◌++◌, refl, sym, ◌∙◌, ap, subst, inl, inr, All}
-use Rattle.std.specs.Prelude.{◌⊎◌, Option, Some, None}
+use Rattle.std.specs.Prelude.{◌⊎◌, Option, Some, None, IsPermutation}
 use Rattle.std.specs.Str.{bytes_eq}
 use Rattle.std.specs.declared.cmp.Ordering.TheVariants.{Less}
 use Rattle.std.proofs.lemmas.Bool.{false≢true}
 use Rattle.std.proofs.lemmas.List.Elements.{All-cons, All-head, All-tail, All-append, All-weaker}
+use Rattle.list_laws.proofs.Members.{Member}
+use Rattle.list_laws.proofs.Permutations.{exchange, join, keep, moved_back, moved_so, unmoved}
 use Rattle.calculus.specs.declared.ids.Digest.{Digest}
 use Rattle.calculus.specs.Order.{byte_cmp, up_to}
 use Rattle.rho_term.specs.declared.op.Op.{Op}
-use Rattle.events.specs.Orders.{Moved, keep, exchange, join}
-use Rattle.calculus.proofs.Candidates.{Member}
-use Rattle.events.proofs.Orders.{moved_so, moved_back, unmoved, member-moved}
+use Rattle.events.proofs.Orders.{member-moved}
 use Rattle.events.proofs.Counts.{same_bytes}
 use Rattle.linear_store.specs.Channels.{channel_code, is_send}
 use Rattle.linear_store.proofs.Becoming.{all_moved}
-use Rattle.replays.specs.Replays.{ids_up_to}
 use Rattle.linear_replays.specs.Replayed.{ArePairIn, HasNoPair}
 use Rattle.log_replay.specs.Rows.{id_of, AreOnOne, AreAscending}
 use Rattle.log_replay.specs.Least.{IsAmong, FindsSend, IsLeastPartner, FindsPartner, IsLeastPair}
 use Rattle.log_replay.proofs.Ascending.{apart_at, less_up_to, less_differ, less_after}
+use Rattle.calculus.specs.Candidates.{ids_up_to}
 
 -- what is found of the sends on the channel of a receive
 pub partner : (os : List Op) (receive : Op) (key : List ℕ) (r : Option Digest) → is_send receive ≡ false → key ≡ channel_code receive → FindsSend os key r → FindsPartner os receive r
@@ -47,11 +47,11 @@ no_pair os a receive send rest p =
 
 among-of : (o : Op) (os : List Op) → Member o os → IsAmong o os
 among-of o [] m = absurd m
-among-of o (p ∷ os) (inl e) = (os, subst (λ (q : Op). Moved (p ∷ os) (q ∷ os)) (sym e) (unmoved (p ∷ os)))
+among-of o (p ∷ os) (inl e) = (os, subst (λ (q : Op). IsPermutation (p ∷ os) (q ∷ os)) (sym e) (unmoved (p ∷ os)))
 among-of o (p ∷ os) (inr m) = let k = among-of o os m in (p ∷ k.0, join (keep p k.1) (exchange p o k.0))
 
 -- two operations that differ stand before the rest
-two-of : (os : List Op) (r s : Op) (rest : List Op) → Moved os (r ∷ rest) → IsAmong s os → (s ≡ r → ⊥) → (left : List Op) × Moved os (r ∷ s ∷ left)
+two-of : (os : List Op) (r s : Op) (rest : List Op) → IsPermutation os (r ∷ rest) → IsAmong s os → (s ≡ r → ⊥) → (left : List Op) × IsPermutation os (r ∷ s ∷ left)
 two-of os r s rest m a n =
     let there : Member s (r ∷ rest) = member-moved s (join (moved_so a.1) m) (inl refl) in
     elim there [

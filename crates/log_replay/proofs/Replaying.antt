@@ -9,7 +9,8 @@ use Rattle.event_log.specs.View.{step_of}
 use Rattle.event_log.specs.declared.log.LogStep.{LogStep}
 use Rattle.linear_runs.specs.Premises.{IsCalm}
 use Rattle.linear_runs.specs.Courses.{IsSound}
-use Rattle.linear_play.specs.Courses.{steps_of, verdict_of}
+use Rattle.event_log.specs.View.{steps_of}
+use Rattle.run_verdict.specs.View.{verdict_of}
 use Rattle.replays.specs.Replays.{Refusal, header_refusal, refused, no_run, Answers}
 use Rattle.linear_replays.specs.Replayed.{NoPairMakes, from_nothing}
 use Rattle.linear_replays.proofs.Calm.{calm_first}

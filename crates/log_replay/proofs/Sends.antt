@@ -8,10 +8,10 @@ use Rattle.std.specs.declared.vec.Vec.{Vec}
 use Rattle.std.specs.declared.cmp.Ordering.TheVariants.{Less}
 use Rattle.std.proofs.lemmas.Bool.{false≢true}
 use Rattle.std.proofs.lemmas.List.Elements.{All-head, All-push, All-weaker}
+use Rattle.list_laws.proofs.Permutations.{moved_back, moved_before, moved_so}
 use Rattle.calculus.specs.declared.ids.Digest.{Digest}
 use Rattle.calculus.specs.Order.{byte_cmp, up_to}
 use Rattle.rho_term.specs.declared.op.Op.{Op}
-use Rattle.events.proofs.Orders.{moved_so, moved_back, moved_before}
 use Rattle.linear_store.specs.Channels.{channel_code, is_send}
 use Rattle.linear_store.proofs.Becoming.{all_moved}
 use Rattle.log_replay.specs.Rows.{id_of}

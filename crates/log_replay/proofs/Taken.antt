@@ -1,13 +1,13 @@
 -- A receive and a send that were taken out of sound operations.
 use Rattle.std.proofs.Common.{List, ◌∷◌, All}
 use Rattle.std.proofs.lemmas.List.Elements.{All-head, All-tail, All-weaker}
+use Rattle.list_laws.proofs.Permutations.{moved_so}
 use Rattle.rho_term.specs.declared.op.Op.{Op}
-use Rattle.events.proofs.Orders.{moved_so}
 use Rattle.linear_store.specs.Channels.{IsOnOneChannel}
 use Rattle.linear_store.proofs.Becoming.{all_moved}
 use Rattle.linear_runs.specs.Courses.{IsSound}
 use Rattle.linear_work.specs.Pairs.{IsPair}
-use Rattle.linear_play.proofs.Meetings.{on-one-channel}
+use Rattle.linear_runs.proofs.Storing.{on-one-channel}
 use Rattle.linear_replays.specs.Replayed.{ArePairIn}
 
 -- sound operations are on one channel each

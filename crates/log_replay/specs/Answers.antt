@@ -6,7 +6,7 @@ use Rattle.calculus.specs.Log.{Step, Header}
 use Rattle.replays.specs.Replays.{refused, Answers}
 use Rattle.linear_replays.specs.Replayed.{from_nothing}
 use Rattle.linear_replays.specs.Laws.{Replays}
-use Rattle.linear_play.specs.Courses.{verdict_of}
+use Rattle.run_verdict.specs.View.{verdict_of}
 use Rattle.log_replay.specs.Refusals.{refusal_of}
 use Rattle.log_replay.specs.declared.fault.ReplayFault.{ReplayFault}
 use Rattle.log_replay.specs.declared.replayed.Replayed.{Replayed}

@@ -6,7 +6,7 @@ use Rattle.calculus.specs.Log.{Step}
 use Rattle.linear_runs.specs.Courses.{IsSound}
 use Rattle.linear_runs.specs.Premises.{IsCalm}
 use Rattle.linear_replays.specs.Replayed.{IsReplayedTo}
-use Rattle.linear_play.specs.Courses.{verdict_of}
+use Rattle.run_verdict.specs.View.{verdict_of}
 use Rattle.log_replay.specs.declared.course.Course.{Course}
 
 -- all operations are linear and within the limit on the length of their rows, and the total is what as many steps may cost

@@ -1,5 +1,5 @@
 -- The least receive and send that meet.
-use Rattle.std.specs.Prelude.{◌≡◌, ◌≢◌, ℕ, true, List, [], ◌∷◌, Option, Some, None, All}
+use Rattle.std.specs.Prelude.{◌≡◌, ◌≢◌, ℕ, true, List, [], ◌∷◌, Option, Some, None, All, IsPermutation}
 use Rattle.std.specs.Map.{lookup}
 use Rattle.std.specs.Ordering.{is_eq}
 use Rattle.std.specs.declared.alloc.Global.{Global}
@@ -7,15 +7,14 @@ use Rattle.std.specs.declared.vec.Vec.{Vec}
 use Rattle.calculus.specs.declared.ids.Digest.{Digest}
 use Rattle.calculus.specs.Order.{byte_cmp, up_to}
 use Rattle.rho_term.specs.declared.op.Op.{Op}
-use Rattle.events.specs.Orders.{Moved}
 use Rattle.linear_store.specs.Channels.{channel_code, is_send}
-use Rattle.replays.specs.Replays.{ids_up_to}
 use Rattle.linear_replays.specs.Replayed.{ArePairIn}
 use Rattle.log_replay.specs.Rows.{id_of, AreOnOne}
+use Rattle.calculus.specs.Candidates.{ids_up_to}
 
 -- an operation is one of these, beside the rest
 abbrev pub IsAmong : Op → List Op → Type 0
-IsAmong o os = (rest : List Op) × Moved os (o ∷ rest)
+IsAmong o os = (rest : List Op) × IsPermutation os (o ∷ rest)
 
 -- the id of a send on the channel with this code, the least of these operations'
 pub record IsLeastSend (os : List Op) (key : List ℕ) (id : List ℕ) : Type 0 where

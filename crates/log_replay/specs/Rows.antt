@@ -1,12 +1,11 @@
 -- Operations at hand, found by their ids.
-use Rattle.std.specs.Prelude.{◌≡◌, ◌≢◌, ℕ, true, false, List, [], ◌∷◌, map as each, Option, Some, None, All, ⊤}
+use Rattle.std.specs.Prelude.{◌≡◌, ◌≢◌, ℕ, true, false, List, [], ◌∷◌, map as each, Option, Some, None, All, ⊤, IsPermutation}
 use Rattle.std.specs.List.{AllByRecursion}
 use Rattle.std.specs.declared.cmp.Ordering.TheVariants.{Less}
 use Rattle.calculus.specs.Order.{byte_cmp}
 use Rattle.calculus.specs.Log.{Step}
 use Rattle.rho_term.specs.declared.op.Op.{Op}
 use Rattle.rho_term.specs.Rows.{row_of_op}
-use Rattle.events.specs.Orders.{Moved}
 use Rattle.linear_events.specs.Partners.{one_step}
 use Rattle.linear_store.specs.Channels.{channel_code, is_send}
 use Rattle.linear_replays.specs.Replayed.{ArePairIn}
@@ -30,7 +29,7 @@ HasNoId id os = All (λ o. id_of o ≢ id) os
 -- what is left of operations once the one with this id, where there is one, was taken out
 abbrev pub Takes : List ℕ → List Op → List Op → Option Op → Type 0
 Takes id rows rest None = (rest ≡ rows) × HasNoId id rows
-Takes id rows rest (Some o) = Moved rows (o ∷ rest) × (id_of o ≡ id) × HasNoId id rest
+Takes id rows rest (Some o) = IsPermutation rows (o ∷ rest) × (id_of o ≡ id) × HasNoId id rest
 
 -- each id is less than those after it
 abbrev pub AreAscending : List Op → Type 0

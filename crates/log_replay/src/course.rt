@@ -15,7 +15,7 @@ ghost use Rattle.linear_store.specs.Channels.{IsOnOneChannel};
 ghost use Rattle.linear_runs.specs.Courses.{charge_at, verdict_at, IsSound};
 ghost use Rattle.linear_runs.specs.Premises.{IsCalm};
 ghost use Rattle.linear_work.specs.Pairs.{IsPair};
-ghost use Rattle.linear_play.specs.Courses.{verdict_of};
+ghost use Rattle.run_verdict.specs.View.{verdict_of};
 ghost use Rattle.replays.specs.Replays.{header_refusal};
 ghost use Rattle.linear_replays.specs.Replayed.{from_nothing, next_verdict, ArePairIn, IsReplayedTo, NoPairMakes};
 ghost use Rattle.log_replay.specs.declared.fault.ReplayFault.TheVariants.{NoMemory, NoRun};
@@ -24,18 +24,17 @@ ghost use Rattle.log_replay.specs.Answers.{IsAnswered};
 ghost use Rattle.log_replay.specs.Courses.{IsOn, IsWithin};
 
 use crate::fault::ReplayFault;
-use crate::header::EMPTY_ROOT;
 use crate::least::least_pair;
 use crate::meeting::take_pair;
 use crate::replayed::Replayed;
 use crate::rows::Rows;
 use calculus::{Digest, FaultKind};
 use event_log::LogStep;
-use linear_play::Verdict;
 use linear_work::{Pair, id_and_body, id_and_process, work_body, work_source};
-use name_seed::Seed;
+use name_seed::{EMPTY_ROOT, Seed};
 use price_table::Prices;
 use rho_term::Term;
+use run_verdict::Verdict;
 use std::alloc::{AllocError, Global};
 
 /// A replay on its way.

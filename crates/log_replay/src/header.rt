@@ -11,10 +11,8 @@ ghost use Rattle.log_replay.specs.Refusals.{is_of_header, refusal_of};
 use crate::fault::ReplayFault;
 use calculus::Digest;
 use event_log::LogHeader;
+use name_seed::EMPTY_ROOT;
 use price_table::{Prices, most_limit};
-
-/// The root of the empty state.
-pub(crate) const EMPTY_ROOT: Digest = Digest([0; 32]);
 
 /// Refuses a header that names another base than the empty state, another source or other prices than these, or a
 /// limit out of range: by the first of its parts that is wrong.

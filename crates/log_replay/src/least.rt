@@ -9,9 +9,9 @@ ghost use Rattle.linear_replays.specs.Replayed.{HasNoPair};
 ghost use Rattle.log_replay.specs.Rows.{id_of, AreAscending};
 ghost use Rattle.log_replay.specs.Least.{AreLeastSends, FindsPartner, IsLeastPair};
 
-use crate::meeting::{channel_code, is_send};
 use crate::rows::id_of;
 use calculus::Digest;
+use linear_store::{channel_code, is_send};
 use rho_term::Op;
 use std::alloc::{AllocError, Global};
 use std::collections::BTreeMap;

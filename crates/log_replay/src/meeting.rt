@@ -2,37 +2,16 @@
 
 ghost use Rattle.std.specs.Prelude.{◌≡◌, All, IfOk, MatchBool, MatchOption};
 ghost use Rattle.event_log.specs.View.{step_of};
-ghost use Rattle.linear_store.specs.Channels.{channel_code, is_send, IsOnOneChannel};
+ghost use Rattle.linear_store.specs.Channels.{IsOnOneChannel};
 ghost use Rattle.linear_replays.specs.Replayed.{NoPairMakes};
 ghost use Rattle.log_replay.specs.Rows.{AreOnOne, Makes};
 
 use crate::rows::Rows;
 use event_log::LogStep;
+use linear_store::{channel_code, is_send};
 use linear_work::Pair;
 use rho_term::Op;
 use std::alloc::{AllocError, Global};
-use term_encoder::encode_term;
-
-/// Whether an operation is a send.
-pub(crate) fn is_send(operation: &Op) -> bool
-    ensures { result ≡ is_send operation.now }
-{
-    match operation {
-        Op::Produce { .. } => true,
-        Op::Consume { .. } => false,
-    }
-}
-
-/// The code of an operation's channel. Want of memory is the one error.
-pub(crate) fn channel_code(alloc: Global, operation: &Op) -> Result<Vec<u8>, AllocError>
-    requires { IsOnOneChannel operation.now }
-    ensures { IfOk result (λ v. v.items ≡ channel_code operation.now) }
-{
-    match operation {
-        Op::Produce { channel, .. } => encode_term(alloc, channel),
-        Op::Consume { binds, .. } => encode_term(alloc, &binds[0].channel),
-    }
-}
 
 /// Whether these are a receive and a send on one channel. Want of memory is the one error.
 fn are_on_one(alloc: Global, receive: &Op, send: &Op) -> Result<bool, AllocError>

@@ -7,7 +7,7 @@ ghost use Rattle.calculus.specs.Limits.{most_limit};
 ghost use Rattle.linear_unfold.specs.Linear.{is_linear};
 ghost use Rattle.linear_store.specs.Channels.{IsOnOneChannel};
 ghost use Rattle.linear_runs.specs.Premises.{IsCalm};
-ghost use Rattle.linear_play.specs.Courses.{steps_of};
+ghost use Rattle.event_log.specs.View.{steps_of};
 ghost use Rattle.linear_replays.specs.Replayed.{from_nothing};
 ghost use Rattle.log_replay.specs.Answers.{IsAnswered};
 ghost use Rattle.log_replay.specs.Refusals.{is_of_header, refusal_of};
@@ -17,9 +17,9 @@ use crate::fault::ReplayFault;
 use crate::header::check_header;
 use calculus::Digest;
 use event_log::Log;
-use linear_play::Verdict;
 use price_table::Prices;
 use rho_term::{Op, Term};
+use run_verdict::Verdict;
 use std::alloc::Global;
 
 /// What a replayed run came to.

@@ -1,8 +1,7 @@
 // The operations at hand.
 
-ghost use Rattle.std.specs.Prelude.{◌≡◌, ◌∷◌, ◌++◌, [], true, map as each, All, IfOk};
+ghost use Rattle.std.specs.Prelude.{◌≡◌, ◌∷◌, ◌++◌, [], true, map as each, All, IfOk, IsPermutation};
 ghost use Rattle.calculus.specs.Steps.{differ};
-ghost use Rattle.events.specs.Orders.{Moved};
 ghost use Rattle.linear_runs.specs.Courses.{IsSound};
 ghost use Rattle.log_replay.specs.Rows.{id_of, AreAscending, HasNoId, Takes};
 
@@ -58,7 +57,7 @@ impl Rows {
     /// Puts an operation beside the others. One that has its id leaves. Want of memory is the one error.
     fn insert(&mut self, operation: Op) -> Result<(), AllocError>
         ensures sound { IsSound operation → All IsSound self.old → IfOk result (λ _. All IsSound self.new) }
-        ensures rows { HasNoId (id_of operation) self.old → IfOk result (λ _. Moved (operation ∷ self.old) self.new) }
+        ensures rows { HasNoId (id_of operation) self.old → IfOk result (λ _. IsPermutation (operation ∷ self.old) self.new) }
     {
         self.by_id.insert(id_of(&operation).0, operation)?;
         Ok(())
@@ -67,7 +66,7 @@ impl Rows {
     /// Puts operations beside the others. Of those with one id the last one stays. Want of memory is the one error.
     pub(crate) fn insert_all(&mut self, operations: Vec<Op>) -> Result<(), AllocError>
         ensures sound { All IsSound (self.old ++ operations.items) → IfOk result (λ _. All IsSound self.new) }
-        ensures rows { differ (each id_of (self.old ++ operations.items)) ≡ true → IfOk result (λ _. Moved (self.old ++ operations.items) self.new) }
+        ensures rows { differ (each id_of (self.old ++ operations.items)) ≡ true → IfOk result (λ _. IsPermutation (self.old ++ operations.items) self.new) }
     {
         for operation in operations {
             self.insert(operation)?;

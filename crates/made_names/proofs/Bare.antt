@@ -1,13 +1,12 @@
 -- Written processes without fresh names, whose bare forms have none either.
 use Rattle.std.proofs.Common.{◌≡◌, List, [], ◌∷◌, ◌++◌, reverse, map as each, refl}
 use Rattle.std.specs.Prelude.{⊤, flat_map}
+use Rattle.list_laws.proofs.Members.{Every, every-flat}
 use Rattle.calculus.specs.Tree.{Label, par, pattern, new, Tree}
 use Rattle.calculus.specs.Shape.{many, held}
 use Rattle.calculus.specs.Written.{Form, in_process, in_pattern, around, drop, quote, declare, bind_rest, quote_pattern, closed, Written, form, Writtens, no_more, more}
 use Rattle.calculus.specs.Bare.{Names, binding_names, declared_origin, bare_parts, wrapped, bare_in, bare_each}
-use Rattle.calculus.proofs.Candidates.{Every}
 use Rattle.made_names.specs.Names.{own_name}
-use Rattle.made_names.proofs.Clear.{every-flat}
 use Rattle.made_names.proofs.Nameless.{Nameless, trees-nameless, held-nameless, at-nameless}
 
 -- a written form that is no fresh name

@@ -5,17 +5,18 @@ use Rattle.std.specs.Str.{bytes_eq}
 use Rattle.std.proofs.lemmas.Bool.{false≢true, and_parts}
 use Rattle.std.proofs.lemmas.List.Elements.{All-nil, All-cons}
 use Rattle.std.proofs.lemmas.List.Sums.{sum_by-cons}
+use Rattle.list_laws.proofs.Members.{every-append, every-each}
 use Rattle.calculus.specs.declared.plain.Kind.TheVariants as kinds
 use Rattle.calculus.specs.declared.plain.TermRest.TheVariants as rests
 use Rattle.calculus.specs.Tree.{Label, par, row, bool, int, str, uri, fresh, var, name_var, send, receive, bind, new, pattern, rest, some_process, some_name, Tree, node, Trees, none, also}
 use Rattle.calculus.specs.Shape.{leaf, only, held, listed, at, label_of}
 use Rattle.calculus.specs.Congruence.{same_label, congruent, congruent_to}
 use Rattle.calculus.specs.Rows.{Row, channels, stdout}
-use Rattle.calculus.specs.Unfolding.{Thing, a_row, a_fresh, digest}
+use Rattle.calculus.specs.Unfolding.{Product, a_row, a_fresh, digest}
 use Rattle.calculus.specs.Seeds.{digest_of, System}
 use Rattle.calculus.specs.Log.{Step}
 use Rattle.calculus.specs.Steps.{differ, stored_rows}
-use Rattle.calculus.specs.Runs.{Work, work_things, State, Leads, made_digests}
+use Rattle.calculus.specs.Runs.{deploy_of, Work, work_products, State, Leads, made_digests}
 use Rattle.calculus.proofs.Reflexive.{congruent_self}
 use Rattle.events.specs.Events.{first_ids, digests, built_in_names}
 use Rattle.events.proofs.Counts.{one_if, times, times-append, same_bytes, differ-distinct, distinct-differ}
@@ -23,7 +24,7 @@ use Rattle.linear_unfold.specs.Linear.{all_plain, is_variable, is_linear, are_li
 use Rattle.linear_events.specs.Partners.{sends, channel_of, prints}
 use Rattle.made_names.specs.Names.{names_in, names_in_all}
 use Rattle.made_names.specs.Laws.{FreshIsCalm}
-use Rattle.made_names.proofs.Clear.{every-append, every-each, IsClear, Clear, AllClear, Clears, held-clear, listed-clear, at-clear}
+use Rattle.made_names.proofs.Clear.{IsClear, Clear, AllClear, Clears, held-clear, listed-clear, at-clear}
 use Rattle.made_names.proofs.Unfolding.{Avoids, ClearRows}
 use Rattle.made_names.proofs.Runs.{AllAvoid, leads-sound}
 
@@ -121,7 +122,7 @@ module _ (x : List ℕ) where
   channels-clear (node (receive k) ts) h = every-each (Clear x) (Clear x) (λ b. at 0 (held b)) (λ b c. at-clear x 0 (held b) (held-clear x b c)) (held (at 0 (listed ts))) (held-clear x (at 0 (listed ts)) (at-clear x 0 (listed ts) (listed-clear x ts h.1)))
   channels-clear (node _ ts) h = tt
 
-  things-avoid : (ts : List Thing) → times x (each digest ts) ≡ 0 → Avoids x ts
+  things-avoid : (ts : List Product) → times x (each digest ts) ≡ 0 → Avoids x ts
   things-avoid [] e = tt
   things-avoid (a_row r ∷ ts) e = things-avoid ts (omega (arith, e))
   things-avoid (a_fresh y ∷ ts) e = (go (bytes_eq x y) e, things-avoid ts (omega (arith, e)))
@@ -133,8 +134,8 @@ module _ (x : List ℕ) where
   works-avoid : (ws : List Work) → times x (digests ws) ≡ 0 → AllAvoid x ws
   works-avoid [] e = tt
   works-avoid (w ∷ ws) e =
-      let s : times x (digests (w ∷ ws)) ≡ times x (each digest (work_things w)) + times x (digests ws) = times-append x (each digest (work_things w)) (digests ws) in
-      (things-avoid (work_things w) (omega (arith, e, s)), works-avoid ws (omega (arith, e, s)))
+      let s : times x (digests (w ∷ ws)) ≡ times x (each digest (work_products w)) + times x (digests ws) = times-append x (each digest (work_products w)) (digests ws) in
+      (things-avoid (work_products w) (omega (arith, e, s)), works-avoid ws (omega (arith, e, s)))
 
   -- what differs from a name beside which it stands holds no such name
   names-avoid : (xs ys : List (List ℕ)) (ws : List Work) → differ ((xs ++ x ∷ ys) ++ digests ws) ≡ true → AllAvoid x ws
@@ -167,7 +168,7 @@ fresh_is_calm p cap t source ss h n f = record {
   silent = λ first rest e a l. silent first a (f first rest e a l) l;
 }
   where
-    silent : (first : List Step) (a : State) → differ ((first_ids [] ++ built_in_names) ++ made_digests a) ≡ true → Leads p cap [] t source first a → All (λ r. prints r ≡ false) (stored_rows a.bag)
+    silent : (first : List Step) (a : State) → differ ((first_ids [] ++ built_in_names) ++ made_digests a) ≡ true → Leads (deploy_of p cap [] t source) first a → All (λ r. prints r ≡ false) (stored_rows a.bag)
     silent first a d l =
         let x : List ℕ = digest_of (System 0) in
         let avoids : AllAvoid x a.works = names-avoid x (first_ids []) (digest_of (System 1) ∷ []) a.works d in

@@ -2,26 +2,14 @@
 use Rattle.std.proofs.Common.{◌≡◌, ℕ, zero, suc, Bool, true, false, cond, List, [], ◌∷◌, ◌++◌, map as each}
 use Rattle.std.specs.Prelude.{⊤, flat_map}
 use Rattle.std.specs.Str.{bytes_eq}
+use Rattle.list_laws.proofs.Members.{Every, every-append, every-each, every-flat}
 use Rattle.calculus.specs.Tree.{Label, fresh, new, match, case, bundle, unary, binary, method, Tree, node, Trees, none, also, trees}
 use Rattle.calculus.specs.Shape.{held, listed, joined_trees, at}
 use Rattle.calculus.specs.Order.{up_to}
 use Rattle.calculus.specs.Congruence.{is_bag}
 use Rattle.calculus.specs.Code.{code}
 use Rattle.calculus.specs.Normal.{placed_by, by_code, arranged_by, ascending, made_node}
-use Rattle.calculus.proofs.Candidates.{Every}
 use Rattle.linear_unfold.specs.Linear.{all_plain}
-
-pub every-append : {A : Type 0} (P : A → Type 0) (xs ys : List A) → Every P xs → Every P ys → Every P (xs ++ ys)
-every-append P [] ys h k = k
-every-append P (x ∷ xs) ys h k = (h.0, every-append P xs ys h.1 k)
-
-pub every-each : {A B : Type 0} (P : B → Type 0) (Q : A → Type 0) (f : A → B) → ((x : A) → Q x → P (f x)) → (xs : List A) → Every Q xs → Every P (each f xs)
-every-each P Q f g [] h = tt
-every-each P Q f g (x ∷ xs) h = (g x h.0, every-each P Q f g xs h.1)
-
-pub every-flat : {A B : Type 0} (P : B → Type 0) (Q : A → Type 0) (f : A → List B) → ((x : A) → Q x → Every P (f x)) → (xs : List A) → Every Q xs → Every P (flat_map f xs)
-every-flat P Q f g [] h = tt
-every-flat P Q f g (x ∷ xs) h = every-append P (f x) (flat_map f xs) (g x h.0) (every-flat P Q f g xs h.1)
 
 -- a second thing with its code
 abbrev Second : {A : Type 0} → (A → Type 0) → List ℕ × A → Type 0

@@ -1,6 +1,7 @@
 -- What a pattern binds of a clear target is clear.
 use Rattle.std.proofs.Common.{ℕ, zero, suc, Bool, true, false, not, ◌||◌, cond, List, [], ◌∷◌, ◌++◌, map as each}
 use Rattle.std.specs.Prelude.{flat_map}
+use Rattle.list_laws.proofs.Members.{Every, every-append, every-each, every-flat}
 use Rattle.calculus.specs.declared.plain.TermRest.{TermRest}
 use Rattle.calculus.specs.declared.plain.TermRest.TheVariants as rests
 use Rattle.calculus.specs.Tree.{Label, par, list, tuple, set, dict, pair, send, bundle, pattern, any, some_process, some_name, simple, same, both, either, not_this, list_pattern, set_pattern, map_pattern, Tree, node, Trees, none, also}
@@ -9,8 +10,7 @@ use Rattle.calculus.specs.Congruence.{congruent, same_label}
 use Rattle.calculus.specs.Normal.{ascending}
 use Rattle.calculus.specs.Operators.{of_list}
 use Rattle.calculus.specs.Matching.{Bindings, Matcher, Member, Piece, one_if, both_of, some_match, choices, Choice, ways, completed, has_wide, is_empty, parts_match, items_match, rest_match, first_items_match, members_match, of_kind, rest_of, where_form, whole_at, inner_at, wholes, form_matches, piece, pieces, bind_matches}
-use Rattle.calculus.proofs.Candidates.{Every}
-use Rattle.made_names.proofs.Clear.{every-append, every-each, every-flat, Clear, Clears, held-clear, at-clear, ascending-clear}
+use Rattle.made_names.proofs.Clear.{Clear, Clears, held-clear, at-clear, ascending-clear}
 use Rattle.made_names.proofs.Values.{many-clear, only-clear}
 
 module _ (x : List ℕ) where

@@ -2,15 +2,15 @@
 use Rattle.std.proofs.Common.{◌≡◌, ℕ, suc, Bool, true, false, cond, List, [], ◌∷◌, ◌++◌, map as each}
 use Rattle.std.specs.Prelude.{⊤, Option, Some, None, option_map, option_and_then}
 use Rattle.std.specs.Str.{bytes_eq}
+use Rattle.list_laws.proofs.Members.{Every, every-append, every-each, every-flat}
 use Rattle.calculus.specs.Tree.{send, receive, Tree, node}
 use Rattle.calculus.specs.Shape.{held, listed, at}
 use Rattle.calculus.specs.Congruence.{congruent}
 use Rattle.calculus.specs.Log.{Step}
 use Rattle.calculus.specs.Rows.{Row}
 use Rattle.calculus.specs.Matching.{Bindings, bind_matches, first_of_all}
-use Rattle.calculus.specs.Steps.{Bag, standing, Held, with_id, row_choices, differ, Receiver, Datum, as_receiver, as_datum, as_data, taken, all_taken, Meeting, meet, meet_rows, right_repeat, meet_for, first_there, meeting}
-use Rattle.calculus.proofs.Candidates.{Every}
-use Rattle.made_names.proofs.Clear.{every-append, every-each, every-flat, Clear, Clears, listed-clear, held-clear, at-clear}
+use Rattle.calculus.specs.Steps.{Bag, standing, PlacedRow, with_id, row_choices, differ, Receiver, Datum, as_receiver, as_datum, as_data, bindings_of, all_bindings, Meeting, meet, meet_rows, right_repeat, meet_for, first_there, meeting}
+use Rattle.made_names.proofs.Clear.{Clear, Clears, listed-clear, held-clear, at-clear}
 use Rattle.made_names.proofs.Matching.{Binds, bind-binds}
 
 -- P holds of the value, where there is one
@@ -45,7 +45,7 @@ module _ (x : List ℕ) where
   abbrev pub QuietRow : Row → Type 0
   QuietRow r = Quiet r.part
 
-  abbrev QuietHeld : Held → Type 0
+  abbrev QuietHeld : PlacedRow → Type 0
   QuietHeld h = Quiet h.1.part
 
   pub clear-quiet : (t : Tree) → Clear x t → Quiet t
@@ -64,7 +64,7 @@ module _ (x : List ℕ) where
   datum-holds (node (send q) ts) h = h
   datum-holds (node _ ts) h = tt
 
-  data-hold : (hs : List Held) → Every QuietHeld hs → Holds (Every ClearDatum) (as_data hs)
+  data-hold : (hs : List PlacedRow) → Every QuietHeld hs → Holds (Every ClearDatum) (as_data hs)
   data-hold [] h = tt
   data-hold (h ∷ hs) k =
       then-holds ClearDatum (Every ClearDatum) _ (as_datum h.1.part) (datum-holds h.1.part k.0)
@@ -74,33 +74,33 @@ module _ (x : List ℕ) where
   first-holds [] h = tt
   first-holds (b ∷ bs) h = h.0
 
-  taken-holds : (b : Tree) (d : Datum) → ClearDatum d → Holds (Clears x) (taken b d)
+  taken-holds : (b : Tree) (d : Datum) → ClearDatum d → Holds (Clears x) (bindings_of b d)
   taken-holds b d h = go (congruent (at 0 (held b)) d.channel) (first-holds (bind_matches b d.args) (bind-binds x b d.args h))
     where
       go : (c : Bool) → Holds (Clears x) (first_of_all (bind_matches b d.args)) → Holds (Clears x) (cond c (first_of_all (bind_matches b d.args)) None)
       go true k = k
       go false k = tt
 
-  all_taken-holds : (bs : List Tree) (ds : List Datum) → Every ClearDatum ds → Holds (Clears x) (all_taken bs ds)
+  all_taken-holds : (bs : List Tree) (ds : List Datum) → Every ClearDatum ds → Holds (Clears x) (all_bindings bs ds)
   all_taken-holds [] [] h = tt
   all_taken-holds [] (d ∷ ds) h = tt
   all_taken-holds (b ∷ bs) [] h = tt
   all_taken-holds (b ∷ bs) (d ∷ ds) h =
-      then-holds (Clears x) (Clears x) _ (taken b d) (taken-holds b d h.0)
-      (λ us a. then-holds (Clears x) (Clears x) (λ ys. Some (us ++ ys)) (all_taken bs ds) (all_taken-holds bs ds h.1) (λ ys c. every-append (Clear x) us ys a c))
+      then-holds (Clears x) (Clears x) _ (bindings_of b d) (taken-holds b d h.0)
+      (λ us a. then-holds (Clears x) (Clears x) (λ ys. Some (us ++ ys)) (all_bindings bs ds) (all_taken-holds bs ds h.1) (λ ys c. every-append (Clear x) us ys a c))
 
   -- the body and what is bound are clear
   abbrev pub ClearMeeting : Meeting → Type 0
   ClearMeeting m = Clear x m.receiver.body × Clears x m.bindings
 
-  rows-meet : (hs : List Held) → Every QuietHeld hs → Holds ClearMeeting (meet_rows hs)
+  rows-meet : (hs : List PlacedRow) → Every QuietHeld hs → Holds ClearMeeting (meet_rows hs)
   rows-meet [] k = tt
   rows-meet (h ∷ hs) k =
       then-holds (λ (r : Receiver). Clear x r.body) ClearMeeting _ (as_receiver h.1.part) (receiver-holds h.1.part k.0)
       (λ r a. then-holds (Every ClearDatum) ClearMeeting (meet h hs r) (as_data hs) (data-hold hs k.1)
-      (λ ds b. then-holds (Clears x) ClearMeeting _ (all_taken r.binds ds) (all_taken-holds r.binds ds b) (λ xs c. (a, c))))
+      (λ ds b. then-holds (Clears x) ClearMeeting _ (all_bindings r.binds ds) (all_taken-holds r.binds ds b) (λ xs c. (a, c))))
 
-  meet_for-holds : (made : List Step) (s : Step) (hs : List Held) → Every QuietHeld hs → Holds ClearMeeting (meet_for made s hs)
+  meet_for-holds : (made : List Step) (s : Step) (hs : List PlacedRow) → Every QuietHeld hs → Holds ClearMeeting (meet_for made s hs)
   meet_for-holds made s hs k = then-holds ClearMeeting ClearMeeting _ (meet_rows hs) (rows-meet hs k) (λ m a. go m a (right_repeat made s m))
     where
       go : (m : Meeting) → ClearMeeting m → (b : Bool) → Holds ClearMeeting (cond b (Some m) None)

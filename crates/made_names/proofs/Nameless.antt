@@ -1,11 +1,11 @@
 -- Trees without fresh names, and what has the same of its parts.
 use Rattle.std.proofs.Common.{◌≡◌, ℕ, zero, suc, Bool, true, false, cond, List, [], ◌∷◌, ◌++◌, refl}
 use Rattle.std.specs.Prelude.{⊤}
+use Rattle.list_laws.proofs.Members.{Every}
 use Rattle.calculus.specs.Tree.{Label, Tree, node, Trees, none, also, trees}
 use Rattle.calculus.specs.Shape.{held, listed, at}
 use Rattle.calculus.specs.Normal.{ascending, made_node}
 use Rattle.calculus.specs.Congruence.{is_bag}
-use Rattle.calculus.proofs.Candidates.{Every}
 use Rattle.scope.specs.NormalForm.{normal_form, normal_forms}
 use Rattle.made_names.specs.Names.{own_name, names_in, names_in_all}
 use Rattle.made_names.proofs.Clear.{ascending-every}

@@ -2,12 +2,12 @@
 use Rattle.std.proofs.Common.{ℕ, ◌+◌, ◌-◌, Bool, true, false, cond, List, [], ◌∷◌, length, reverse}
 use Rattle.std.specs.Prelude.{leb}
 use Rattle.std.proofs.lemmas.Grind.{reverse_onto}
+use Rattle.list_laws.proofs.Members.{Every, every-append}
 use Rattle.calculus.specs.Tree.{Label, var, name_var, Tree, node, Trees, none, also, trees}
 use Rattle.calculus.specs.Shape.{leaf, held, listed, at}
 use Rattle.calculus.specs.Variables.{binders}
 use Rattle.calculus.specs.Substitution.{Change, changed, change, change_all, the_one, put, renumber}
-use Rattle.calculus.proofs.Candidates.{Every}
-use Rattle.made_names.proofs.Clear.{every-append, IsClear, Clear, AllClear, Clears, trees-clear, listed-clear, held-clear, at-clear, joined-clear, made-clear}
+use Rattle.made_names.proofs.Clear.{IsClear, Clear, AllClear, Clears, trees-clear, listed-clear, held-clear, at-clear, joined-clear, made-clear}
 
 pub every-reverse : {A : Type 0} (P : A → Type 0) (xs : List A) → Every P xs → Every P (reverse xs)
 every-reverse P [] h = tt

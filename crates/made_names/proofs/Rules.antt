@@ -1,15 +1,14 @@
 -- Rules of the grammar that make no fresh names but those that a text holds.
 use Rattle.std.proofs.Common.{◌≡◌, ℕ, List, [], ◌∷◌, ◌++◌, refl}
 use Rattle.std.specs.Prelude.{⊤}
+use Rattle.list_laws.proofs.Members.{Every, every-append}
 use Rattle.calculus.specs.Tree.{Label}
 use Rattle.calculus.specs.Meaning.{row_of}
 use Rattle.calculus.specs.Written.{Form, Written, form, writtens}
-use Rattle.calculus.proofs.Candidates.{Every}
 use Rattle.grammar.specs.Rules.{Sort, Rule, done, sign, opens, next, opens_next, holds, integer, at, under, last}
 use Rattle.grammar.specs.Terminals.{a_fresh_name}
 use Rattle.grammar.specs.Values.{Spelt, Side, processes, patterns, on, with_form, with_first, par_of, if_of}
 use Rattle.made_names.specs.Names.{own_name}
-use Rattle.made_names.proofs.Clear.{every-append}
 use Rattle.made_names.proofs.Bare.{IsNoName, HasNoNames, HaveNoNames}
 
 -- what was read before a sort that goes on with a form has no fresh names

@@ -1,37 +1,25 @@
 -- Wherever the steps of a run from the empty state lead, the rows at hand are clear, where the names made so far are others.
 use Rattle.std.proofs.Common.{ℕ, suc, Bool, true, false, cond, List, [], ◌∷◌, ◌++◌, length}
 use Rattle.std.specs.Prelude.{ltb, Some, option_map}
+use Rattle.list_laws.proofs.Members.{Every, every-append, every-left, every-right, every-up}
 use Rattle.calculus.specs.Tree.{Tree}
 use Rattle.calculus.specs.Outcome.{Prices, Answer, gives, fails, unknown, Outcome, over, within, known, capped}
 use Rattle.calculus.specs.Seeds.{digest_of, Start, Comm}
 use Rattle.calculus.specs.Log.{Step}
 use Rattle.calculus.specs.Root.{root}
 use Rattle.calculus.specs.Rows.{Row, stdout, stdout_ack}
-use Rattle.calculus.specs.Unfolding.{Thing, rows_of, unfold_in}
+use Rattle.calculus.specs.Unfolding.{Product, rows_of, unfold_in}
 use Rattle.calculus.specs.Steps.{Bag, standing, Meeting, meeting, has_place, but_places}
-use Rattle.calculus.specs.Runs.{Work, work_things, State, body_work, moved, step_from, steps_from, begun, first_state, state_after, Leads}
-use Rattle.calculus.proofs.Candidates.{Every}
-use Rattle.made_names.proofs.Clear.{every-append, Clear}
+use Rattle.calculus.specs.Runs.{deploy_of, Work, work_products, State, body_work, moved, step_from, steps_from, begun, first_state, state_after, Leads}
+use Rattle.made_names.proofs.Clear.{Clear}
 use Rattle.made_names.proofs.Values.{Gives, Comes}
 use Rattle.made_names.proofs.Unfolding.{Avoids, ClearRows, Sound, unfold-sound, under-sound}
 use Rattle.made_names.proofs.Meeting.{Holds, then-holds, map-holds, later-holds, value-holds, QuietRow, clear-quiet, ClearMeeting, meeting-holds}
 
-every-up : {A : Type 0} (P Q : A → Type 0) → ((v : A) → P v → Q v) → (xs : List A) → Every P xs → Every Q xs
-every-up P Q g [] h = tt
-every-up P Q g (v ∷ xs) h = (g v h.0, every-up P Q g xs h.1)
-
-every-first : {A : Type 0} (P : A → Type 0) (xs ys : List A) → Every P (xs ++ ys) → Every P xs
-every-first P [] ys h = tt
-every-first P (v ∷ xs) ys h = (h.0, every-first P xs ys h.1)
-
-every-last : {A : Type 0} (P : A → Type 0) (xs ys : List A) → Every P (xs ++ ys) → Every P ys
-every-last P [] ys h = h
-every-last P (v ∷ xs) ys h = every-last P xs ys h.1
-
 -- rows that stay
-every-left : (P : Row → Type 0) (ps : List ℕ) (i : ℕ) (rs : List Row) → Every P rs → Every P (but_places ps i rs)
-every-left P ps i [] h = tt
-every-left P ps i (r ∷ rs) h = go (has_place ps i) (every-left P ps (suc i) rs h.1)
+every-kept : (P : Row → Type 0) (ps : List ℕ) (i : ℕ) (rs : List Row) → Every P rs → Every P (but_places ps i rs)
+every-kept P ps i [] h = tt
+every-kept P ps i (r ∷ rs) h = go (has_place ps i) (every-kept P ps (suc i) rs h.1)
   where
     go : (b : Bool) → Every P (but_places ps (suc i) rs) → Every P (cond b (but_places ps (suc i) rs) (r ∷ but_places ps (suc i) rs))
     go true k = k
@@ -40,17 +28,17 @@ every-left P ps i (r ∷ rs) h = go (has_place ps i) (every-left P ps (suc i) rs
 module _ (x : List ℕ) where
   -- none of the names that these works made is x
   abbrev pub AllAvoid : List Work → Type 0
-  AllAvoid ws = Every (λ w. Avoids x (work_things w)) ws
+  AllAvoid ws = Every (λ w. Avoids x (work_products w)) ws
 
   abbrev SoundWork : Work → Type 0
-  SoundWork w = Sound x (work_things w)
+  SoundWork w = Sound x (work_products w)
 
-  known-sound : (n : ℕ) (a : Answer (List Thing)) → Gives (Sound x) a → Holds SoundWork (option_map within (known a (record { price = n; answer = a })))
+  known-sound : (n : ℕ) (a : Answer (List Product)) → Gives (Sound x) a → Holds SoundWork (option_map within (known a (record { price = n; answer = a })))
   known-sound n (gives ts) h = h
   known-sound n (fails f) h = λ a. tt
   known-sound n unknown h = tt
 
-  capped-sound : (cap : ℕ) (o : Outcome (List Thing)) → Comes (Sound x) o → Holds SoundWork (capped cap o)
+  capped-sound : (cap : ℕ) (o : Outcome (List Product)) → Comes (Sound x) o → Holds SoundWork (capped cap o)
   capped-sound cap o h = go (ltb cap o.price)
     where
       go : (b : Bool) → Holds SoundWork (cond b (Some over) (option_map within (known o.answer o)))
@@ -79,11 +67,11 @@ module _ (x : List ℕ) where
 
   moved-sound : (a : State) (s : Step) (m : Meeting) (w : Work) → SoundState a → (AllAvoid a.works → SoundWork w) → SoundState (moved a s m w)
   moved-sound a s m w h k l =
-      let before : AllAvoid a.works = every-first (λ v. Avoids x (work_things v)) a.works (w ∷ []) l in
-      let last : AllAvoid (w ∷ []) = every-last (λ v. Avoids x (work_things v)) a.works (w ∷ []) l in
+      let before : AllAvoid a.works = every-left (λ v. Avoids x (work_products v)) a.works (w ∷ []) l in
+      let last : AllAvoid (w ∷ []) = every-right (λ v. Avoids x (work_products v)) a.works (w ∷ []) l in
       let P : Row → Type 0 = λ r. Clear x r.part in (
-        every-left P m.leaving 0 a.bag.kept (h before).0,
-        every-append P (but_places m.leaving (suc (suc (length a.bag.kept))) a.bag.offered) (rows_of (work_things w)) (every-left P m.leaving (suc (suc (length a.bag.kept))) a.bag.offered (h before).1) (k before last.0),
+        every-kept P m.leaving 0 a.bag.kept (h before).0,
+        every-append P (but_places m.leaving (suc (suc (length a.bag.kept))) a.bag.offered) (rows_of (work_products w)) (every-kept P m.leaving (suc (suc (length a.bag.kept))) a.bag.offered (h before).1) (k before last.0),
       )
 
   step-sound : (p : Prices) (cap room : ℕ) (a : State) (s : Step) → SoundState a → Holds SoundState (step_from p cap room a s)
@@ -97,12 +85,12 @@ module _ (x : List ℕ) where
   steps-sound p cap room a [] h = h
   steps-sound p cap room a (s ∷ ss) h = then-holds SoundState SoundState (λ b. steps_from p cap room b ss) (step_from p cap room a s) (step-sound p cap room a s h) (λ b k. steps-sound p cap room b ss k)
 
-  first-sound : (p : Prices) (cap room : ℕ) (t : Tree) (source : List ℕ) → Clear x t → Holds SoundState (first_state p cap room [] t source)
+  first-sound : (p : Prices) (cap room : ℕ) (t : Tree) (source : List ℕ) → Clear x t → Holds SoundState (first_state (deploy_of p cap [] t source) room)
   first-sound p cap room t source h =
       let seed : List ℕ = digest_of (Start (root []) source) in
       map-holds SoundWork SoundState (begun []) (capped cap (unfold_in p room t seed)) (capped-sound cap (unfold_in p room t seed) (unfold-sound x p room t seed h)) (λ w k l. (tt, k l.0))
 
-  pub leads-sound : (p : Prices) (cap : ℕ) (t : Tree) (source : List ℕ) (ss : List Step) (a : State) → Clear x t → Leads p cap [] t source ss a → SoundState a
+  pub leads-sound : (p : Prices) (cap : ℕ) (t : Tree) (source : List ℕ) (ss : List Step) (a : State) → Clear x t → Leads (deploy_of p cap [] t source) ss a → SoundState a
   leads-sound p cap t source ss a h l =
-      value-holds SoundState (state_after p cap l.0 [] t source ss) a
-      (then-holds SoundState SoundState (λ b. steps_from p cap l.0 b ss) (first_state p cap l.0 [] t source) (first-sound p cap l.0 t source h) (λ b k. steps-sound p cap l.0 b ss k)) l.1
+      value-holds SoundState (state_after (deploy_of p cap [] t source) l.0 ss) a
+      (then-holds SoundState SoundState (λ b. steps_from p cap l.0 b ss) (first_state (deploy_of p cap [] t source) l.0) (first-sound p cap l.0 t source h) (λ b k. steps-sound p cap l.0 b ss k)) l.1

@@ -3,6 +3,7 @@ use Rattle.std.proofs.Common.{◌≡◌, ℕ, zero, suc, ◌+◌, Bool, true, fa
 use Rattle.std.specs.Prelude.{⊤, ltb}
 use Rattle.std.specs.Str.{bytes_eq}
 use Rattle.std.proofs.lemmas.Bool.{false≢true}
+use Rattle.list_laws.proofs.Members.{Every, every-each}
 use Rattle.calculus.specs.declared.plain.Kind.{Kind}
 use Rattle.calculus.specs.declared.plain.Rights.{Rights}
 use Rattle.calculus.specs.declared.plain.Origin.{Origin}
@@ -19,15 +20,14 @@ use Rattle.calculus.specs.Outcome.{Prices, Answer, gives, fails, unknown, Outcom
 use Rattle.calculus.specs.Rows.{Row, row_length}
 use Rattle.calculus.specs.Seeds.{digest_of, Split, Body}
 use Rattle.calculus.specs.Values.{value, values}
-use Rattle.calculus.specs.Unfolding.{Thing, a_row, a_fresh, rows_of, Channel, bundled, opened, row_limits, send_offered, has_twins, all_readable, on_channels, Placed, placed_from, sorted_binds, all_places, new_index, sorted_receive, receive_offered, names_made, fresh_names, Unfolder, unfold_within, unfold_under, part_unfolded, unfold_part, parts_unfolded, unfold_in}
-use Rattle.calculus.proofs.Candidates.{Every}
+use Rattle.calculus.specs.Unfolding.{Product, a_row, a_fresh, rows_of, Channel, bundled, opened, row_limits, send_offered, has_twins, all_readable, on_channels, Placed, placed_from, sorted_binds, all_places, new_index, sorted_receive, receive_offered, names_made, fresh_names, Unfolder, unfold_within, unfold_under, part_unfolded, unfold_part, parts_unfolded, unfold_in}
 use Rattle.linear_unfold.specs.Linear.{all_plain}
-use Rattle.made_names.proofs.Clear.{every-each, arranged-every, Clear, Clears, listed-clear, trees-clear, held-clear, at-clear, ascending-clear}
+use Rattle.made_names.proofs.Clear.{arranged-every, Clear, Clears, listed-clear, trees-clear, held-clear, at-clear, ascending-clear}
 use Rattle.made_names.proofs.Putting.{put-clear, renumber-clear}
 use Rattle.made_names.proofs.Values.{Gives, Comes, after-comes, in_order-comes, within-gives, value-clear, values-clear}
 
 -- none of the names made is x
-abbrev pub Avoids : List ℕ → List Thing → Type 0
+abbrev pub Avoids : List ℕ → List Product → Type 0
 Avoids x [] = ⊤
 Avoids x (a_row r ∷ ts) = Avoids x ts
 Avoids x (a_fresh y ∷ ts) = (bytes_eq x y ≡ false) × Avoids x ts
@@ -37,25 +37,25 @@ abbrev pub ClearRows : List ℕ → List Row → Type 0
 ClearRows x rs = Every (λ r. Clear x r.part) rs
 
 -- these things have clear rows where none of the names made is x
-abbrev pub Sound : List ℕ → List Thing → Type 0
+abbrev pub Sound : List ℕ → List Product → Type 0
 Sound x ts = Avoids x ts → ClearRows x (rows_of ts)
 
-avoids-first : (x : List ℕ) (ts us : List Thing) → Avoids x (ts ++ us) → Avoids x ts
+avoids-first : (x : List ℕ) (ts us : List Product) → Avoids x (ts ++ us) → Avoids x ts
 avoids-first x [] us h = tt
 avoids-first x (a_row r ∷ ts) us h = avoids-first x ts us h
 avoids-first x (a_fresh y ∷ ts) us h = (h.0, avoids-first x ts us h.1)
 
-avoids-last : (x : List ℕ) (ts us : List Thing) → Avoids x (ts ++ us) → Avoids x us
+avoids-last : (x : List ℕ) (ts us : List Product) → Avoids x (ts ++ us) → Avoids x us
 avoids-last x [] us h = h
 avoids-last x (a_row r ∷ ts) us h = avoids-last x ts us h
 avoids-last x (a_fresh y ∷ ts) us h = avoids-last x ts us h.1
 
-rows-append : (P : Row → Type 0) (ts us : List Thing) → Every P (rows_of ts) → Every P (rows_of us) → Every P (rows_of (ts ++ us))
+rows-append : (P : Row → Type 0) (ts us : List Product) → Every P (rows_of ts) → Every P (rows_of us) → Every P (rows_of (ts ++ us))
 rows-append P [] us h k = k
 rows-append P (a_row r ∷ ts) us h k = (h.0, rows-append P ts us h.1 k)
 rows-append P (a_fresh y ∷ ts) us h k = rows-append P ts us h k
 
-append-sound : (x : List ℕ) (ts us : List Thing) → Sound x ts → Sound x us → Sound x (ts ++ us)
+append-sound : (x : List ℕ) (ts us : List Product) → Sound x ts → Sound x us → Sound x (ts ++ us)
 append-sound x ts us h k a = rows-append (λ r. Clear x r.part) ts us (h (avoids-first x ts us a)) (k (avoids-last x ts us a))
 
 -- fresh names are no rows
@@ -89,7 +89,7 @@ limits-sound x r h = go (ltb 400 (height r.part)) (ltb 1048576 (row_length r))
     go false false = λ a. (h, tt)
 
 -- an answer that a test may put a fault in place of
-tested-sound : (x : List ℕ) (b : Bool) (u v : Answer (List Thing)) → Gives (Sound x) u → Gives (Sound x) v → Gives (Sound x) (cond b u v)
+tested-sound : (x : List ℕ) (b : Bool) (u v : Answer (List Product)) → Gives (Sound x) u → Gives (Sound x) v → Gives (Sound x) (cond b u v)
 tested-sound x true u v h k = h
 tested-sound x false u v h k = k
 
@@ -145,12 +145,12 @@ new-sound x f h t os body p c =
     go (f (put (names_made t 0 os) body) (digest_of (Body t))).price (f (put (names_made t 0 os) body) (digest_of (Body t))).answer
     (λ a. h (put (names_made t 0 os) body) (digest_of (Body t)) (put-clear x (names_made t 0 os) body (names-clear x t 0 os p a) c))
   where
-    go : (n : ℕ) (a : Answer (List Thing)) → (Avoids x (fresh_names t 0 os) → Gives (Sound x) a) → Comes (Sound x) (then_do n a (λ ts. pure (fresh_names t 0 os ++ ts)))
+    go : (n : ℕ) (a : Answer (List Product)) → (Avoids x (fresh_names t 0 os) → Gives (Sound x) a) → Comes (Sound x) (then_do n a (λ ts. pure (fresh_names t 0 os ++ ts)))
     go n (gives ts) g = λ a. rows-append (λ r. Clear x r.part) (fresh_names t 0 os) ts (fresh-sound x t 0 os) (g (avoids-first x (fresh_names t 0 os) ts a) (avoids-last x (fresh_names t 0 os) ts a))
     go n (fails e) g = tt
     go n unknown g = tt
 
-value-sound : (x : List ℕ) (p : Prices) (c : Tree) (f : Tree → Outcome (List Thing)) → Clear x c → ((v : Tree) → Clear x v → Comes (Sound x) (f v)) → Comes (Sound x) (after (value p c) f)
+value-sound : (x : List ℕ) (p : Prices) (c : Tree) (f : Tree → Outcome (List Product)) → Clear x c → ((v : Tree) → Clear x v → Comes (Sound x) (f v)) → Comes (Sound x) (after (value p c) f)
 value-sound x p c f h g = after-comes (Clear x) (Sound x) (value p c) f (value-clear x p c h) g
 
 -- the values of the binds' channels

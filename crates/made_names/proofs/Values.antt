@@ -1,6 +1,7 @@
 -- The value of a clear process is clear.
 use Rattle.std.proofs.Common.{ℕ, Bool, true, false, cond, List, [], ◌∷◌, length, map as each}
 use Rattle.std.specs.Prelude.{⊤, flat_map, ltb, zip}
+use Rattle.list_laws.proofs.Members.{Every, every-flat}
 use Rattle.calculus.specs.declared.fault.FaultKind.TheVariants as fault
 use Rattle.calculus.specs.Tree.{Label, par, row, list, tuple, set, dict, pair, bundle, unary, binary, method, Tree, node, Trees, none, also}
 use Rattle.calculus.specs.Shape.{many, only, held}
@@ -10,8 +11,7 @@ use Rattle.calculus.specs.Outcome.{Prices, Answer, gives, fails, unknown, Outcom
 use Rattle.calculus.specs.Normal.{arranged_by, ascending, made_node}
 use Rattle.calculus.specs.Operators.{is_among, distinct, of_set, key_of, last_of_key, of_map}
 use Rattle.calculus.specs.Values.{in_code_order, formed, value, values}
-use Rattle.calculus.proofs.Candidates.{Every}
-use Rattle.made_names.proofs.Clear.{every-flat, arranged-every, IsClear, Clear, AllClear, Clears, trees-clear, held-clear, ascending-clear, made-clear}
+use Rattle.made_names.proofs.Clear.{arranged-every, IsClear, Clear, AllClear, Clears, trees-clear, held-clear, ascending-clear, made-clear}
 
 -- what an answer gives has P
 abbrev pub Gives : {A : Type 0} → (A → Type 0) → Answer A → Type 0

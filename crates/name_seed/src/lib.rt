@@ -11,6 +11,9 @@ use calculus::Digest;
 use sha2::{Digest as _, Sha256};
 use std::marker::Model;
 
+/// The root of a state without rows.
+pub const EMPTY_ROOT: Digest = Digest([0; 32]);
+
 /// What ids and fresh names are made from: the digest of a tag, which says how the seed is made, and of the digests
 /// and numbers that it is made from. Numbers are hashed as four bytes, the high one first.
 ///

@@ -1,19 +1,19 @@
--- A body in normal order whose variables keep their indices stays as it is.
+-- A body in normal order whose variables keep their indices stays as it is, and so does a closed process with values put in.
 use Rattle.std.proofs.Common.{◌≡◌, ℕ, zero, suc, ◌<◌, ◌≤◌, ◌+◌, ◌-◌, Bool, true, false, cond, inl, inr, List, [], ◌∷◌, ◌++◌, length, map as each, reverse, refl, sym, ap, ◌∙◌, subst, arith, length-append}
 use Rattle.std.specs.Prelude.{leb, eqb}
 use Rattle.std.proofs.lemmas.Bool.{cond_both, leb-true, cases_Bool}
 use Rattle.std.proofs.lemmas.Bool.Decides.{nat_tests}
 use Rattle.std.proofs.lemmas.List.{length-reverse}
 use Rattle.calculus.specs.Tree.{Label, var, name_var, receive, new, match, Tree, node, Trees, none, also, trees}
-use Rattle.calculus.specs.Shape.{leaf, count, listed, joined_trees}
+use Rattle.calculus.specs.Shape.{leaf, count, held, at, listed, joined_trees}
 use Rattle.calculus.specs.Variables.{Sense, a_process, a_name, binders}
 use Rattle.calculus.specs.Order.{IsAscending}
 use Rattle.calculus.specs.Congruence.{is_bag}
 use Rattle.calculus.specs.Code.{code, codes}
 use Rattle.calculus.specs.Normal.{placed_by, by_code, ascending, made_node}
-use Rattle.calculus.specs.Substitution.{Change, changed, change, change_all, the_one, renumber}
+use Rattle.calculus.specs.Substitution.{Change, changed, change, change_all, the_one, put, renumber}
 use Rattle.calculus.specs.Unfolding.{from_on, place_in, new_index}
-use Rattle.calculus.specs.Form.{Sort, term, part, pat_part, name_part, Kids, all, these, no_form, kids, Scope, outer, Fits, Hold}
+use Rattle.calculus.specs.Form.{Sort, term, part, pat_part, name_part, Kids, all, these, no_form, kids, Scope, outer, Fits, Hold, IsClosed}
 use Rattle.calculus.proofs.Ranges.{in_scope}
 use Rattle.calculus.proofs.Placing.{trees-listed}
 use Rattle.rho_term.specs.Normal.{IsArranged, IsNormal, AreNormal}
@@ -103,6 +103,11 @@ module _ (F : Change) (m : ℕ) (keeps : (k d : ℕ) (form : ℕ → Label) → 
     same-all (these (s ∷ ss)) d n v o (also t none) h a e q = same s (d + n) (o ++ v) t h.0 a.0 (omega (arith, length-append o v))
     same-all (these (s ∷ ss)) d n v o (also t (also u us)) h a e q = one-more t (change F d t) _ _ (same s d v t h.0 a.0 e) (same-all (these ss) d n v o (also u us) h.1 a.1 e q)
     same-all no_form d n v o (also t ts) h a e q = absurd h
+
+-- values put into a closed process
+pub put-same : (vs : List Tree) (t : Tree) → IsClosed t → IsNormal t → put vs t ≡ t
+unfolding put
+put-same vs t h n = ap the_one (same (λ k d form. trees (held (at k (reverse vs)))) 0 (λ k d form q. absurd (omega (arith, q))) term 0 [] t h n (omega arith))
 
 -- new indices that are the old ones
 renumber-same : (s : Scope) (m : ℕ) (f : ℕ → ℕ) (body : Tree) → ((k : ℕ) → k < m → f k ≡ k) → length s ≤ m → Fits term s body → IsNormal body → renumber f body ≡ body

@@ -6,7 +6,7 @@ use Rattle.calculus.specs.Tree.{par, bundle, Tree, node, none, also}
 use Rattle.calculus.specs.Shape.{one, only}
 use Rattle.calculus.specs.Outcome.{Answer, fails}
 use Rattle.calculus.specs.Rows.{Row}
-use Rattle.calculus.specs.Unfolding.{Thing, Channel, row_limits}
+use Rattle.calculus.specs.Unfolding.{Product, Channel, row_limits}
 use Rattle.rho_term.specs.declared.term.Part.{Part}
 use Rattle.rho_term.specs.declared.term.Part.TheVariants as part
 use Rattle.rho_term.specs.Parts.{part_tree}
@@ -27,7 +27,7 @@ abbrev pub row_of : List ℕ → Tree → Row
 row_of id t = record { id = id; part = t }
 
 -- a row's answer: the fault that was found before, or else what its limits say
-abbrev pub tested : Option FaultKind → Row → Answer (List Thing)
+abbrev pub tested : Option FaultKind → Row → Answer (List Product)
 tested None r = row_limits r
 tested (Some k) r = fails k
 

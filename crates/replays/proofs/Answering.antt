@@ -4,17 +4,15 @@ use Rattle.std.specs.Prelude.{Option, Some, None, IsSome}
 use Rattle.std.specs.Str.{bytes_eq}
 use Rattle.std.proofs.lemmas.Slice.Eq.{bytes_eq-Decides}
 use Rattle.calculus.specs.Order.{up_to}
-use Rattle.calculus.specs.Tree.{Tree}
-use Rattle.calculus.specs.Outcome.{Prices}
 use Rattle.calculus.specs.Log.{Step}
-use Rattle.calculus.specs.Rows.{Row}
 use Rattle.calculus.specs.Steps.{meeting}
-use Rattle.calculus.specs.Runs.{State, Leads, done, verdict, IsEnd}
+use Rattle.calculus.specs.Runs.{Deploy, State, Leads, done, verdict, IsEnd}
 use Rattle.calculus.proofs.Ordered.{up_to_both}
 use Rattle.calculus.proofs.States.{one_state}
-use Rattle.replays.specs.Replays.{Refusal, no_run, reducible, Outcome, refused, replayed, header_refusal, StopsAt, ids_up_to, IsLeastAllowed, outcome_of, by_header, by_step, by_rest, by_end}
+use Rattle.replays.specs.Replays.{Refusal, no_run, reducible, Outcome, refused, replayed, header_refusal, StopsAt, outcome_of, deploy_under, by_header, by_step, by_rest, by_end}
 use Rattle.replays.specs.Laws.{OneAnswer, RunsAreReplayed, RefusedLogsAreNoRuns}
-use Rattle.replays.proofs.Prefixes.{passed, prints-there, one-output}
+use Rattle.replays.proofs.Prefixes.{passed}
+use Rattle.calculus.specs.Candidates.{ids_up_to, IsLeastAllowed}
 
 pub same : (x y : List ℕ) → bytes_eq x y ≡ true → x ≡ y
 same x y e = (bytes_eq-Decides x y).0 e
@@ -56,15 +54,15 @@ pub is-none : {A : Type 0} (o : Option A) → IsSome o → o ≡ None → ⊥
 is-none None h e = cc
 is-none (Some x) h e = cc
 
-module _ (p : Prices) (cap : ℕ) (rows : List Row) (t : Tree) (source : List ℕ) (ss : List Step) where
+module _ (deploy : Deploy) (ss : List Step) where
   -- a list that stops is not legal past that place
-  stops-there : (i : ℕ) (h : StopsAt p cap rows t source ss i) (mid : List Step) (whole : List Step) → whole ≡ h.before ++ h.step ∷ mid → (b : State) → Leads p cap rows t source whole b → ⊥
+  stops-there : (i : ℕ) (h : StopsAt deploy ss i) (mid : List Step) (whole : List Step) → whole ≡ h.before ++ h.step ∷ mid → (b : State) → Leads deploy whole b → ⊥
   stops-there i h mid whole e b l =
-      let k = passed p cap rows t source h.before h.step mid b (subst (λ us. Leads p cap rows t source us b) e l) in
-      let one : k.state ≡ h.state = one_state p cap rows t source h.before k.state h.state k.leads h.leads in
+      let k = passed deploy h.before h.step mid b (subst (λ us. Leads deploy us b) e l) in
+      let one : k.state ≡ h.state = one_state deploy h.before k.state h.state k.leads h.leads in
       is-none (meeting h.state.bag h.state.made h.step) (subst (λ a. IsSome (meeting a.bag a.made h.step)) one k.allowed) h.stops
 
-  pub one-stop : (i j : ℕ) → StopsAt p cap rows t source ss i → StopsAt p cap rows t source ss j → i ≡ j
+  pub one-stop : (i j : ℕ) → StopsAt deploy ss i → StopsAt deploy ss j → i ≡ j
   one-stop i j h k = go (places h.before k.before h.step k.step h.after k.after (sym h.is ∙ k.is))
     where
       go : Places h.before k.before h.step k.step → i ≡ j
@@ -72,13 +70,13 @@ module _ (p : Prices) (cap : ℕ) (rows : List Row) (t : Tree) (source : List �
       go (first_before mid e) = absurd (stops-there i h mid k.before e k.state k.leads)
       go (first_after mid e) = absurd (stops-there j k mid h.before e h.state h.leads)
 
-  pub no-stop : (i : ℕ) → StopsAt p cap rows t source ss i → (b : State) → Leads p cap rows t source ss b → ⊥
+  pub no-stop : (i : ℕ) → StopsAt deploy ss i → (b : State) → Leads deploy ss b → ⊥
   no-stop i h b l = stops-there i h h.after ss h.is b l
 
-  one-least : (a : State) (s u : Step) → IsLeastAllowed a s → IsLeastAllowed a u → reducible s.receiver s.data_ids ≡ reducible u.receiver u.data_ids
+  one-least : (a : State) (s u : Step) → IsLeastAllowed a.bag a.made s → IsLeastAllowed a.bag a.made u → reducible s.receiver s.data_ids ≡ reducible u.receiver u.data_ids
   one-least a s u h k = cc (both-ways (s.receiver ∷ s.data_ids) (u.receiver ∷ u.data_ids) (h.least u k.allowed) (k.least s h.allowed))
 
-  not-ended : (a : State) (s : Step) → verdict p cap a ≡ done → IsLeastAllowed a s → IsEnd p cap a → ⊥
+  not-ended : (a : State) (s : Step) → verdict deploy.prices deploy.limit a ≡ done → IsLeastAllowed a.bag a.made s → IsEnd deploy.prices deploy.limit a → ⊥
   not-ended a s d h e = is-none (meeting a.bag a.made s) h.allowed (e d s)
 
 some-none : (r : Refusal) (o : Option Refusal) → o ≡ Some r → o ≡ None → ⊥
@@ -93,38 +91,33 @@ one_answer g h ss x y (by_header {r} e) (by_header {r = q} f) = ap refused (insi
     inside e = cc e
 one_answer g h ss x y (by_header {r} e) (by_step f k) = absurd (some-none r (header_refusal g h) e f)
 one_answer g h ss x y (by_header {r} e) (by_rest f l d k) = absurd (some-none r (header_refusal g h) e f)
-one_answer g h ss x y (by_header {r} e) (by_end f l d k) = absurd (some-none r (header_refusal g h) e f)
+one_answer g h ss x y (by_header {r} e) (by_end f l d) = absurd (some-none r (header_refusal g h) e f)
 one_answer g h ss x y (by_step f k) (by_header {r} e) = absurd (some-none r (header_refusal g h) e f)
-one_answer g h ss x y (by_step {i} f k) (by_step {i = j} e l) = ap (λ n. refused (no_run n)) (one-stop g.prices h.limit g.rows g.process g.source ss i j k l)
-one_answer g h ss x y (by_step {i} f k) (by_rest {a} e l d m) = absurd (no-stop g.prices h.limit g.rows g.process g.source ss i k a l)
-one_answer g h ss x y (by_step {i} f k) (by_end {a} e l d m) = absurd (no-stop g.prices h.limit g.rows g.process g.source ss i k a l)
+one_answer g h ss x y (by_step {i} f k) (by_step {i = j} e l) = ap (λ n. refused (no_run n)) (one-stop (deploy_under h.limit g) ss i j k l)
+one_answer g h ss x y (by_step {i} f k) (by_rest {a} e l d m) = absurd (no-stop (deploy_under h.limit g) ss i k a l)
+one_answer g h ss x y (by_step {i} f k) (by_end {a} e l d) = absurd (no-stop (deploy_under h.limit g) ss i k a l)
 one_answer g h ss x y (by_rest f l d k) (by_header {r} e) = absurd (some-none r (header_refusal g h) e f)
-one_answer g h ss x y (by_rest {a} f l d k) (by_step {i} e m) = absurd (no-stop g.prices h.limit g.rows g.process g.source ss i m a l)
+one_answer g h ss x y (by_rest {a} f l d k) (by_step {i} e m) = absurd (no-stop (deploy_under h.limit g) ss i m a l)
 one_answer g h ss x y (by_rest {a} {s} f l d k) (by_rest {a = b} {s = u} e m c n) =
-    let one : a ≡ b = one_state g.prices h.limit g.rows g.process g.source ss a b l m in
-    ap refused (one-least g.prices h.limit g.rows g.process g.source ss b s u (subst (λ z. IsLeastAllowed z s) one k) n)
-one_answer g h ss x y (by_rest {a} {s} f l d k) (by_end {a = b} e m c n) =
-    let one : b ≡ a = one_state g.prices h.limit g.rows g.process g.source ss b a m l in
-    absurd (not-ended g.prices h.limit g.rows g.process g.source ss a s d k (subst (IsEnd g.prices h.limit) one c))
-one_answer g h ss x y (by_end f l d k) (by_header {r} e) = absurd (some-none r (header_refusal g h) e f)
-one_answer g h ss x y (by_end {a} f l d k) (by_step {i} e m) = absurd (no-stop g.prices h.limit g.rows g.process g.source ss i m a l)
-one_answer g h ss x y (by_end {a = b} f m c n) (by_rest {a} {s} e l d k) =
-    let one : b ≡ a = one_state g.prices h.limit g.rows g.process g.source ss b a m l in
-    absurd (not-ended g.prices h.limit g.rows g.process g.source ss a s d k (subst (IsEnd g.prices h.limit) one c))
-one_answer g h ss x y (by_end {a} {out = o} f l d k) (by_end {a = b} {out = q} e m c n) =
-    let one : a ≡ b = one_state g.prices h.limit g.rows g.process g.source ss a b l m in
-    let out : o ≡ q = one-output g.prices h.limit g.rows g.process g.source ss o q k n in
-    ap (λ z. replayed (outcome_of g h.limit z o)) one ∙ ap (λ z. replayed (outcome_of g h.limit b z)) out
+    let one : a ≡ b = one_state (deploy_under h.limit g) ss a b l m in
+    ap refused (one-least (deploy_under h.limit g) ss b s u (subst (λ (z : State). IsLeastAllowed z.bag z.made s) one k) n)
+one_answer g h ss x y (by_rest {a} {s} f l d k) (by_end {a = b} e m c) =
+    let one : b ≡ a = one_state (deploy_under h.limit g) ss b a m l in
+    absurd (not-ended (deploy_under h.limit g) ss a s d k (subst (IsEnd g.prices h.limit) one c))
+one_answer g h ss x y (by_end f l d) (by_header {r} e) = absurd (some-none r (header_refusal g h) e f)
+one_answer g h ss x y (by_end {a} f l d) (by_step {i} e m) = absurd (no-stop (deploy_under h.limit g) ss i m a l)
+one_answer g h ss x y (by_end {a = b} f m c) (by_rest {a} {s} e l d k) =
+    let one : b ≡ a = one_state (deploy_under h.limit g) ss b a m l in
+    absurd (not-ended (deploy_under h.limit g) ss a s d k (subst (IsEnd g.prices h.limit) one c))
+one_answer g h ss x y (by_end {a} f l d) (by_end {a = b} e m c) =
+    ap (λ z. replayed (outcome_of (deploy_under h.limit g) z)) (one_state (deploy_under h.limit g) ss a b l m)
 
 pub runs_are_replayed : RunsAreReplayed
-runs_are_replayed g h ss a e r =
-    let k = prints-there g.prices h.limit g.rows g.process g.source ss a r.leads in
-    (k.0, (k.1, by_end e r.leads r.ends k.1))
+runs_are_replayed g h ss a e r = by_end e r.leads r.ends
 
 pub refused_logs_are_no_runs : RefusedLogsAreNoRuns
 refused_logs_are_no_runs g h ss r a e k n =
-    let m = runs_are_replayed g h ss a e n in
-    different (outcome_of g h.limit a m.0) (one_answer g h ss (refused r) (replayed (outcome_of g h.limit a m.0)) k m.1.1)
+    different (outcome_of (deploy_under h.limit g) a) (one_answer g h ss (refused r) (replayed (outcome_of (deploy_under h.limit g) a)) k (runs_are_replayed g h ss a e n))
   where
     different : (o : Outcome) → refused r ≡ replayed o → ⊥
     different o f = cc f

@@ -1,12 +1,12 @@
 -- The least allowed step, as the candidates show it.
 use Rattle.std.proofs.Common.{◌≡◌, Bool, true, false, ◌&&◌, ◌||◌, List, [], ◌∷◌, refl, sym, subst, inl, inr}
 use Rattle.std.specs.Prelude.{Option, Some, None, is_none, IsSome}
+use Rattle.list_laws.proofs.Members.{Member}
 use Rattle.calculus.specs.Log.{Step}
 use Rattle.calculus.specs.Steps.{Bag, Meeting, meeting}
-use Rattle.calculus.specs.Candidates.{candidates}
-use Rattle.calculus.specs.Runs.{State}
-use Rattle.calculus.proofs.Candidates.{Member, allowed-among}
-use Rattle.replays.specs.Replays.{ids_up_to, IsLeastAllowed}
+use Rattle.calculus.specs.Candidates.{ids_up_to, IsLeastAllowed, candidates}
+use Rattle.calculus.proofs.Candidates.{allowed-among}
+use Rattle.replays.specs.Replays.{}
 
 -- whether each of these steps that is allowed is no less than s
 abbrev pub none_less : Bag → List Step → Step → List Step → Bool
@@ -29,9 +29,9 @@ no-less b made s u (v ∷ us) (inl f) e h =
 no-less b made s u (v ∷ us) (inr m) e h = no-less b made s u us m (both _ _ e).1 h
 
 -- an allowed step that no allowed candidate is below is the least
-pub least-among : (a : State) (s : Step) → IsSome (meeting a.bag a.made s) → none_less a.bag a.made s (candidates a.bag a.made) ≡ true → IsLeastAllowed a s
-least-among a s h e = record { allowed = h; least = λ u k. go u (meeting a.bag a.made u) refl k }
+pub least-among : (b : Bag) (made : List Step) (s : Step) → IsSome (meeting b made s) → none_less b made s (candidates b made) ≡ true → IsLeastAllowed b made s
+least-among b made s h e = record { allowed = h; least = λ u k. go u (meeting b made u) refl k }
   where
-    go : (u : Step) (o : Option Meeting) → meeting a.bag a.made u ≡ o → IsSome (meeting a.bag a.made u) → ids_up_to (s.receiver ∷ s.data_ids) (u.receiver ∷ u.data_ids) ≡ true
+    go : (u : Step) (o : Option Meeting) → meeting b made u ≡ o → IsSome (meeting b made u) → ids_up_to (s.receiver ∷ s.data_ids) (u.receiver ∷ u.data_ids) ≡ true
     go u None f k = cc (f, k)
-    go u (Some m) f k = no-less a.bag a.made s u (candidates a.bag a.made) (allowed-among a.bag a.made u m f) e k
+    go u (Some m) f k = no-less b made s u (candidates b made) (allowed-among b made u m f) e k

@@ -1,4 +1,4 @@
-ghost use Rattle.replays.specs.Laws.{ChoicesAreMeetings, OneAnswer, RefusedLogsAreNoRuns, RunsAreReplayed};
+ghost use Rattle.replays.specs.Laws.{OneAnswer, RefusedLogsAreNoRuns, RunsAreReplayed};
 
 /// A log has one answer at most.
 pub fn one_answer()
@@ -13,9 +13,4 @@ pub fn runs_are_replayed()
 /// A log that is refused, under a right header, is no run.
 pub fn refused_logs_are_no_runs()
     ensures law { RefusedLogsAreNoRuns }
-{}
-
-/// The rows chosen for a step are those by which it is made.
-pub fn choices_are_meetings()
-    ensures law { ChoicesAreMeetings }
 {}

@@ -2,3 +2,4 @@ pub mod Outcomes
 pub mod Forms
 pub mod Operated
 pub mod Parts
+pub mod OwnValues

@@ -1,8 +1,8 @@
 -- What work comes to under a cap, from a price so far.
 use Rattle.std.specs.Prelude.{◌≡◌, ◌<◌, ◌≤◌, ℕ, ◌+◌, List, flat_map, Some, ⊤}
 use Rattle.calculus.specs.Tree.{Tree}
-use Rattle.calculus.specs.Shape.{held}
-use Rattle.calculus.specs.Outcome.{Prices, Outcome, gives, fails, Capped, over, within, capped}
+use Rattle.calculus.specs.Shape.{held, only}
+use Rattle.calculus.specs.Outcome.{Prices, Outcome, gives, fails, pure, Capped, over, within, capped}
 use Rattle.calculus.specs.Values.{value}
 use Rattle.rho_eval.specs.declared.stop.EvalStop.{EvalStop}
 use Rattle.rho_eval.specs.declared.stop.EvalStop.TheVariants.{Fault, Over, NoMemory}
@@ -24,6 +24,10 @@ abbrev pub Stopped : {A : Type 0} → ℕ → ℕ → Outcome A → EvalStop →
 Stopped cap from o (Fault kind price) = (o.answer ≡ fails kind) × (price ≡ from + o.price) × (price ≤ cap)
 Stopped cap from o Over = cap < from + o.price
 Stopped cap from o NoMemory = ⊤
+
+-- a part that is its own value, at no price
+abbrev pub IsOwnValue : Tree → Type 0
+IsOwnValue t = (p : Prices) → value p t ≡ pure (only t)
 
 -- what evaluation comes to under the cap
 abbrev pub Evaluates : Prices → ℕ → Tree → Capped Tree → Type 0

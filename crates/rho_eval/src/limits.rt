@@ -11,7 +11,7 @@ use rho_term::{MOST_BYTES, MOST_HEIGHT, Term};
 use term_encoder::code_len;
 
 /// The process at this price so far, or its fault where it is beyond the limits.
-pub(crate) fn limited(term: Term, price: u64, cap: u64) -> Result<Priced<Term>, EvalStop>
+pub fn limited(term: Term, price: u64, cap: u64) -> Result<Priced<Term>, EvalStop>
     requires { price ≤ cap }
     ensures { MatchResult result (λ p. Came cap price p.price p.value (free (within_limits term))) (λ e. Stopped cap price (free (within_limits term)) e) }
 {

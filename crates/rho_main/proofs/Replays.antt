@@ -1,7 +1,8 @@
 -- What a replay refuses, and what it leaves.
 use Rattle.std.proofs.Common.{◌≡◌, ◌≢◌, ◌∙◌, ◌⊎◌, inl, inr, ℕ, List, [], ◌∷◌, map as each, true, length, refl, sym, ap, subst, Result, Ok, Err, Option, Some, None, IfSome}
-use Rattle.std.specs.Prelude.{IsErrAnd}
+use Rattle.std.specs.Prelude.{IsErrAnd, IsPermutation}
 use Rattle.std.specs.Result.{IsOkAnd}
+use Rattle.list_laws.proofs.Permutations.{unmoved}
 use Rattle.calculus.specs.Tree.{Tree}
 use Rattle.calculus.specs.Log.{Header, Step}
 use Rattle.calculus.specs.Rows.{Row}
@@ -12,7 +13,6 @@ use Rattle.replays.specs.Replays.{Refusal, header_refusal, refused, Answers}
 use Rattle.rho_term.specs.declared.op.Op.{Op}
 use Rattle.rho_term.specs.Rows.{row_of_op}
 use Rattle.linear_unfold.specs.Linear.{is_linear}
-use Rattle.events.specs.Orders.{Moved, empty}
 use Rattle.states.specs.States.{state_text}
 use Rattle.states.proofs.Groups.{root_ignores_order, text_ignores_order}
 use Rattle.sources.specs.Sources.{IsSourceOf}
@@ -20,9 +20,9 @@ use Rattle.events.specs.Events.{FreshDigests}
 use Rattle.linear_runs.specs.Premises.{IsCalm}
 use Rattle.linear_replays.specs.Laws.{Replays}
 use Rattle.linear_replays.specs.Replayed.{from_nothing}
-use Rattle.linear_play.specs.declared.played.Verdict.TheVariants as ending
+use Rattle.run_verdict.specs.declared.verdict.Verdict.TheVariants as ending
 use Rattle.std.proofs.lemmas.List.{length-map}
-use Rattle.linear_play.specs.Courses.{verdict_of}
+use Rattle.run_verdict.specs.View.{verdict_of}
 use Rattle.log_replay.specs.Answers.{IsAnswered}
 use Rattle.log_replay.specs.Refusals.{refusal_of}
 use Rattle.log_replay.specs.declared.fault.ReplayFault.{ReplayFault}
@@ -96,16 +96,16 @@ module _ (r : ReplayInputs) (spelt : IsSourceOf r.inputs.source.items r.inputs.t
     replay_stop (Some x) e s h = subst (IsReplayStop r) (sym h) (record { refusal = x; is = e; answer = answer-of x e (header_refusal (given_of r) (header_of r.log.header)) refl })
 
   -- the rows that a replayed run leaves
-  left-rows : (v : Verdict) (rows : List Op) (out : List Row) → (v ≡ done → Moved (each row_of_op rows) out) → (v ≢ done → out ≡ []) → (v ≢ done → rows ≡ []) → Moved (each row_of_op rows) out
+  left-rows : (v : Verdict) (rows : List Op) (out : List Row) → (v ≡ done → IsPermutation (each row_of_op rows) out) → (v ≢ done → out ≡ []) → (v ≢ done → rows ≡ []) → IsPermutation (each row_of_op rows) out
   left-rows done rows out m n k = m refl
   left-rows exhausted rows out m n k =
       let none : rows ≡ [] = k (λ e. cc) in
       let gone : out ≡ [] = n (λ e. cc) in
-      subst (λ (rs : List Op). Moved (each row_of_op rs) out) (sym none) (subst (λ (os : List Row). Moved [] os) (sym gone) empty)
+      subst (λ (rs : List Op). IsPermutation (each row_of_op rs) out) (sym none) (subst (λ (os : List Row). IsPermutation [] os) (sym gone) (unmoved []))
   left-rows (faulted s f) rows out m n k =
       let none : rows ≡ [] = k (λ e. cc) in
       let gone : out ≡ [] = n (λ e. cc) in
-      subst (λ (rs : List Op). Moved (each row_of_op rs) out) (sym none) (subst (λ (os : List Row). Moved [] os) (sym gone) empty)
+      subst (λ (rs : List Op). IsPermutation (each row_of_op rs) out) (sym none) (subst (λ (os : List Row). IsPermutation [] os) (sym gone) (unmoved []))
 
   -- what is made of what the log's replay came to
   pub replay_plan : (x : Replayed) → result ≡ Ok x → (x.verdict ≢ ending.Done → x.rows.items ≡ []) → (p : ReplayPlan) → IsPlanned r x p → IsReplayPlan r p
@@ -136,7 +136,7 @@ module _ (r : ReplayInputs) (spelt : IsSourceOf r.inputs.source.items r.inputs.t
       outcome : Replays the_prices r.inputs.term (sha256 r.inputs.source.items) (header_of r.log.header) (steps_in r) x.rows.items (verdict_of x.verdict) x.cost
           → IsOutcomeLeft r.inputs.term (sha256 r.inputs.source.items) (header_of r.log.header) (record { steps = steps_in r; next = p.next.items; report = record { verdict = x.verdict; cost = x.cost; root = planned.digest; steps = length r.log.steps.items } })
       outcome a =
-          let moved : Moved (each row_of_op x.rows.items) a.outcome.rows = left-rows (verdict_of x.verdict) x.rows.items a.outcome.rows a.left a.lost none in
+          let moved : IsPermutation (each row_of_op x.rows.items) a.outcome.rows = left-rows (verdict_of x.verdict) x.rows.items a.outcome.rows a.left a.lost none in
           record {
             outcome = a.outcome;
             answer = a.answer;

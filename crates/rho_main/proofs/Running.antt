@@ -1,5 +1,7 @@
 -- What a run leaves, from what was played.
 use Rattle.std.proofs.Common.{◌≡◌, ◌≢◌, ℕ, List, [], map as each, refl, sym, ◌∙◌, ap, subst, true}
+use Rattle.std.specs.Prelude.{IsPermutation}
+use Rattle.list_laws.proofs.Permutations.{unmoved}
 use Rattle.sha2.specs.Sha256.{sha256}
 use Rattle.calculus.specs.Tree.{Tree}
 use Rattle.calculus.specs.Log.{Step}
@@ -8,7 +10,6 @@ use Rattle.calculus.specs.Steps.{Bag, stored_rows}
 use Rattle.calculus.specs.Runs.{Verdict, done, exhausted, faulted, verdict, next_rows}
 use Rattle.rho_term.specs.declared.op.Op.{Op}
 use Rattle.rho_term.specs.Rows.{row_of_op}
-use Rattle.events.specs.Orders.{Moved, empty}
 use Rattle.states.specs.States.{state_text}
 use Rattle.states.proofs.Computed.{state_examples}
 use Rattle.states.proofs.Groups.{root_ignores_order, text_ignores_order}
@@ -21,16 +22,16 @@ use Rattle.linear_runs.specs.Premises.{IsCalm}
 use Rattle.made_names.specs.Names.{names_in}
 use Rattle.made_names.proofs.Calm.{fresh_is_calm}
 use Rattle.made_names.proofs.Sources.{sources_have_no_names}
-use Rattle.linear_play.specs.Courses.{verdict_of}
-use Rattle.linear_play.specs.declared.played.Verdict.{Verdict as Ending}
+use Rattle.run_verdict.specs.View.{verdict_of}
+use Rattle.run_verdict.specs.declared.verdict.Verdict.{Verdict as Ending}
 use Rattle.rho_main.specs.Inputs.{empty_state}
 use Rattle.rho_main.specs.Runs.{the_prices, Left, IsLeftByRun, IsLeftBySource}
 
 -- the rows that a run leaves, in some order: none but where it is done
-left-rows : (v : Verdict) (rows : List Op) (b : Bag) → (v ≡ done → Moved (each row_of_op rows) (stored_rows b)) → (v ≢ done → rows ≡ []) → Moved (each row_of_op rows) (next_rows [] v b)
+left-rows : (v : Verdict) (rows : List Op) (b : Bag) → (v ≡ done → IsPermutation (each row_of_op rows) (stored_rows b)) → (v ≢ done → rows ≡ []) → IsPermutation (each row_of_op rows) (next_rows [] v b)
 left-rows done rows b m n = m refl
-left-rows exhausted rows b m n = let none : rows ≡ [] = n (λ e. cc) in subst (λ (rs : List Op). Moved (each row_of_op rs) []) (sym none) empty
-left-rows (faulted s k) rows b m n = let none : rows ≡ [] = n (λ e. cc) in subst (λ (rs : List Op). Moved (each row_of_op rs) []) (sym none) empty
+left-rows exhausted rows b m n = let none : rows ≡ [] = n (λ e. cc) in subst (λ (rs : List Op). IsPermutation (each row_of_op rs) []) (sym none) (unmoved [])
+left-rows (faulted s k) rows b m n = let none : rows ≡ [] = n (λ e. cc) in subst (λ (rs : List Op). IsPermutation (each row_of_op rs) []) (sym none) (unmoved [])
 
 -- what was played is what the run leaves, with the root and the text of its rows
 pub left_by_run : (limit : ℕ) (source : List ℕ) (t : Tree) (steps : List Step) (v : Ending) (charge : ℕ) (rows : List Op) (digest text : List ℕ) (count : ℕ)
@@ -38,8 +39,8 @@ pub left_by_run : (limit : ℕ) (source : List ℕ) (t : Tree) (steps : List Ste
     → digest ≡ root (each row_of_op rows) → text ≡ state_text (each row_of_op rows)
     → IsLeftByRun limit source t (record { steps = steps; next = text; report = record { verdict = v; cost = charge; root = digest; steps = count } })
 left_by_run limit source t steps v charge rows digest text count r n d x =
-    let moved : Moved (each row_of_op rows) (next_rows [] (verdict the_prices limit r.state) r.state.bag) =
-    subst (λ (w : Verdict). Moved (each row_of_op rows) (next_rows [] w r.state.bag)) (sym r.verdict_is) (left-rows (verdict_of v) rows r.state.bag r.left n) in
+    let moved : IsPermutation (each row_of_op rows) (next_rows [] (verdict the_prices limit r.state) r.state.bag) =
+    subst (λ (w : Verdict). IsPermutation (each row_of_op rows) (next_rows [] w r.state.bag)) (sym r.verdict_is) (left-rows (verdict_of v) rows r.state.bag r.left n) in
     record {
       state = r.state;
       run = r.run;

@@ -6,7 +6,7 @@ use Rattle.rho_main.specs.Report.{report_line}
 use Rattle.rho_main.specs.Runs.{Left, IsLeftBySource}
 use Rattle.rho_main.specs.Ends.{header_of}
 use Rattle.rho_main.specs.declared.deploy.Plan.{Plan}
-use Rattle.linear_play.specs.declared.played.Verdict.TheVariants.{Done}
+use Rattle.run_verdict.specs.declared.verdict.Verdict.TheVariants.{Done}
 
 -- the bytes of a log, a next state and a report that a run of this source under this limit left
 pub record IsPlan (limit : ℕ) (source : List ℕ) (p : Plan) : Type 0 where

@@ -20,7 +20,7 @@ use Rattle.rho_main.specs.declared.accept.ReplayInputs.{ReplayInputs}
 use Rattle.rho_main.specs.declared.replay.ReplayPlan.{ReplayPlan}
 use Rattle.rho_main.specs.declared.status.Status.{Status}
 use Rattle.rho_main.specs.declared.status.Status.TheVariants as status
-use Rattle.linear_play.specs.declared.played.Verdict.TheVariants.{Done}
+use Rattle.run_verdict.specs.declared.verdict.Verdict.TheVariants.{Done}
 
 -- what is given to the replay of these inputs
 abbrev pub given_of : ReplayInputs → Given

@@ -11,7 +11,7 @@ use Rattle.event_log.specs.declared.fault.LogFault.{LogFault}
 use Rattle.sources.specs.Sources.{IsSourceOf}
 use Rattle.events.specs.Events.{FreshDigests}
 use Rattle.linear_replays.specs.Replayed.{from_nothing}
-use Rattle.linear_play.specs.Courses.{verdict_of}
+use Rattle.run_verdict.specs.View.{verdict_of}
 use Rattle.log_replay.specs.Refusals.{refusal_of}
 use Rattle.log_replay.specs.declared.fault.ReplayFault.{ReplayFault}
 use Rattle.rho_outside.specs.FileMap.{FileMap, Lacks, GivesAtLeast}

@@ -4,8 +4,8 @@ use Rattle.serde_json.specs.Data.{Data, null, unsigned, number, string, object, 
 use Rattle.serde_json.specs.Written.{compact_text}
 use Rattle.hex.specs.Hex.{encode_lower}
 use Rattle.calculus.specs.Faults.{fault_name}
-use Rattle.linear_play.specs.declared.played.Verdict.{Verdict}
-use Rattle.linear_play.specs.declared.played.Verdict.TheVariants.{Done, Exhausted, Faulted}
+use Rattle.run_verdict.specs.declared.verdict.Verdict.{Verdict}
+use Rattle.run_verdict.specs.declared.verdict.Verdict.TheVariants.{Done, Exhausted, Faulted}
 use Rattle.rho_main.specs.declared.status.Status.{Status}
 use Rattle.rho_main.specs.declared.status.Status.TheVariants as status
 

@@ -5,11 +5,11 @@ use Rattle.calculus.specs.Tree.{Tree}
 use Rattle.calculus.specs.Outcome.{Prices}
 use Rattle.calculus.specs.Log.{Step}
 use Rattle.calculus.specs.Root.{root}
-use Rattle.calculus.specs.Runs.{State, IsRun, verdict, cost, next_rows}
+use Rattle.calculus.specs.Runs.{deploy_of, State, IsRun, verdict, cost, next_rows}
 use Rattle.states.specs.States.{state_text}
 use Rattle.sources.specs.Sources.{IsSourceOf}
 use Rattle.events.specs.Events.{FreshDigests}
-use Rattle.linear_play.specs.Courses.{verdict_of}
+use Rattle.run_verdict.specs.View.{verdict_of}
 use Rattle.rho_main.specs.Report.{Report}
 
 -- the prices of the one price text that is read so far
@@ -25,7 +25,7 @@ pub record Left : Type 0 where
 -- what is left is what a run of this process leaves: the steps are a run, the report says its verdict, its cost and the root of the rows that it leaves, and the next state is the text of these rows
 pub record IsLeftByRun (limit : ℕ) (source : List ℕ) (t : Tree) (left : Left) : Type 0 where
   pub state : State
-  pub run : IsRun the_prices limit [] t (sha256 source) left.steps state
+  pub run : IsRun (deploy_of the_prices limit [] t (sha256 source)) left.steps state
   pub verdict_is : verdict_of left.report.verdict ≡ verdict the_prices limit state
   pub cost_is : left.report.cost ≡ cost the_prices limit state
   pub root_is : left.report.root ≡ root (next_rows [] (verdict the_prices limit state) state.bag)

@@ -19,18 +19,15 @@ use crate::finish::{Halt, keep_both, put_bytes};
 use crate::report::report;
 use crate::status::Status;
 use crate::words::Command;
-use calculus::Digest;
 use event_log::{Log, LogHeader, write_log};
-use linear_play::{Played, Verdict, play};
-use name_seed::bytes_digest;
+use linear_play::{Played, play};
+use linear_rows::stored_rows;
+use name_seed::{EMPTY_ROOT, bytes_digest};
 use price_table::Prices;
 use rho_outside::{Shelf, Sink};
-use space_row::stored_rows;
+use run_verdict::Verdict;
 use state_writer::write_rows;
 use std::alloc::{AllocError, Global};
-
-/// The root of the empty state.
-const EMPTY_ROOT: Digest = Digest([0; 32]);
 
 /// All the bytes that a deploy writes, and how its run ended.
 #[derive(Drop)]

@@ -12,8 +12,8 @@ pub mod top;
 mod wording;
 pub mod words;
 
-pub use linear_play::Verdict;
 pub use price_table::Prices;
+pub use run_verdict::Verdict;
 pub use status::{Input, Status};
 pub use top::run;
 pub use words::{Command, Usage, Verb};

@@ -19,12 +19,12 @@ use crate::report::report;
 use crate::status::Status;
 use crate::words::Command;
 use event_log::MOST_STEPS;
-use linear_play::Verdict;
+use linear_rows::stored_rows;
 use log_replay::{ReplayFault, Replayed, replay as replay_log};
 use name_seed::bytes_digest;
 use price_table::Prices;
 use rho_outside::{Shelf, Sink};
-use space_row::stored_rows;
+use run_verdict::Verdict;
 use state_writer::write_rows;
 use std::alloc::{AllocError, Global};
 

@@ -6,7 +6,7 @@ ghost use Rattle.calculus.specs.Faults.{fault_name};
 ghost use Rattle.rho_main.specs.Report.{Report, plain_members, faulted_members, report_members, report_line, step_data};
 
 use calculus::{Digest, FaultKind};
-use linear_play::Verdict;
+use run_verdict::Verdict;
 use serde_json::{Value, json};
 use std::alloc::{AllocError, Global};
 

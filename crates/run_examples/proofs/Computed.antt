@@ -5,7 +5,7 @@ use Rattle.std.proofs.lemmas.List.Elements.{All-nil, All-cons}
 use Rattle.calculus.specs.Log.{Step}
 use Rattle.calculus.specs.Rows.{Row}
 use Rattle.calculus.specs.Steps.{differ, stored_rows}
-use Rattle.calculus.specs.Runs.{State, state_after, Leads, made_digests, IsRun}
+use Rattle.calculus.specs.Runs.{deploy_of, State, state_after, Leads, made_digests, IsRun}
 use Rattle.calculus.specs.Candidates.{has_ended}
 use Rattle.calculus.specs.Examples.{prices}
 use Rattle.calculus.specs.ExamplesRuns.{first_path_source, first_path_digest, first_path_step}
@@ -43,34 +43,34 @@ facts a = (differ (all_digests a), (differ (first_ids [] ++ made_digests a), som
 
 -- the digests differ, and nothing prints
 abbrev Calm : List Step → Type 0
-Calm ss = (a : State) → Leads prices 22 [] first_path_source first_path_digest ss a → facts a ≡ (true, (true, false))
+Calm ss = (a : State) → Leads (deploy_of prices 22 [] first_path_source first_path_digest) ss a → facts a ≡ (true, (true, false))
 
-before : option_map facts (state_after prices 22 9 [] first_path_source first_path_digest []) ≡ Some (true, (true, false))
+before : option_map facts (state_after (deploy_of prices 22 [] first_path_source first_path_digest) 9 []) ≡ Some (true, (true, false))
 unfolding hashing
 before = refl
 
-after : option_map facts (state_after prices 22 9 [] first_path_source first_path_digest (first_path_step ∷ [])) ≡ Some (true, (true, false))
+after : option_map facts (state_after (deploy_of prices 22 [] first_path_source first_path_digest) 9 (first_path_step ∷ [])) ≡ Some (true, (true, false))
 unfolding hashing
 after = refl
 
-ended : option_map (has_ended prices 22) (state_after prices 22 9 [] first_path_source first_path_digest (first_path_step ∷ [])) ≡ Some true
+ended : option_map (has_ended prices 22) (state_after (deploy_of prices 22 [] first_path_source first_path_digest) 9 (first_path_step ∷ [])) ≡ Some true
 unfolding hashing
 ended = refl
 
-run : (a : State) × IsRun prices 22 [] first_path_source first_path_digest (first_path_step ∷ []) a
+run : (a : State) × IsRun (deploy_of prices 22 [] first_path_source first_path_digest) (first_path_step ∷ []) a
 run =
-    let m = mapped (has_ended prices 22) (state_after prices 22 9 [] first_path_source first_path_digest (first_path_step ∷ [])) true ended in
+    let m = mapped (has_ended prices 22) (state_after (deploy_of prices 22 [] first_path_source first_path_digest) 9 (first_path_step ∷ [])) true ended in
     (m.0, record { leads = (9, m.1.0); ends = (end_is_decided prices 22 m.0).0 m.1.1 })
 
 calm : (first rest : List Step) → first_path_step ∷ [] ≡ first ++ rest → Calm first
 calm = on_the_way Calm first_path_step
-    (anyhow prices 22 9 [] first_path_source first_path_digest [] facts (true, (true, false)) before)
-    (anyhow prices 22 9 [] first_path_source first_path_digest (first_path_step ∷ []) facts (true, (true, false)) after)
+    (anyhow (deploy_of prices 22 [] first_path_source first_path_digest) 9 [] facts (true, (true, false)) before)
+    (anyhow (deploy_of prices 22 [] first_path_source first_path_digest) 9 (first_path_step ∷ []) facts (true, (true, false)) after)
 
 fresh : FreshDigests prices 22 first_path_source first_path_digest (first_path_step ∷ [])
 fresh first rest e a l = ap (λ x. x.0) (calm first rest e a l)
 
-are_fresh : AreFresh prices 22 [] first_path_source first_path_digest (first_path_step ∷ [])
+are_fresh : AreFresh (deploy_of prices 22 [] first_path_source first_path_digest) (first_path_step ∷ [])
 are_fresh first rest e a l = ap (λ x. x.1.0) (calm first rest e a l)
 
 silent : PrintsNothing prices 22 first_path_source first_path_digest (first_path_step ∷ [])

@@ -9,13 +9,11 @@ use Rattle.calculus.specs.Code.{code}
 use Rattle.calculus.specs.Form.{IsClosed}
 use Rattle.calculus.specs.Outcome.{Prices, gives, fails, free, within_limits, over, within, capped}
 use Rattle.calculus.specs.Substitution.{put}
-use Rattle.calculus.specs.Seeds.{digest_of, Start, Comm}
+use Rattle.calculus.specs.Seeds.{digest_of, Comm}
 use Rattle.calculus.specs.Log.{Step}
-use Rattle.calculus.specs.Rows.{Row}
-use Rattle.calculus.specs.Root.{root}
 use Rattle.calculus.specs.Unfolding.{unfold_within, unfold_in}
 use Rattle.calculus.specs.Steps.{Meeting, meeting}
-use Rattle.calculus.specs.Runs.{Work, State, Allowed, body_work, moved, step_from, steps_from, begun, first_state, Leads}
+use Rattle.calculus.specs.Runs.{source_seed, Deploy, Work, State, Allowed, body_work, moved, step_from, steps_from, begun, first_state, Leads}
 use Rattle.calculus.proofs.States.{room_keeps_work, room_keeps_state, one_state}
 use Rattle.replays.proofs.Answering.{is-none}
 use Rattle.unfolding_laws.proofs.Closed.{each_process_unfolds}
@@ -63,30 +61,30 @@ module _ (p : Prices) (most : ℕ) where
       go next None e = cc
       go next (Some y) e = next y e
 
-  -- the source leads to a state
-  pub source-leads : (rows : List Row) (t : Tree) (source : List ℕ) → IsClosed t → (a : State) × Leads p most rows t source [] a
-  source-leads rows t source is =
-      let w = each_process_unfolds p most t (digest_of (Start (root rows) source)) is in
-      (begun rows w.0, (w.1.0, ap (λ o. option_and_then (λ x. steps_from p most w.1.0 x []) (option_map (begun rows) o)) w.1.1))
+-- the source leads to a state
+pub source-leads : (deploy : Deploy) → IsClosed deploy.process → (a : State) × Leads deploy [] a
+source-leads deploy is =
+    let w = each_process_unfolds deploy.prices deploy.limit deploy.process (source_seed deploy) is in
+    (begun deploy.rows w.0, (w.1.0, ap (λ o. option_and_then (λ x. steps_from deploy.prices deploy.limit w.1.0 x []) (option_map (begun deploy.rows) o)) w.1.1))
 
-module _ (p : Prices) (most : ℕ) (rows : List Row) (t : Tree) (source : List ℕ) (closed : AreClosedRows rows) (is : IsClosed t) where
+module _ (deploy : Deploy) (closed : AreClosedRows deploy.rows) (is : IsClosed deploy.process) where
   -- an allowed step leads on
-  pub allowed-leads : (ss : List Step) (a : State) (s : Step) → Leads p most rows t source ss a → Allowed a s → (b : State) × Leads p most rows t source (ss ++ s ∷ []) b
+  pub allowed-leads : (ss : List Step) (a : State) (s : Step) → Leads deploy ss a → Allowed a s → (b : State) × Leads deploy (ss ++ s ∷ []) b
   allowed-leads ss a s h i =
-      let k = step-leads p most h.0 a s (λ m d. bodies_are_closed a.bag a.made s m (closed_rows_stay p most rows t source closed is ss a h) d) i in
-      let e = room_keeps_state p most h.0 k.0 rows t source ss a k.1 h.1 in
-      (k.2, (k.0, go k.0 k.2 k.3 (first_state p most k.0 rows t source) e))
+      let k = step-leads deploy.prices deploy.limit h.0 a s (λ m d. bodies_are_closed a.bag a.made s m (closed_rows_stay deploy closed is ss a h) d) i in
+      let e = room_keeps_state deploy h.0 k.0 ss a k.1 h.1 in
+      (k.2, (k.0, go k.0 k.2 k.3 (first_state deploy k.0) e))
     where
-      go : (r : ℕ) (b : State) → step_from p most r a s ≡ Some b → (o : Option State) → option_and_then (λ x. steps_from p most r x ss) o ≡ Some a → option_and_then (λ x. steps_from p most r x (ss ++ s ∷ [])) o ≡ Some b
+      go : (r : ℕ) (b : State) → step_from deploy.prices deploy.limit r a s ≡ Some b → (o : Option State) → option_and_then (λ x. steps_from deploy.prices deploy.limit r x ss) o ≡ Some a → option_and_then (λ x. steps_from deploy.prices deploy.limit r x (ss ++ s ∷ [])) o ≡ Some b
       go r b f None e = cc
-      go r b f (Some x) e = steps-append p most r x a b ss s e f
+      go r b f (Some x) e = steps-append deploy.prices deploy.limit r x a b ss s e f
 
 pub each_process_leads : EachProcessLeads
-each_process_leads p most rows t source is =
-    let k = source-leads p most rows t source is in
-    (k.0, k.1, λ b h. one_state p most rows t source [] k.0 b k.1 h)
+each_process_leads deploy is =
+    let k = source-leads deploy is in
+    (k.0, k.1, λ b h. one_state deploy [] k.0 b k.1 h)
 
 pub allowed_steps_lead : AllowedStepsLead
-allowed_steps_lead p most rows t source closed is ss a s h i =
-    let k = allowed-leads p most rows t source closed is ss a s h i in
-    (k.0, k.1, λ b l. one_state p most rows t source (ss ++ s ∷ []) k.0 b k.1 l)
+allowed_steps_lead deploy closed is ss a s h i =
+    let k = allowed-leads deploy closed is ss a s h i in
+    (k.0, k.1, λ b l. one_state deploy (ss ++ s ∷ []) k.0 b k.1 l)

@@ -2,14 +2,13 @@
 use Rattle.std.proofs.Common.{◌≡◌, ℕ, Bool, true, false, cond, List, [], ◌∷◌, refl, sym, ◌∙◌, subst, inl, inr}
 use Rattle.std.specs.Prelude.{◌⊎◌, Option, Some, None, IsSome}
 use Rattle.std.specs.Str.{bytes_eq}
+use Rattle.list_laws.proofs.Members.{Member}
 use Rattle.calculus.specs.Order.{up_to}
 use Rattle.calculus.specs.Log.{Step}
-use Rattle.calculus.specs.Steps.{Meeting, meeting}
-use Rattle.calculus.specs.Runs.{State}
-use Rattle.calculus.specs.Candidates.{candidates}
+use Rattle.calculus.specs.Steps.{Bag, Meeting, meeting}
+use Rattle.calculus.specs.Candidates.{ids_up_to, IsLeastAllowed, candidates}
 use Rattle.calculus.proofs.Ordered.{up_to_total, up_to_both, up_to_trans}
-use Rattle.calculus.proofs.Candidates.{Member, allowed-among}
-use Rattle.replays.specs.Replays.{ids_up_to, IsLeastAllowed}
+use Rattle.calculus.proofs.Candidates.{allowed-among}
 use Rattle.replays.proofs.Answering.{same, equal, is-none}
 
 -- equal ones first
@@ -57,10 +56,10 @@ ids-trans (x ∷ xs) (y ∷ ys) (z ∷ zs) e f = go (bytes_eq x y) refl (bytes_e
     go false d true k e f next = subst (λ w. ids_up_to (x ∷ xs) (w ∷ zs) ≡ true) (same y z k) (by-less x y (ids_up_to xs zs) d e)
     go false d false k e f next = strict e f d (bytes_eq x z) refl
 
-module _ (a : State) where
+module _ (b : Bag) (made : List Step) where
   -- a step that is allowed
   abbrev IsAllowed : Step → Type 0
-  IsAllowed s = IsSome (meeting a.bag a.made s)
+  IsAllowed s = IsSome (meeting b made s)
 
   -- the ids that a step names, the receiver first
   abbrev ids : Step → List (List ℕ)
@@ -72,14 +71,14 @@ module _ (a : State) where
 
   least-of : (ss : List Step) → HasLeast ss
   least-of [] = inl (λ u m i. m)
-  least-of (c ∷ cs) = go (meeting a.bag a.made c) refl (least-of cs)
+  least-of (c ∷ cs) = go (meeting b made c) refl (least-of cs)
     where
-      nowhere : meeting a.bag a.made c ≡ None → ((u : Step) → Member u cs → IsAllowed u → ⊥) → (u : Step) → Member u (c ∷ cs) → IsAllowed u → ⊥
-      nowhere e n u (inl d) i = is-none (meeting a.bag a.made c) (subst IsAllowed d i) e
+      nowhere : meeting b made c ≡ None → ((u : Step) → Member u cs → IsAllowed u → ⊥) → (u : Step) → Member u (c ∷ cs) → IsAllowed u → ⊥
+      nowhere e n u (inl d) i = is-none (meeting b made c) (subst IsAllowed d i) e
       nowhere e n u (inr m) i = n u m i
 
-      others : meeting a.bag a.made c ≡ None → (s : Step) → ((u : Step) → Member u cs → IsAllowed u → ids_up_to (ids s) (ids u) ≡ true) → (u : Step) → Member u (c ∷ cs) → IsAllowed u → ids_up_to (ids s) (ids u) ≡ true
-      others e s n u (inl d) i = absurd (is-none (meeting a.bag a.made c) (subst IsAllowed d i) e)
+      others : meeting b made c ≡ None → (s : Step) → ((u : Step) → Member u cs → IsAllowed u → ids_up_to (ids s) (ids u) ≡ true) → (u : Step) → Member u (c ∷ cs) → IsAllowed u → ids_up_to (ids s) (ids u) ≡ true
+      others e s n u (inl d) i = absurd (is-none (meeting b made c) (subst IsAllowed d i) e)
       others e s n u (inr m) i = n u m i
 
       alone : ((u : Step) → Member u cs → IsAllowed u → ⊥) → (u : Step) → Member u (c ∷ cs) → IsAllowed u → ids_up_to (ids c) (ids u) ≡ true
@@ -94,28 +93,28 @@ module _ (a : State) where
       later s e n u (inl d) i = subst (λ w. ids_up_to (ids s) (ids w) ≡ true) (sym d) e
       later s e n u (inr m) i = n u m i
 
-      chosen : IsAllowed c → (s : Step) → IsAllowed s → ((u : Step) → Member u cs → IsAllowed u → ids_up_to (ids s) (ids u) ≡ true) → (b : Bool) → ids_up_to (ids c) (ids s) ≡ b → HasLeast (c ∷ cs)
+      chosen : IsAllowed c → (s : Step) → IsAllowed s → ((u : Step) → Member u cs → IsAllowed u → ids_up_to (ids s) (ids u) ≡ true) → (x : Bool) → ids_up_to (ids c) (ids s) ≡ x → HasLeast (c ∷ cs)
       chosen i s j n true e = inr (c, i, first s e n)
       chosen i s j n false e = inr (s, j, later s (ids-total (ids c) (ids s) e) n)
 
-      go : (o : Option Meeting) → meeting a.bag a.made c ≡ o → HasLeast cs → HasLeast (c ∷ cs)
+      go : (o : Option Meeting) → meeting b made c ≡ o → HasLeast cs → HasLeast (c ∷ cs)
       go None e (inl n) = inl (nowhere e n)
       go None e (inr k) = inr (k.0, k.1, others e k.0 k.2)
       go (Some m) e (inl n) = inr (c, subst (λ o. IsSome o) (sym e) refl, alone n)
       go (Some m) e (inr k) = chosen (subst (λ o. IsSome o) (sym e) refl) k.0 k.1 k.2 (ids_up_to (ids c) (ids k.0)) refl
 
-  among : (u : Step) → IsAllowed u → (o : Option Meeting) → meeting a.bag a.made u ≡ o → Member u (candidates a.bag a.made)
-  among u i None e = absurd (is-none (meeting a.bag a.made u) i e)
-  among u i (Some m) e = allowed-among a.bag a.made u m e
+  among : (u : Step) → IsAllowed u → (o : Option Meeting) → meeting b made u ≡ o → Member u (candidates b made)
+  among u i None e = absurd (is-none (meeting b made u) i e)
+  among u i (Some m) e = allowed-among b made u m e
 
   -- no step is allowed, or one is the least that is
-  pub none-or-least : ((s : Step) → meeting a.bag a.made s ≡ None) ⊎ ((s : Step) × IsLeastAllowed a s)
-  none-or-least = go (least-of (candidates a.bag a.made))
+  pub none-or-least : ((s : Step) → meeting b made s ≡ None) ⊎ ((s : Step) × IsLeastAllowed b made s)
+  none-or-least = go (least-of (candidates b made))
     where
-      is-none : (s : Step) → (IsAllowed s → ⊥) → (o : Option Meeting) → meeting a.bag a.made s ≡ o → meeting a.bag a.made s ≡ None
+      is-none : (s : Step) → (IsAllowed s → ⊥) → (o : Option Meeting) → meeting b made s ≡ o → meeting b made s ≡ None
       is-none s n None e = e
       is-none s n (Some m) e = absurd (n (subst (λ o. IsSome o) (sym e) refl))
 
-      go : HasLeast (candidates a.bag a.made) → ((s : Step) → meeting a.bag a.made s ≡ None) ⊎ ((s : Step) × IsLeastAllowed a s)
-      go (inl n) = inl (λ s. is-none s (λ i. n s (among s i (meeting a.bag a.made s) refl) i) (meeting a.bag a.made s) refl)
-      go (inr k) = inr (k.0, record { allowed = k.1; least = λ u i. k.2 u (among u i (meeting a.bag a.made u) refl) i })
+      go : HasLeast (candidates b made) → ((s : Step) → meeting b made s ≡ None) ⊎ ((s : Step) × IsLeastAllowed b made s)
+      go (inl n) = inl (λ s. is-none s (λ i. n s (among s i (meeting b made s) refl) i) (meeting b made s) refl)
+      go (inr k) = inr (k.0, record { allowed = k.1; least = λ u i. k.2 u (among u i (meeting b made u) refl) i })

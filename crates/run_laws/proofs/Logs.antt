@@ -5,21 +5,19 @@ use Rattle.calculus.specs.Form.{IsClosed}
 use Rattle.calculus.specs.Log.{Step, Header}
 use Rattle.calculus.specs.Steps.{meeting}
 use Rattle.calculus.specs.Runs.{State, Verdict, done, exhausted, faulted, verdict, Leads, IsEnd}
-use Rattle.replays.specs.Replays.{Given, Refusal, no_run, reducible, Answer, refused, replayed, header_refusal, IsLeastAllowed, outcome_of, Answers, by_header, by_step, by_rest, by_end}
-use Rattle.replays.proofs.Prefixes.{prints-there}
+use Rattle.replays.specs.Replays.{deploy_under, Given, Refusal, no_run, reducible, Answer, refused, replayed, header_refusal, outcome_of, Answers, by_header, by_step, by_rest, by_end}
 use Rattle.replays.proofs.Answering.{one_answer}
 use Rattle.closed_row_laws.specs.Laws.{AreClosedRows}
 use Rattle.run_laws.specs.Laws.{EachLogIsAnswered}
 use Rattle.run_laws.proofs.Leasts.{none-or-least}
 use Rattle.run_laws.proofs.Lists.{LeadsOrStops, ends}
+use Rattle.calculus.specs.Candidates.{IsLeastAllowed}
 
 module _ (g : Given) (h : Header) (ss : List Step) (closed : AreClosedRows g.rows) (is : IsClosed g.process) where
-  at-end : (a : State) → header_refusal g h ≡ None → Leads g.prices h.limit g.rows g.process g.source ss a → IsEnd g.prices h.limit a → (x : Answer) × Answers g h ss x
-  at-end a e l d =
-      let out = prints-there g.prices h.limit g.rows g.process g.source ss a l in
-      (replayed (outcome_of g h.limit a out.0), by_end e l d out.1)
+  at-end : (a : State) → header_refusal g h ≡ None → Leads (deploy_under h.limit g) ss a → IsEnd g.prices h.limit a → (x : Answer) × Answers g h ss x
+  at-end a e l d = (replayed (outcome_of (deploy_under h.limit g) a), by_end e l d)
 
-  at-state : (a : State) → header_refusal g h ≡ None → Leads g.prices h.limit g.rows g.process g.source ss a → (v : Verdict) → verdict g.prices h.limit a ≡ v → (x : Answer) × Answers g h ss x
+  at-state : (a : State) → header_refusal g h ≡ None → Leads (deploy_under h.limit g) ss a → (v : Verdict) → verdict g.prices h.limit a ≡ v → (x : Answer) × Answers g h ss x
   at-state a e l exhausted d = at-end a e l (λ f s. absurd (other (sym d ∙ f)))
     where
       other : exhausted ≡ done → ⊥
@@ -28,17 +26,17 @@ module _ (g : Given) (h : Header) (ss : List Step) (closed : AreClosedRows g.row
     where
       other : faulted i k ≡ done → ⊥
       other q = cc
-  at-state a e l done d = go (none-or-least a)
+  at-state a e l done d = go (none-or-least a.bag a.made)
     where
-      go : ((s : Step) → meeting a.bag a.made s ≡ None) ⊎ ((s : Step) × IsLeastAllowed a s) → (x : Answer) × Answers g h ss x
+      go : ((s : Step) → meeting a.bag a.made s ≡ None) ⊎ ((s : Step) × IsLeastAllowed a.bag a.made s) → (x : Answer) × Answers g h ss x
       go (inl n) = at-end a e l (λ f s. n s)
       go (inr k) = (refused (reducible k.0.receiver k.0.data_ids), by_rest e l d k.1)
 
   answered : (o : Option Refusal) → header_refusal g h ≡ o → (x : Answer) × Answers g h ss x
   answered (Some r) e = (refused r, by_header e)
-  answered None e = go (ends g.prices h.limit g.rows g.process g.source closed is ss)
+  answered None e = go (ends (deploy_under h.limit g) closed is ss)
     where
-      go : LeadsOrStops g.prices h.limit g.rows g.process g.source closed is ss → (x : Answer) × Answers g h ss x
+      go : LeadsOrStops (deploy_under h.limit g) closed is ss → (x : Answer) × Answers g h ss x
       go (inl k) = at-state k.0 e k.1 (verdict g.prices h.limit k.0) refl
       go (inr k) = (refused (no_run k.0), by_step e k.1)
 

@@ -1,13 +1,14 @@
 -- Examples of lists of steps that are allowed in turn, and of some that are not.
 use Rattle.std.specs.Prelude.{List, [], ◌∷◌}
 use Rattle.calculus.specs.Log.{Step}
+use Rattle.calculus.specs.Runs.{deploy_of}
 use Rattle.calculus.specs.Examples.{nil}
 use Rattle.replays.specs.Examples.{prices, source, printed_datum, printing_step}
 use Rattle.run_laws.specs.Laws.{AreAllowedInTurn}
 
 -- steps that are allowed in turn where the checkpoint has the one datum 5 on the name behind `rho:io:stdout`
 abbrev pub AreAllowed : List Step → Type 0
-AreAllowed ss = AreAllowedInTurn prices 9 (printed_datum ∷ []) nil source ss
+AreAllowed ss = AreAllowedInTurn (deploy_of prices 9 (printed_datum ∷ []) nil source) ss
 
 -- steps that are allowed in turn, and steps that are not
 pub record TurnExamples : Type 0 where

@@ -7,6 +7,7 @@ use event_log::{Log, LogHeader, LogStep, MOST_STEPS};
 use linear_play::{Played, play};
 use linear_unfold::is_linear;
 use log_replay::{ReplayFault, replay};
+use name_seed::EMPTY_ROOT;
 use price_table::{Prices, most_limit};
 use rho_term::Term;
 use std::alloc::Global;
@@ -35,7 +36,7 @@ pub fn play_of(alloc: Global, fields: &str) -> Result<String, LineFault> {
     } = play(alloc, &term, &SOURCE, &prices, limit)?;
     let (made, left) = (steps.len(), rows.len());
     let header = LogHeader {
-        base: Digest([0; 32]),
+        base: EMPTY_ROOT,
         source: SOURCE,
         prices: prices.digest(),
         limit,

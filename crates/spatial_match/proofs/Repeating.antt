@@ -15,7 +15,7 @@ use Rattle.rho_term.specs.Parts.{part_tree, pair_tree, term_tree}
 use Rattle.rho_term.specs.declared.term.Part.{Part}
 use Rattle.term_order.specs.Orders.{ComparesAs, OrdersCodes}
 use Rattle.term_order.proofs.FromScopes.{suits}
-use Rattle.normal_terms.proofs.OneTerm.{normal_codes_are_one}
+use Rattle.term_order.proofs.OneTerm.{normal_codes_are_one}
 use Rattle.spatial_match.specs.Given.{Ready}
 use Rattle.spatial_match.specs.Search.{Repeats, has}
 use Rattle.spatial_match.proofs.Alike.{is-equal}

@@ -1,62 +1,45 @@
 -- Rows in another order have the same groups, root and text.
-use Rattle.std.proofs.Common.{◌≡◌, ℕ, zero, suc, ◌<◌, List, [], ◌∷◌, ◌++◌, length, map as each, get_or, set, refl, ap, sym, ◌∙◌, subst, arith}
-use Rattle.std.specs.Prelude.{codes}
-use Rattle.std.specs.List.{swap}
-use Rattle.std.specs.List.Sorted.{IsPermutation}
-use Rattle.std.proofs.lemmas.List.Sorted.{IsPermutation-keeps}
+use Rattle.std.proofs.Common.{◌≡◌, ℕ, List, [], ◌∷◌, ◌++◌, length, map as each, refl, ap, sym, ◌∙◌, subst}
+use Rattle.std.specs.Prelude.{codes, IsPermutation}
+use Rattle.list_laws.specs.Exchanges.{Exchanges, nothing, under, neighbours, then}
+use Rattle.list_laws.proofs.Permutations.{each-moved, exchanges}
 use Rattle.sha2.proofs.Facts256.{length-sha256}
 use Rattle.calculus.specs.Bytes.{be64, joined}
 use Rattle.calculus.specs.Order.{sorted, IsAscending}
 use Rattle.calculus.specs.Rows.{Row, row_code}
 use Rattle.calculus.specs.Root.{Group, key, groups, with_row, digest_in, root}
-use Rattle.events.specs.Orders.{Moved, empty, keep, exchange, join}
-use Rattle.events.proofs.Orders.{unmoved}
 use Rattle.states.specs.States.{state_text}
-use Rattle.states.proofs.Groups.{Alike, none, both, row-alike, rows-alike, digest-alike, each-moved, sorted-moved, length-moved}
+use Rattle.states.proofs.Groups.{Alike, none, both, row-alike, rows-alike, digest-alike, sorted-moved, length-moved}
 use Rattle.state_writer.specs.declared.rows.StoredRow.{StoredRow}
 use Rattle.state_writer.specs.Stored.{stored, keyed, AreStored, codes_of, HaveKeys, AreInOrder, keyed_groups, shortened, rows_digest, text_with}
 use Rattle.state_writer.proofs.Digests.{sorted-ascending, length-each}
-
-put-moved : {A : Type 0} (x d : A) (xs : List A) (j : ℕ) → j < length xs → Moved (x ∷ xs) (get_or xs j d ∷ set xs j x)
-put-moved x d [] j h = absurd (omega arith)
-put-moved x d (y ∷ ys) zero h = exchange x y ys
-put-moved x d (y ∷ ys) (suc j) h = join (exchange x y ys) (join (keep y (put-moved x d ys j (omega arith))) (exchange y (get_or ys j d) (set ys j x)))
-
-swap-moved : {A : Type 0} (d : A) (xs : List A) (i j : ℕ) → i < length xs → j < length xs → Moved xs (set (set xs i (get_or xs j d)) j (get_or xs i d))
-swap-moved d [] i j h k = absurd (omega arith)
-swap-moved d (x ∷ xs) zero zero h k = unmoved (x ∷ xs)
-swap-moved d (x ∷ xs) zero (suc j) h k = put-moved x d xs j (omega arith)
-swap-moved d (x ∷ xs) (suc i) zero h k = put-moved x d xs i (omega arith)
-swap-moved d (x ∷ xs) (suc i) (suc j) h k = keep x (swap-moved d xs i j (omega arith) (omega arith))
-
-one-swap : {A : Type 0} (xs : List A) (i j : ℕ) → i < length xs → j < length xs → Moved xs (swap xs i j)
-one-swap [] i j h k = empty
-one-swap (x ∷ xs) i j h k = swap-moved x (x ∷ xs) i j h k
-
--- a permutation exchanges members
-pub permuted : {A : Type 0} (xs ys : List A) → IsPermutation xs ys → Moved xs ys
-permuted xs ys p = IsPermutation-keeps xs (λ l. Moved xs l) (unmoved xs) (λ l i j h k m. join m (one-swap l i j h k)) ys p
 
 groups-of-rows : (rs : List Row) → keyed_groups (each keyed rs) ≡ groups rs
 groups-of-rows [] = refl
 groups-of-rows (r ∷ rs) = ap (with_row (key r) (row_code r)) (groups-of-rows rs)
 
-keyed-alike : {ps qs : List (List ℕ × List ℕ)} → Moved ps qs → Alike (keyed_groups ps) (keyed_groups qs)
-keyed-alike empty = none
-keyed-alike (keep p m) = row-alike p.0 p.1 (keyed-alike m)
-keyed-alike (exchange p q zs) = rows-alike p.0 p.1 q.0 q.1 (keyed_groups zs)
-keyed-alike (join m n) = both (keyed-alike m) (keyed-alike n)
+keyed-alike : {ps qs : List (List ℕ × List ℕ)} → IsPermutation ps qs → Alike (keyed_groups ps) (keyed_groups qs)
+keyed-alike m = go (exchanges m)
+  where
+    go : {ps qs : List (List ℕ × List ℕ)} → Exchanges ps qs → Alike (keyed_groups ps) (keyed_groups qs)
+    go nothing = none
+    go (under p e) = row-alike p.0 p.1 (go e)
+    go (neighbours p q zs) = rows-alike p.0 p.1 q.0 q.1 (keyed_groups zs)
+    go (then e f) = both (go e) (go f)
 
 have-keys : (rs : List Row) → HaveKeys (each keyed rs)
 unfolding key
 have-keys [] = tt
 have-keys (r ∷ rs) = (length-sha256 _, have-keys rs)
 
-keys-moved : {ps qs : List (List ℕ × List ℕ)} → Moved ps qs → HaveKeys ps → HaveKeys qs
-keys-moved empty h = h
-keys-moved (keep p m) h = (h.0, keys-moved m h.1)
-keys-moved (exchange p q zs) h = (h.1.0, (h.0, h.1.1))
-keys-moved (join m n) h = keys-moved n (keys-moved m h)
+keys-moved : {ps qs : List (List ℕ × List ℕ)} → IsPermutation ps qs → HaveKeys ps → HaveKeys qs
+keys-moved m = go (exchanges m)
+  where
+    go : {ps qs : List (List ℕ × List ℕ)} → Exchanges ps qs → HaveKeys ps → HaveKeys qs
+    go nothing h = h
+    go (under p e) h = (h.0, go e h.1)
+    go (neighbours p q zs) h = (h.1.0, (h.0, h.1.1))
+    go (then e f) h = go f (go e h)
 
 short-none : (gs : List Group) → shortened 0 gs ≡ gs
 short-none [] = refl
@@ -67,16 +50,16 @@ codes-of-rows [] = refl
 codes-of-rows (r ∷ rs) = ap (λ cs. row_code r ∷ cs) (codes-of-rows rs)
 
 -- rows of this order have keys of 32 bytes
-pub keys-of-rows : (rs : List Row) (ps : List (List ℕ × List ℕ)) → Moved (each keyed rs) ps → HaveKeys ps
+pub keys-of-rows : (rs : List Row) (ps : List (List ℕ × List ℕ)) → IsPermutation (each keyed rs) ps → HaveKeys ps
 keys-of-rows rs ps m = keys-moved m (have-keys rs)
 
-pub root-of-rows : (rs : List Row) (ps : List (List ℕ × List ℕ)) → Moved (each keyed rs) ps → rows_digest 64 ps ≡ root rs
+pub root-of-rows : (rs : List Row) (ps : List (List ℕ × List ℕ)) → IsPermutation (each keyed rs) ps → rows_digest 64 ps ≡ root rs
 unfolding rows_digest root
 root-of-rows rs ps m =
     ap (digest_in 64) (short-none (keyed_groups ps)) ∙ sym (digest-alike 64 (keyed_groups (each keyed rs)) (keyed_groups ps) (keyed-alike m))
     ∙ ap (digest_in 64) (groups-of-rows rs)
 
-pub text-of-rows : (rs : List Row) (ps : List (List ℕ × List ℕ)) → Moved (each keyed rs) ps → IsAscending (codes_of ps)
+pub text-of-rows : (rs : List Row) (ps : List (List ℕ × List ℕ)) → IsPermutation (each keyed rs) ps → IsAscending (codes_of ps)
     → text_with (root rs) (codes_of ps) ≡ state_text rs
 text-of-rows rs ps m up =
     let number : length (codes_of ps) ≡ length rs = length-each (λ p. p.1) ps ∙ sym (length-moved m) ∙ length-each keyed rs in
@@ -94,7 +77,7 @@ pub written : (rs : List Row) (given ordered : List StoredRow) (made text : List
     → text ≡ text_with made (each (λ s. s.code.items) ordered) → (made ≡ root rs) × (text ≡ state_text rs)
 written rs given ordered made text are p up by is =
     let ps : List (List ℕ × List ℕ) = each stored ordered in
-    let m : Moved (each keyed rs) ps = subst (λ qs. Moved qs ps) are (each-moved stored (permuted given ordered p)) in
+    let m : IsPermutation (each keyed rs) ps = subst (λ qs. IsPermutation qs ps) are (each-moved stored p) in
     let ascend : IsAscending (codes_of ps) = subst IsAscending (sym (codes-stored ordered)) up in
     let first : made ≡ root rs = by (keys-of-rows rs ps m, ascend) ∙ root-of-rows rs ps m in
     (first, is ∙ ap (λ d. text_with d (each (λ s. s.code.items) ordered)) first ∙ ap (text_with (root rs)) (sym (codes-stored ordered)) ∙ text-of-rows rs ps m ascend)

@@ -1,16 +1,16 @@
 -- Groups of rows in another order, and their digest.
 use Rattle.std.proofs.Common.{◌≡◌, ℕ, zero, suc, Bool, true, false, cond, List, [], ◌∷◌, ◌++◌, length, map as each, refl, ap, sym, ◌∙◌, subst, arith}
-use Rattle.std.specs.Prelude.{eqb}
+use Rattle.std.specs.Prelude.{eqb, IsPermutation}
 use Rattle.std.specs.Str.{bytes_eq}
 use Rattle.std.proofs.lemmas.Slice.Eq.{bytes_eq-Decides}
+use Rattle.list_laws.specs.Exchanges.{Exchanges, nothing, under as beneath, neighbours, then}
+use Rattle.list_laws.proofs.Permutations.{each-moved, exchange, exchanges, keep, unmoved}
 use Rattle.sha2.specs.Sha256.{sha256}
 use Rattle.calculus.specs.Bytes.{be32, joined}
 use Rattle.calculus.specs.Order.{placed, sorted}
 use Rattle.calculus.specs.Rows.{Row, row_code}
 use Rattle.calculus.specs.Root.{Group, halves, with_row, groups, key, leaf_digest, under_way, under, sixteen, digest_in, root}
 use Rattle.calculus.proofs.Ordered.{placed-placed}
-use Rattle.events.specs.Orders.{Moved, empty, keep, exchange, join}
-use Rattle.events.proofs.Orders.{unmoved}
 use Rattle.states.specs.Laws.{RootIgnoresOrder, TextIgnoresOrder}
 
 pub same : (x y : List ℕ) → bytes_eq x y ≡ true → x ≡ y
@@ -22,7 +22,7 @@ equal x y e = (bytes_eq-Decides x y).1 e
 -- groups in another order, no two neighbours that are exchanged having one key, and the rows of each in another order
 pub data Alike : List Group → List Group → Type 0 where
   none : Alike [] []
-  one : {gs hs : List Group} (k w : List ℕ) {xs ys : List (List ℕ)} → Moved xs ys → Alike gs hs → Alike (record { key = k; way = w; rows = xs } ∷ gs) (record { key = k; way = w; rows = ys } ∷ hs)
+  one : {gs hs : List Group} (k w : List ℕ) {xs ys : List (List ℕ)} → IsPermutation xs ys → Alike gs hs → Alike (record { key = k; way = w; rows = xs } ∷ gs) (record { key = k; way = w; rows = ys } ∷ hs)
   two : (g h : Group) (gs : List Group) → bytes_eq g.key h.key ≡ false → Alike (g ∷ h ∷ gs) (h ∷ g ∷ gs)
   both : {fs gs hs : List Group} → Alike fs gs → Alike gs hs → Alike fs hs
 
@@ -94,25 +94,34 @@ rows-alike k c l d (g ∷ gs) = go (rows-alike k c l d gs) (bytes_eq l g.key) re
         (one g.key g.way (unmoved g.rows) h))
 
 -- the groups of rows in another order
-pub groups-alike : {rs qs : List Row} → Moved rs qs → Alike (groups rs) (groups qs)
-groups-alike empty = none
-groups-alike (keep r m) = row-alike (key r) (row_code r) (groups-alike m)
-groups-alike (exchange r q zs) = rows-alike (key r) (row_code r) (key q) (row_code q) (groups zs)
-groups-alike (join m n) = both (groups-alike m) (groups-alike n)
+pub groups-alike : {rs qs : List Row} → IsPermutation rs qs → Alike (groups rs) (groups qs)
+groups-alike p = go (exchanges p)
+  where
+    go : {rs qs : List Row} → Exchanges rs qs → Alike (groups rs) (groups qs)
+    go nothing = none
+    go (beneath r e) = row-alike (key r) (row_code r) (go e)
+    go (neighbours r q zs) = rows-alike (key r) (row_code r) (key q) (row_code q) (groups zs)
+    go (then e f) = both (go e) (go f)
+
+sorted-exchanged : {xs ys : List (List ℕ)} → Exchanges xs ys → sorted xs ≡ sorted ys
+unfolding sorted
+sorted-exchanged nothing = refl
+sorted-exchanged (beneath x e) = ap (placed x) (sorted-exchanged e)
+sorted-exchanged (neighbours x y zs) = placed-placed x y (sorted zs)
+sorted-exchanged (then e f) = sorted-exchanged e ∙ sorted-exchanged f
 
 -- codes in another order are sorted into one list
-pub sorted-moved : {xs ys : List (List ℕ)} → Moved xs ys → sorted xs ≡ sorted ys
-unfolding sorted
-sorted-moved empty = refl
-sorted-moved (keep x m) = ap (placed x) (sorted-moved m)
-sorted-moved (exchange x y zs) = placed-placed x y (sorted zs)
-sorted-moved (join m n) = sorted-moved m ∙ sorted-moved n
+pub sorted-moved : {xs ys : List (List ℕ)} → IsPermutation xs ys → sorted xs ≡ sorted ys
+sorted-moved p = sorted-exchanged (exchanges p)
 
-pub length-moved : {A : Type 0} {xs ys : List A} → Moved xs ys → length xs ≡ length ys
-length-moved empty = refl
-length-moved (keep x m) = ap suc (length-moved m)
-length-moved (exchange x y zs) = refl
-length-moved (join m n) = length-moved m ∙ length-moved n
+pub length-moved : {A : Type 0} {xs ys : List A} → IsPermutation xs ys → length xs ≡ length ys
+length-moved {A} p = go (exchanges p)
+  where
+    go : {xs ys : List A} → Exchanges xs ys → length xs ≡ length ys
+    go nothing = refl
+    go (beneath x e) = ap suc (go e)
+    go (neighbours x y zs) = refl
+    go (then e f) = go e ∙ go f
 
 length-alike : {gs hs : List Group} → Alike gs hs → length gs ≡ length hs
 length-alike none = refl
@@ -153,7 +162,7 @@ leaf_of _ = []
 nothing-longer : (hs : List Group) (g : Group) → 0 ≡ length (g ∷ hs) → ⊥
 nothing-longer hs g e = omega (arith, e)
 
-one-leaf : (gs hs : List Group) (k w : List ℕ) (xs ys : List (List ℕ)) → Moved xs ys → length gs ≡ length hs → leaf_of (record { key = k; way = w; rows = xs } ∷ gs) ≡ leaf_of (record { key = k; way = w; rows = ys } ∷ hs)
+one-leaf : (gs hs : List Group) (k w : List ℕ) (xs ys : List (List ℕ)) → IsPermutation xs ys → length gs ≡ length hs → leaf_of (record { key = k; way = w; rows = xs } ∷ gs) ≡ leaf_of (record { key = k; way = w; rows = ys } ∷ hs)
 unfolding leaf_of
 one-leaf [] [] k w xs ys m e = ap (λ l. sha256 (0x10 ∷ (k ++ (be32 (length xs) ++ joined l)))) (sorted-moved m) ∙ ap (λ n. sha256 (0x10 ∷ (k ++ (be32 n ++ joined (sorted ys))))) (length-moved m)
 one-leaf [] (h ∷ hs) k w xs ys m e = absurd (nothing-longer hs h e)
@@ -199,12 +208,6 @@ digest-alike (suc n) (g ∷ f ∷ gs) (h ∷ k ∷ hs) a =
 pub root_ignores_order : RootIgnoresOrder
 unfolding root
 root_ignores_order rows others m = digest-alike 64 (groups rows) (groups others) (groups-alike m)
-
-pub each-moved : {A B : Type 0} (f : A → B) {xs ys : List A} → Moved xs ys → Moved (each f xs) (each f ys)
-each-moved f empty = empty
-each-moved f (keep x m) = keep (f x) (each-moved f m)
-each-moved f (exchange x y zs) = exchange (f x) (f y) (each f zs)
-each-moved f (join m n) = join (each-moved f m) (each-moved f n)
 
 pub text_ignores_order : TextIgnoresOrder
 text_ignores_order rows others m =

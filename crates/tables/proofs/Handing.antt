@@ -1,12 +1,16 @@
--- What stands in a closed short receive or `match` is as a match wants it.
-use Rattle.std.proofs.Common.{◌≡◌, ◌<◌, List, ◌∷◌, [], length, get_or, map as each, sym, subst, arith}
+-- What stands in a closed short receive or `match` is as a match wants it, and a closed receive's body under closed values is closed.
+use Rattle.std.proofs.Common.{◌≡◌, ◌<◌, List, ◌∷◌, [], length, get_or, map as each, sym, subst, arith, All}
+use Rattle.std.proofs.lemmas.List.Elements.{All-head, All-tail}
 use Rattle.std.specs.declared.alloc.Global.{Global}
 use Rattle.std.specs.declared.vec.Vec.{Vec}
+use Rattle.list_laws.proofs.Members.{Every}
 use Rattle.calculus.specs.declared.plain.Kind.{Kind}
 use Rattle.calculus.specs.Tree.{Tree, trees, row, receive, match, case, none, also}
 use Rattle.calculus.specs.Shape.{only, many}
-use Rattle.calculus.specs.Form.{a_bind, a_case, pat, term}
+use Rattle.calculus.specs.Form.{a_bind, a_case, pat, term, IsClosed}
+use Rattle.calculus.specs.Substitution.{put}
 use Rattle.calculus.proofs.Formed.{length-code}
+use Rattle.closed_row_laws.proofs.Closing.{put-closed}
 use Rattle.rho_term.specs.Parts.{part_tree, bind_tree, case_tree}
 use Rattle.rho_term.specs.declared.term.Part.{Part}
 use Rattle.rho_term.specs.declared.term.Part.TheVariants as part
@@ -44,3 +48,12 @@ first-bind bs b l e h = subst (λ (x : TermBind). Ready a_bind (bind_tree x)) (s
 
 pub first-case : (cs : List TermCase) (k : TermCase) → 0 < length cs → k ≡ get_or cs 0 k → AllReady a_case (each case_tree cs) → Ready a_case (case_tree k)
 first-case cs k l e h = subst (λ (x : TermCase). Ready a_case (case_tree x)) (sym e) (ready-of case_tree a_case cs 0 k l h)
+
+each-closed : (vs : List Tree) → All IsClosed vs → Every IsClosed vs
+each-closed [] h = tt
+each-closed (v ∷ vs) h = (All-head IsClosed v vs h, each-closed vs (All-tail IsClosed v vs h))
+
+pub body-closed : (p : Part) (k : Kind) (bs : Vec TermBind Global) (b : Tree) (vs : List Tree) → p ≡ part.Receive k bs b → IsClosed (only (part_tree p)) → All IsClosed vs → IsClosed (put vs b)
+body-closed p k bs b vs e h a =
+    let f : IsClosed (only (part_tree (part.Receive k bs b))) = subst (λ (q : Part). IsClosed (only (part_tree q))) e h in
+    put-closed _ b vs f.1.0.1.1.0 (each-closed vs a)

@@ -1,22 +1,105 @@
-//! What sources offer.
+//! What sources, and bodies of receives under values, offer.
+ghost use Rattle.std.specs.Prelude.{All, IfOk};
+ghost use Rattle.calculus.specs.Form.{IsClosed};
+ghost use Rattle.calculus.specs.Shape.{only};
+ghost use Rattle.rho_term.specs.Parts.{part_tree};
+
 use crate::texts::read_term;
 use calculus::Digest;
 use name_seed::{Seed, bytes_digest};
 use price_table::Prices;
-use rho_eval::EvalStop;
+use rho_eval::{EvalStop, Priced};
 use rho_term::{Op, Part, Term};
 use std::alloc::Global;
-use table_lines::{LineFault, unescape};
+use table_lines::{LineFault, number, unescape};
 use term_encoder::{encode_part, encode_term};
-use unfold::unfold;
+use unfold::{unfold, unfold_body};
 
 /// The price of what a source offers to the empty state under the standard prices, and the codes of its rows; or its
 /// first fault.
 pub fn offers(alloc: Global, source: &str) -> Result<String, LineFault> {
-    let digest = bytes_digest(unescape(alloc, source)?.as_slice());
-    let seed = Seed::start(&Digest([0; 32]), &digest);
+    let seed = start_seed(alloc, source)?;
     let term = read_term(alloc, source)?;
-    match unfold(alloc, &term, &seed, &Prices::standard(), 1_000_000) {
+    told(
+        alloc,
+        unfold(alloc, &term, &seed, &Prices::standard(), 1_000_000),
+    )
+}
+
+/// The same of the body of a receive with values in place of its variables, under a cap. The seed is that of the
+/// receive's source. The fields are the cap, and the sources of the receive and of the values with ` <=> ` between them.
+pub fn body_offers(alloc: Global, fields: &str) -> Result<String, LineFault> {
+    let (cap, sources) = fields.split_once(' ').ok_or(LineFault::Field)?;
+    let (receive, values) = sources.split_once(" <=> ").ok_or(LineFault::Field)?;
+    let seed = start_seed(alloc, receive)?;
+    let receive = read_term(alloc, receive)?;
+    let values = read_values(alloc, values)?;
+    receive_offers(alloc, &receive, values.as_slice(), &seed, number(cap)?)
+}
+
+// The seed of a source from the empty state.
+fn start_seed(alloc: Global, source: &str) -> Result<Seed, LineFault> {
+    let digest = bytes_digest(unescape(alloc, source)?.as_slice());
+    Ok(Seed::start(&Digest([0; 32]), &digest))
+}
+
+// The terms of sources with ` <=> ` between them.
+fn read_values(alloc: Global, sources: &str) -> Result<Vec<Term>, LineFault>
+    ensures { IfOk result (λ v. All IsClosed v.items) }
+{
+    let mut values = Vec::new(alloc);
+    for source in sources.split(" <=> ") {
+        values.push(read_term(alloc, source)?)?;
+    }
+    Ok(values)
+}
+
+fn receive_offers(
+    alloc: Global,
+    receive: &Term,
+    values: &[Term],
+    seed: &Seed,
+    cap: u32,
+) -> Result<String, LineFault>
+    requires receive { IsClosed receive.now }
+    requires values { All IsClosed values.now }
+{
+    let parts = receive.parts();
+    if parts.len() != 1 {
+        return Err(LineFault::Field);
+    }
+    part_offers(alloc, &parts[0], values, seed, cap)
+}
+
+fn part_offers(
+    alloc: Global,
+    receive: &Part,
+    values: &[Term],
+    seed: &Seed,
+    cap: u32,
+) -> Result<String, LineFault>
+    requires receive { IsClosed (only (part_tree receive.now)) }
+    requires values { All IsClosed values.now }
+{
+    let Part::Receive { body, .. } = receive else {
+        return Err(LineFault::Field);
+    };
+    told(
+        alloc,
+        unfold_body(
+            alloc,
+            body,
+            values,
+            seed,
+            &Prices::standard(),
+            u64::from(cap),
+        ),
+    )
+}
+
+// A price and the codes of rows, or the first fault.
+fn told(alloc: Global, done: Result<Priced<Vec<Op>>, EvalStop>) -> Result<String, LineFault> {
+    match done {
         Ok(done) => {
             let price = done.price;
             let mut told = format!(in alloc; "price {price}")?;

@@ -2,7 +2,7 @@
 ghost use Rattle.std.specs.Prelude.{IfOk};
 ghost use Rattle.calculus.specs.Form.{IsClosed};
 
-use crate::offers::offers;
+use crate::offers::{body_offers, offers};
 use rho_printer::print_term;
 use rho_term::{Part, Term};
 use sources::{SourceFault, read_source};
@@ -24,6 +24,7 @@ pub enum TextKind {
     GroupKey,
     Put,
     Offers,
+    BodyOffers,
 }
 
 impl TextKind {
@@ -38,6 +39,7 @@ impl TextKind {
             "group-key" => TextKind::GroupKey,
             "put" => TextKind::Put,
             "unfold" => TextKind::Offers,
+            "unfold-body" => TextKind::BodyOffers,
             _ => return None,
         })
     }
@@ -54,6 +56,7 @@ pub fn answer(alloc: Global, kind: TextKind, fields: &str) -> Result<String, Lin
         TextKind::GroupKey => key(alloc, fields),
         TextKind::Put => put(alloc, fields),
         TextKind::Offers => offers(alloc, fields),
+        TextKind::BodyOffers => body_offers(alloc, fields),
     }
 }
 

@@ -11,4 +11,3 @@ pub mod Readable
 pub mod Laws
 pub mod ExamplesPlaces
 pub use Rattle.term_encoder.specs.Sizes
-pub use Rattle.term_encoder.specs.Keys

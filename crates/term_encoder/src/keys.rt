@@ -4,7 +4,7 @@ ghost use Rattle.sha2.specs.Sha256.{sha256};
 ghost use Rattle.calculus.specs.Code.{code};
 ghost use Rattle.calculus.specs.Order.{IsAscending};
 ghost use Rattle.calculus.specs.Root.{group_code};
-ghost use Rattle.term_encoder.specs.Keys.{shard};
+ghost use Rattle.calculus.specs.Storing.{shard};
 
 use crate::encode::{encode_term, put_be32, put_term};
 use calculus::Digest;

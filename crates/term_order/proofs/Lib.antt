@@ -6,3 +6,5 @@ pub mod Closed
 pub mod FromScopes
 pub mod ExamplesOrder
 pub mod Faultless
+pub mod OneTerm
+pub mod ExamplesNormal

@@ -1,2 +1,4 @@
 pub mod Orders
 pub mod Examples
+pub mod NormalLaws
+pub mod ExamplesNormal

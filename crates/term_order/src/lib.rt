@@ -2,12 +2,13 @@
 //!
 //! It makes no code and takes no memory: both terms are walked to the first place where they differ.
 //! What suits is in normal order, has forms of their sorts alone and no empty tuple, and its code is
-//! shorter than 2^32 bytes.
+//! shorter than 2^32 bytes. Of such terms two are equal exactly where their processes are congruent.
 #![tactic(auto)]
 
 mod binds;
 pub mod examples;
 mod ground;
+pub mod laws;
 pub mod pairs;
 pub mod parts;
 mod patterns;

@@ -47,7 +47,7 @@ fn part_bound(part: &Part) -> u64
 
 /// How many variables a pattern binds.
 #[cycle(pattern)]
-pub(crate) fn pat_bound(pat: &TermPat) -> u64
+pub fn pat_bound(pat: &TermPat) -> u64
     ensures { result ≡ in_u64 (bound_count pat.now) }
 {
     let parts = pat.parts();

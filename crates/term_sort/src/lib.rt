@@ -7,7 +7,7 @@ pub mod size;
 pub mod substitution;
 mod variable;
 
-pub use bound::bind_bound;
+pub use bound::{bind_bound, pat_bound};
 pub use code_order::{make_par, with_order};
 pub use renumbering::renumber_body;
 pub use size::put_size;

@@ -1,12 +1,13 @@
 -- Cases of a closed match: what stands in them is closed and short, and what trying them in order comes to.
-use Rattle.std.proofs.Common.{◌≡◌, ◌≤◌, ◌<◌, ℕ, zero, suc, ◌+◌, ◌-◌, ◌^◌, min, List, [], ◌∷◌, ◌++◌, length, drop, get_or, map, reverse, refl, sym, ap, ◌∙◌, subst, arith, All, inl}
-use Rattle.std.proofs.lemmas.List.Elements.{All-cons, All-nil}
+use Rattle.std.proofs.Common.{◌≡◌, ◌≤◌, ◌<◌, ℕ, zero, suc, ◌+◌, ◌-◌, ◌^◌, min, List, [], ◌∷◌, ◌++◌, length, get_or, map, reverse, refl, sym, ap, ◌∙◌, subst, arith, All}
+use Rattle.std.proofs.lemmas.List.Elements.{All-cons, All-head, All-nil, All-tail}
 use Rattle.std.specs.Prelude.{Option, Some, None, Vec, Result, Ok, Err}
 use Rattle.std.specs.Result.{MatchResult, IfOk}
 use Rattle.std.specs.declared.alloc.Global.{Global}
+use Rattle.list_laws.proofs.Members.{Every}
 use Rattle.calculus.specs.Tree.{par, row, case, match, new, Tree, none, also, trees}
 use Rattle.calculus.specs.Shape.{leaf, one, two, many, only, held, at}
-use Rattle.calculus.specs.Variables.{Sense, binders}
+use Rattle.calculus.specs.Variables.{Sense, bound, binders}
 use Rattle.calculus.specs.Substitution.{put}
 use Rattle.calculus.specs.CodeLaws.{IsShort}
 use Rattle.calculus.specs.Code.{code}
@@ -15,22 +16,24 @@ use Rattle.calculus.specs.Outcome.{Prices, Answer, gives, Outcome, free, pure, c
 use Rattle.calculus.specs.Values.{value}
 use Rattle.calculus.specs.Unfolding.{names_made}
 use Rattle.calculus.specs.declared.plain.Origin.{Origin}
+use Rattle.calculus.proofs.Changed.{no_variables}
 use Rattle.calculus.proofs.Results.{Gives}
 use Rattle.closed_values.proofs.Values.{part-value}
 use Rattle.calculus.specs.Matching.{Bindings, all_matches, first_of_all, first_match}
-use Rattle.calculus.proofs.Candidates.{Every}
 use Rattle.closed_row_laws.proofs.Closing.{FirstIsClosed, first-closed, names-closed, put-closed}
 use Rattle.unfolding_laws.proofs.Patterns.{a_pat}
 use Rattle.unfolding_laws.proofs.Fitting.{fits-tidy}
 use Rattle.rho_eval.specs.declared.stop.EvalStop.{EvalStop}
 use Rattle.rho_eval.specs.declared.stop.EvalStop.TheVariants.{Over}
 use Rattle.rho_eval.specs.Outcomes.{Came, Stopped}
-use Rattle.rho_eval.proofs.Outcomes.{came-pure, later, next-of, none-of}
+use Rattle.rho_eval.proofs.Outcomes.{came-pure, later}
 use Rattle.spatial_match.specs.Found.{IsFirst}
 use Rattle.rho_term.specs.declared.term.TermCase.{TermCase}
 use Rattle.rho_term.specs.Parts.{case_tree}
 use Rattle.rho_term.specs.Sizes.{in_u64, size, sizes}
 use Rattle.term_encoder.proofs.Lengths.{size-code}
+use Rattle.term_sort.specs.Bound.{bound_count}
+use Rattle.term_sort.proofs.Binding.{count-bound}
 use Rattle.unfold.specs.Inner.{fitting_body, chosen_body}
 use Rattle.unfold.proofs.Working.{charged-none, charged-twice}
 use Rattle.unfold.proofs.Whole.{within-itself}
@@ -53,45 +56,65 @@ short-cases t cs b e h = all-short (sizes (trees (map case_tree cs))) cs (omega 
 pub came-later : {A : Type 0} (cap n m k c : ℕ) (x : A) (u v : Outcome A) → u ≡ charged c v → m ≡ n + c → Came cap m k x v → Came cap n k x u
 came-later cap n m k c x u v q w h = record { answer = ap (λ (o : Outcome _). o.answer) q ∙ h.answer; price = omega (arith, w, h.price, ap (λ (o : Outcome _). o.price) q); fits = h.fits }
 
-module _ (p : Prices) (v : Tree) (cs : List TermCase) where
-  -- what the cases from number i on come to
-  abbrev pub from_case : ℕ → Outcome Tree
-  from_case i = chosen_body p v (map case_tree (drop i cs))
-
-  pub next-case : (i : ℕ) (c : TermCase) → i < length cs → c ≡ get_or cs i c → from_case i ≡ charged p.case (fitting_body (first_match c.pat v) c.body (from_case (i + 1)))
-  next-case i c l e = ap (chosen_body p v) (next-of case_tree cs i c l e)
-
-  -- the first i cases do not fit, and trying them took a price so far to this one
-  pub record Tried (cap from here i : ℕ) : Type 0 where
+module _ (p : Prices) (v : Tree) (cs : List Tree) where
+  -- the cases before these do not fit, and trying them took a price so far to this one
+  pub record Tried (cap from here : ℕ) (rest : List TermCase) : Type 0 where
     pub spent : ℕ
     pub total : here ≡ from + spent
     pub fits : here ≤ cap
-    pub left : chosen_body p v (map case_tree cs) ≡ charged spent (from_case i)
+    pub left : chosen_body p v cs ≡ charged spent (chosen_body p v (map case_tree rest))
+    pub closed : All (λ c. Fits a_case [] (case_tree c)) rest
+    pub short : All (λ c. IsShort c.pat) rest
 
-  pub tried-none : (cap n : ℕ) → n ≤ cap → Tried cap n n 0
-  tried-none cap n h = record { spent = 0; total = omega arith; fits = h; left = sym (charged-none (chosen_body p v (map case_tree cs))) }
+  pub tried-none : (cap n : ℕ) (rest : List TermCase) → cs ≡ map case_tree rest → n ≤ cap → All (λ c. Fits a_case [] (case_tree c)) rest → All (λ c. IsShort c.pat) rest → Tried cap n n rest
+  tried-none cap n rest e h a b =
+      record { spent = 0; total = omega arith; fits = h; left = ap (chosen_body p v) e ∙ sym (charged-none (chosen_body p v (map case_tree rest))); closed = a; short = b }
 
-  module _ (cap n here i : ℕ) (h : Tried cap n here i) where
-    module _ (c : TermCase) (l : i < length cs) (e : c ≡ get_or cs i c) where
-      tried-again : (m : Option Bindings) → first_match c.pat v ≡ m → chosen_body p v (map case_tree cs) ≡ charged (h.spent + p.case) (fitting_body m c.body (from_case (i + 1)))
+  module _ (cap n here : ℕ) (rest : List TermCase) (h : Tried cap n here rest) where
+    module _ (c : TermCase) (more : List TermCase) (s : rest ≡ c ∷ more) where
+      tried-again : (m : Option Bindings) → first_match c.pat v ≡ m → chosen_body p v cs ≡ charged (h.spent + p.case) (fitting_body m c.body (chosen_body p v (map case_tree more)))
       tried-again m f =
-          h.left ∙ (ap (charged h.spent) (next-case i c l e ∙ ap (λ o. charged p.case (fitting_body o c.body (from_case (i + 1)))) f) ∙ charged-twice h.spent p.case (fitting_body m c.body (from_case (i + 1))))
+          h.left ∙ (ap (λ us. charged h.spent (chosen_body p v (map case_tree us))) s
+          ∙ (ap (λ o. charged h.spent (charged p.case (fitting_body o c.body (chosen_body p v (map case_tree more))))) f ∙ charged-twice h.spent p.case (fitting_body m c.body (chosen_body p v (map case_tree more)))))
 
-      pub tried-next : (k : ℕ) → first_match c.pat v ≡ None → k ≡ here + p.case → k ≤ cap → Tried cap n k (i + 1)
-      tried-next k f q w = record { spent = h.spent + p.case; total = omega (arith, q, h.total); fits = w; left = tried-again None f }
+      pub case-closed : Fits a_case [] (case_tree c)
+      case-closed = All-head (λ x. Fits a_case [] (case_tree x)) c more (subst (All (λ x. Fits a_case [] (case_tree x))) s h.closed)
 
-      pub tried-over : cap < here + p.case → Stopped cap n (chosen_body p v (map case_tree cs)) Over
-      tried-over w = omega (arith, w, h.total, ap (λ (o : Outcome Tree). o.price) (h.left ∙ ap (charged h.spent) (next-case i c l e)))
+      pub case-short : IsShort c.pat
+      case-short = All-head (λ x. IsShort x.pat) c more (subst (All (λ x. IsShort x.pat)) s h.short)
 
-      pub tried-fits : (k m : ℕ) (vs : List Tree) (t : Tree) → first_match c.pat v ≡ Some vs → k ≡ here + p.case → Came cap k m t (free (within_limits (put vs c.body))) → Came cap n m t (chosen_body p v (map case_tree cs))
-      tried-fits k m vs t f q a = came-later cap n k m (h.spent + p.case) t (chosen_body p v (map case_tree cs)) (free (within_limits (put vs c.body))) (tried-again (Some vs) f) (omega (arith, q, h.total)) a
+      pub tried-next : (k : ℕ) → first_match c.pat v ≡ None → k ≡ here + p.case → k ≤ cap → Tried cap n k more
+      tried-next k f q w =
+          record {
+            spent = h.spent + p.case;
+            total = omega (arith, q, h.total);
+            fits = w;
+            left = tried-again None f;
+            closed = All-tail (λ x. Fits a_case [] (case_tree x)) c more (subst (All (λ x. Fits a_case [] (case_tree x))) s h.closed);
+            short = All-tail (λ x. IsShort x.pat) c more (subst (All (λ x. IsShort x.pat)) s h.short);
+          }
 
-      pub tried-stops : (k : ℕ) (vs : List Tree) (d : EvalStop) → first_match c.pat v ≡ Some vs → k ≡ here + p.case → Stopped cap k (free (within_limits (put vs c.body))) d → Stopped cap n (chosen_body p v (map case_tree cs)) d
-      tried-stops k vs d f q a = later cap n k (h.spent + p.case) (chosen_body p v (map case_tree cs)) (free (within_limits (put vs c.body))) d (tried-again (Some vs) f) (omega (arith, q, h.total)) a
+      pub tried-over : cap < here + p.case → Stopped cap n (chosen_body p v cs) Over
+      tried-over w = omega (arith, w, h.total, ap (λ (o : Outcome Tree). o.price) (h.left ∙ ap (λ us. charged h.spent (chosen_body p v (map case_tree us))) s))
 
-    pub tried-all : length cs ≤ i → Came cap n here (leaf par) (chosen_body p v (map case_tree cs))
+      pub tried-fits : (k m : ℕ) (vs : List Tree) (t : Tree) → first_match c.pat v ≡ Some vs → k ≡ here + p.case → Came cap k m t (free (within_limits (put vs c.body))) → Came cap n m t (chosen_body p v cs)
+      tried-fits k m vs t f q a = came-later cap n k m (h.spent + p.case) t (chosen_body p v cs) (free (within_limits (put vs c.body))) (tried-again (Some vs) f) (omega (arith, q, h.total)) a
+
+      pub tried-stops : (k : ℕ) (vs : List Tree) (d : EvalStop) → first_match c.pat v ≡ Some vs → k ≡ here + p.case → Stopped cap k (free (within_limits (put vs c.body))) d → Stopped cap n (chosen_body p v cs) d
+      tried-stops k vs d f q a = later cap n k (h.spent + p.case) (chosen_body p v cs) (free (within_limits (put vs c.body))) d (tried-again (Some vs) f) (omega (arith, q, h.total)) a
+
+    pub tried-all : rest ≡ [] → Came cap n here (leaf par) (chosen_body p v cs)
     tried-all w =
-        came-later cap n here here h.spent (leaf par) (chosen_body p v (map case_tree cs)) (pure (leaf par)) (h.left ∙ ap (λ us. charged h.spent (chosen_body p v us)) (none-of case_tree cs i w)) h.total (came-pure cap here (leaf par) h.fits)
+        came-later cap n here here h.spent (leaf par) (chosen_body p v cs) (pure (leaf par)) (h.left ∙ ap (λ us. charged h.spent (chosen_body p v (map case_tree us))) w) h.total (came-pure cap here (leaf par) h.fits)
+
+-- a pattern without variables binds none in its case's body
+pub case-binds-none : (c : TermCase) → bound_count c.pat ≡ 0 → Fits a_case [] (case_tree c) → IsClosed c.body
+case-binds-none c e h =
+    subst (λ v. Fits term v c.body) (ap (λ vs. reverse vs ++ []) (binders-none (bound c.pat) (bound c.body) (sym (count-bound c.pat) ∙ e) (no_variables _ c.body h.1.1.0))) h.1.1.0
+  where
+    binders-none : (xs ys : List Sense) → length xs ≡ 0 → ys ≡ [] → xs ++ (ys ++ []) ≡ []
+    binders-none [] ys n w = rw w refl
+    binders-none (x ∷ xs) ys n w = absurd (omega (arith, n))
 
 -- there is no first match where none is given
 pub none-first : (bs : List Bindings) (o : Option (Vec Tree Global)) → IsFirst bs o → ((v : Vec Tree Global) → o ≡ Some v → ⊥) → first_of_all bs ≡ None

@@ -11,13 +11,13 @@ use Rattle.calculus.specs.Seeds.{digest_of, Body}
 use Rattle.calculus.specs.Substitution.{put}
 use Rattle.calculus.specs.Matching.{Bindings, first_match}
 use Rattle.calculus.specs.Values.{value}
-use Rattle.calculus.specs.Unfolding.{Thing, rows_of, Unfolder, names_made, fresh_names, unfold_within, unfold_under, fitting, cases_tried, part_unfolded, unfold_part}
+use Rattle.calculus.specs.Unfolding.{Product, rows_of, Unfolder, names_made, fresh_names, unfold_within, unfold_under, fitting, cases_tried, part_unfolded, unfold_part}
 use Rattle.unfold.specs.Progress.{rows_answer, row_work}
 use Rattle.unfold.specs.Inner.{fitting_body, chosen_body, silent, inner_process}
 use Rattle.unfold.proofs.Working.{charged-none, charged-twice, charged-after, after-after, after-alike, pure-after, rows-after}
 
 -- fresh names are no rows
-no-rows : (t : List ℕ) (k : ℕ) (os : List Origin) (ts : List Thing) → rows_of (fresh_names t k os ++ ts) ≡ rows_of ts
+no-rows : (t : List ℕ) (k : ℕ) (os : List Origin) (ts : List Product) → rows_of (fresh_names t k os ++ ts) ≡ rows_of ts
 no-rows t k [] ts = refl
 no-rows t k (origins.Plain ∷ os) ts = no-rows t (suc k) os ts
 no-rows t k (origins.Stdout ∷ os) ts = no-rows t (suc k) os ts
@@ -29,10 +29,10 @@ IsInner (send q) = ⊥
 IsInner (receive k) = ⊥
 IsInner _ = ⊤
 
-after-to-rows : (o : Outcome (List Thing)) → after o (λ ts. pure (rows_of ts)) ≡ row_work o
+after-to-rows : (o : Outcome (List Product)) → after o (λ ts. pure (rows_of ts)) ≡ row_work o
 after-to-rows o = go o.price o.answer
   where
-    go : (n : ℕ) (a : Answer (List Thing)) → then_do n a (λ ts. pure (rows_of ts)) ≡ record { price = n; answer = rows_answer a }
+    go : (n : ℕ) (a : Answer (List Product)) → then_do n a (λ ts. pure (rows_of ts)) ≡ record { price = n; answer = rows_answer a }
     go n (gives x) = ap (λ k. record { price = k; answer = gives (rows_of x) }) (add-zero n)
     go n (fails k) = refl
     go n unknown = refl
@@ -50,7 +50,7 @@ module _ (p : Prices) (again : Unfolder) (s : List ℕ) (nil : again (leaf par) 
   unfolded-within (fails f) = refl
   unfolded-within unknown = refl
 
-  fitted : (m : Option Bindings) (body : Tree) (next : Outcome (List Thing)) (other : Outcome Tree) → row_work next ≡ after other inside → row_work (fitting again s m body next) ≡ after (fitting_body m body other) inside
+  fitted : (m : Option Bindings) (body : Tree) (next : Outcome (List Product)) (other : Outcome Tree) → row_work next ≡ after other inside → row_work (fitting again s m body next) ≡ after (fitting_body m body other) inside
   fitted (Some vs) body next other h = unfolded-within (within_limits (put vs body))
   fitted None body next other h = h
 

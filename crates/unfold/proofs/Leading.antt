@@ -9,7 +9,7 @@ use Rattle.calculus.specs.Normal.{by_code, ascending}
 use Rattle.calculus.specs.Outcome.{Prices, Answer, gives, fails, unknown, Outcome, pure, charged, then_do, after}
 use Rattle.calculus.specs.Rows.{Row}
 use Rattle.calculus.specs.Seeds.{digest_of, Body, Split}
-use Rattle.calculus.specs.Unfolding.{Thing, a_row, rows_of, Unfolder, unfold_part, parts_unfolded, unfold_in}
+use Rattle.calculus.specs.Unfolding.{Product, a_row, rows_of, Unfolder, unfold_part, parts_unfolded, unfold_in}
 use Rattle.calculus.proofs.Room.{IsKnown, Refines, charged_more, after_more}
 use Rattle.rho_eval.specs.declared.stop.EvalStop.{EvalStop}
 use Rattle.rho_eval.specs.declared.stop.EvalStop.TheVariants.{Fault, Over, NoMemory}
@@ -84,7 +84,7 @@ module _ (p : Prices) (n : ℕ) (rows : List Row) (w : Pending) (rest : List Pen
   IsInside o = (again : Unfolder) → again (leaf par) (digest_of (Body w.seed)) ≡ pure [] → row_work (unfold_part p again w.seed w.part) ≡ after o (λ u. row_work (again u (digest_of (Body w.seed))))
 
   -- the part offers this, whatever is unfolded inside others
-  abbrev pub IsOffered : Outcome (List Thing) → Type 0
+  abbrev pub IsOffered : Outcome (List Product) → Type 0
   IsOffered o = (again : Unfolder) → unfold_part p again w.seed w.part ≡ o
 
   pub inner-leads : (o : Outcome Tree) (u : Tree) (m : ℕ) → IsInside o → o.answer ≡ gives u → m ≡ n + o.price → IsClosed u → IsNormal u → LeadsTo p before (record { price = m; rows = rows; left = pending u (digest_of (Body w.seed)) ++ rest })
@@ -106,7 +106,7 @@ module _ (p : Prices) (n : ℕ) (rows : List Row) (w : Pending) (rest : List Pen
       charged_more m _ _ (after_more (both x old) (both x new) joined joined (after_more x x _ _ (itself x) (λ rs. after_more old new _ _ (left-more p room (suc room) (omega arith) rest) (λ qs. itself (pure (rs ++ qs))))) (λ rs. itself (joined rs))) in
       (suc room, further _ _ _ (by-equal _ _ fourth) (further _ _ _ more (by-equal _ _ (sym third))))
 
-  pub offer-leads : (o : Outcome (List Thing)) (r : Row) (m : ℕ) → IsOffered o → o.answer ≡ gives (a_row r ∷ []) → m ≡ n + o.price → LeadsTo p before (record { price = m; rows = rows ++ r ∷ []; left = rest })
+  pub offer-leads : (o : Outcome (List Product)) (r : Row) (m : ℕ) → IsOffered o → o.answer ≡ gives (a_row r ∷ []) → m ≡ n + o.price → LeadsTo p before (record { price = m; rows = rows ++ r ∷ []; left = rest })
   offer-leads o r m i e q room =
       let old = left_work p room rest in
       let first : own room ≡ row_work o = ap row_work (i (unfold_in p room)) in
@@ -131,8 +131,8 @@ module _ (p : Prices) (n : ℕ) (rows : List Row) (w : Pending) (rest : List Pen
       let s = digest_of (Body w.seed) in
       part-stops cap 1 e (subst (λ (u : Outcome (List Row)). Stopped cap n u e) (sym (i (unfold_in p 1) (nil-unfolds p 0 s))) (stopped-first cap n o (λ v. row_work (unfold_in p 1 v s)) e h))
 
-  pub offer-stops : (cap : ℕ) (o : Outcome (List Thing)) (e : EvalStop) → IsOffered o → Stopped cap n o e → StopsWith p cap before e
-  offer-stops cap o e i h = part-stops cap 0 e (subst (λ (u : Outcome (List Thing)). Stopped cap n (row_work u) e) (sym (i (unfold_in p 0))) (of-rows e h))
+  pub offer-stops : (cap : ℕ) (o : Outcome (List Product)) (e : EvalStop) → IsOffered o → Stopped cap n o e → StopsWith p cap before e
+  offer-stops cap o e i h = part-stops cap 0 e (subst (λ (u : Outcome (List Product)). Stopped cap n (row_work u) e) (sym (i (unfold_in p 0))) (of-rows e h))
     where
       of-rows : (e : EvalStop) → Stopped cap n o e → Stopped cap n (row_work o) e
       of-rows (Fault k m) h = (ap rows_answer h.0, h.1, h.2)

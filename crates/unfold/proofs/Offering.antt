@@ -7,7 +7,7 @@ use Rattle.calculus.specs.Shape.{held, at}
 use Rattle.calculus.specs.Variables.{Sense}
 use Rattle.calculus.specs.Form.{a_bind, all, Hold, IsClosed}
 use Rattle.calculus.specs.Outcome.{Prices, Answer, gives, fails, unknown, Outcome, pure, then_do, after, in_order}
-use Rattle.calculus.specs.Unfolding.{Thing, opened, receive_offered}
+use Rattle.calculus.specs.Unfolding.{Product, opened, receive_offered}
 use Rattle.calculus.specs.Values.{value}
 use Rattle.rho_eval.specs.Outcomes.{Came}
 use Rattle.rho_eval.proofs.Parts.{operands}

@@ -13,7 +13,7 @@ use Rattle.calculus.specs.Outcome.{Prices, Outcome, gives, after, in_order}
 use Rattle.calculus.specs.Rows.{Row}
 use Rattle.calculus.specs.Seeds.{digest_of, Body, Split}
 use Rattle.calculus.specs.Values.{value, values}
-use Rattle.calculus.specs.Unfolding.{Thing, a_row, Unfolder, unfold_part, opened, send_offered, receive_offered}
+use Rattle.calculus.specs.Unfolding.{Product, a_row, Unfolder, unfold_part, opened, send_offered, receive_offered}
 use Rattle.calculus.proofs.Placing.{listed-trees}
 use Rattle.rho_eval.specs.Outcomes.{Came}
 use Rattle.rho_eval.proofs.Forms.{values-each}
@@ -66,7 +66,7 @@ each-append : {A B : Type 0} (f : A → B) (xs ys : List A) → each f (xs ++ ys
 each-append f [] ys = refl
 each-append f (x ∷ xs) ys = ap (λ zs. f x ∷ zs) (each-append f xs ys)
 
-pub offer-advances : (p : Prices) (cap n m : ℕ) (xs ys : List Op) (x : Op) (w : Pending) (rest : List Pending) (o : Outcome (List Thing)) → IsOffered p n (each row_of_op xs) w rest o → Came cap n m (a_row (row_of_op x) ∷ []) o → ys ≡ xs ++ x ∷ [] → All IsReady rest
+pub offer-advances : (p : Prices) (cap n m : ℕ) (xs ys : List Op) (x : Op) (w : Pending) (rest : List Pending) (o : Outcome (List Product)) → IsOffered p n (each row_of_op xs) w rest o → Came cap n m (a_row (row_of_op x) ∷ []) o → ys ≡ xs ++ x ∷ [] → All IsReady rest
     → Advances p cap (with_part w (record { price = n; rows = each row_of_op xs; left = rest })) (record { price = m; rows = each row_of_op ys; left = rest })
 offer-advances p cap n m xs ys x w rest o i a e r =
     let q : each row_of_op ys ≡ each row_of_op xs ++ row_of_op x ∷ [] = ap (each row_of_op) e ∙ each-append row_of_op xs (x ∷ []) in

@@ -12,7 +12,7 @@ use Rattle.calculus.specs.Form.{IsClosed}
 use Rattle.calculus.specs.Substitution.{put}
 use Rattle.calculus.specs.Outcome.{Prices, Answer, gives, fails, unknown, Outcome, free, charged, after, pure, within_limits, Capped, over, within, known, capped}
 use Rattle.calculus.specs.Rows.{Row}
-use Rattle.calculus.specs.Unfolding.{Thing, rows_of, Unfolds, unfold_in, unfold_within, UnfoldsUnder}
+use Rattle.calculus.specs.Unfolding.{Product, rows_of, Unfolds, unfold_in, unfold_within, UnfoldsUnder}
 use Rattle.rho_eval.specs.declared.stop.EvalStop.{EvalStop}
 use Rattle.rho_eval.specs.declared.stop.EvalStop.TheVariants.{Fault, Over, NoMemory}
 use Rattle.rho_eval.specs.Outcomes.{Came, Stopped, EndsWith}
@@ -24,7 +24,7 @@ use Rattle.unfold.specs.Progress.{Pending, pending, rows_answer, row_work, left_
 use Rattle.unfold.proofs.Working.{charged-none, after-pure}
 use Rattle.unfold.proofs.Leading.{unfold-left}
 
-as-record : (o : Outcome (List Thing)) (m : ℕ) (a : Answer (List Thing)) → o.price ≡ m → o.answer ≡ a → o ≡ record { price = m; answer = a }
+as-record : (o : Outcome (List Product)) (m : ℕ) (a : Answer (List Product)) → o.price ≡ m → o.answer ≡ a → o ≡ record { price = m; answer = a }
 as-record o m a p q = ap (λ n. record { price = n; answer = o.answer }) p ∙ ap (λ b. record { price = m; answer = b }) q
 
 not-above : (cap m : ℕ) → m ≤ cap → ltb cap m ≡ false
@@ -33,25 +33,25 @@ not-above cap m h = grind (arith, nat_tests)
 is-above : (cap m : ℕ) → cap < m → ltb cap m ≡ true
 is-above cap m h = grind (arith, nat_tests)
 
-below-cap : (cap m : ℕ) (x : Option (Capped (List Thing))) → m ≤ cap → cond (ltb cap m) (Some over) x ≡ x
+below-cap : (cap m : ℕ) (x : Option (Capped (List Product))) → m ≤ cap → cond (ltb cap m) (Some over) x ≡ x
 below-cap cap m x h = ap (λ b. cond b (Some over) x) (not-above cap m h)
 
-capped-gives : (cap m : ℕ) (o : Outcome (List Thing)) (ts : List Thing) → o.answer ≡ gives ts → o.price ≡ m → m ≤ cap → capped cap o ≡ Some (within (record { price = m; answer = gives ts }))
+capped-gives : (cap m : ℕ) (o : Outcome (List Product)) (ts : List Product) → o.answer ≡ gives ts → o.price ≡ m → m ≤ cap → capped cap o ≡ Some (within (record { price = m; answer = gives ts }))
 capped-gives cap m o ts a p h = ap (capped cap) (as-record o m (gives ts) p a) ∙ below-cap cap m (Some (within (record { price = m; answer = gives ts }))) h
 
-capped-fails : (cap m : ℕ) (o : Outcome (List Thing)) (k : FaultKind) → o.answer ≡ fails k → o.price ≡ m → m ≤ cap → capped cap o ≡ Some (within (record { price = m; answer = fails k }))
+capped-fails : (cap m : ℕ) (o : Outcome (List Product)) (k : FaultKind) → o.answer ≡ fails k → o.price ≡ m → m ≤ cap → capped cap o ≡ Some (within (record { price = m; answer = fails k }))
 capped-fails cap m o k a p h = ap (capped cap) (as-record o m (fails k) p a) ∙ below-cap cap m (Some (within (record { price = m; answer = fails k }))) h
 
-capped-over : (cap : ℕ) (o : Outcome (List Thing)) → cap < o.price → capped cap o ≡ Some over
+capped-over : (cap : ℕ) (o : Outcome (List Product)) → cap < o.price → capped cap o ≡ Some over
 capped-over cap o h = ap (λ b. cond b (Some over) (option_map within (known o.answer o))) (is-above cap o.price h)
 
 -- an answer whose rows are known
-rows-given : (a : Answer (List Thing)) (rs : List Row) → rows_answer a ≡ gives rs → (ts : List Thing) × (a ≡ gives ts) × (rows_of ts ≡ rs)
+rows-given : (a : Answer (List Product)) (rs : List Row) → rows_answer a ≡ gives rs → (ts : List Product) × (a ≡ gives ts) × (rows_of ts ≡ rs)
 rows-given (gives ts) rs e = (ts, refl, cc)
 rows-given (fails k) rs e = cc
 rows-given unknown rs e = cc
 
-rows-failed : (a : Answer (List Thing)) (k : FaultKind) → rows_answer a ≡ fails k → a ≡ fails k
+rows-failed : (a : Answer (List Product)) (k : FaultKind) → rows_answer a ≡ fails k → a ≡ fails k
 rows-failed (gives ts) k e = cc
 rows-failed (fails f) k e = cc
 rows-failed unknown k e = cc
@@ -102,7 +102,7 @@ module _ (p : Prices) (cap : ℕ) (s : List ℕ) (vs : List Tree) (body : Tree) 
   within-gives a t e room = ap (unfold_within (unfold_in p room) s) e
 
   -- a body with its values, within the limits
-  under : (n m : ℕ) (t : Tree) → Came cap n m t (free (within_limits (put vs body))) → (w : Capped (List Thing)) → Unfolds p cap t s w → UnfoldsUnder p cap vs body s w
+  under : (n m : ℕ) (t : Tree) → Came cap n m t (free (within_limits (put vs body))) → (w : Capped (List Product)) → Unfolds p cap t s w → UnfoldsUnder p cap vs body s w
   under n m t a w u = (u.0, ap (capped cap) (within-gives (within_limits (put vs body)) t a.answer u.0) ∙ u.1)
 
   pub body-comes : (n m : ℕ) (t : Tree) → Came cap n m t (free (within_limits (put vs body))) → (k : ℕ) (xs : List Op) → Comes (Unfolds p cap t s) k xs → Comes (UnfoldsUnder p cap vs body s) k xs

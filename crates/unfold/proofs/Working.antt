@@ -4,7 +4,7 @@ use Rattle.calculus.specs.Tree.{Tree}
 use Rattle.calculus.specs.Outcome.{Prices, Answer, gives, fails, unknown, Outcome, pure, charged, then_do, after}
 use Rattle.calculus.specs.Rows.{Row}
 use Rattle.calculus.specs.Seeds.{digest_of, Split}
-use Rattle.calculus.specs.Unfolding.{Thing, a_row, a_fresh, rows_of, Unfolder, unfold_part, parts_unfolded, unfold_in}
+use Rattle.calculus.specs.Unfolding.{Product, a_row, a_fresh, rows_of, Unfolder, unfold_part, parts_unfolded, unfold_in}
 use Rattle.calculus.proofs.Room.{IsKnown, Refines, after_more, unfold_more, unfold_part_more}
 use Rattle.unfold.specs.Progress.{Pending, pending_from, rows_answer, row_work, left_work}
 
@@ -62,7 +62,7 @@ pub after-given : {A B : Type 0} (o : Outcome A) (x : A) (f : A → Outcome B) �
 after-given o x f e = ap (λ a. then_do o.price a f) e
 
 -- rows of what is done
-pub rows-after : {A : Type 0} (o : Outcome A) (f : A → Outcome (List Thing)) → row_work (after o f) ≡ after o (λ x. row_work (f x))
+pub rows-after : {A : Type 0} (o : Outcome A) (f : A → Outcome (List Product)) → row_work (after o f) ≡ after o (λ x. row_work (f x))
 rows-after {A = A} o f = go o.price o.answer
   where
     go : (n : ℕ) (a : Answer A) → row_work (then_do n a f) ≡ then_do n a (λ x. row_work (f x))
@@ -70,15 +70,15 @@ rows-after {A = A} o f = go o.price o.answer
     go n (fails k) = refl
     go n unknown = refl
 
-pub after-rows : (o : Outcome (List Thing)) (f : List Row → Outcome (List Row)) → after (row_work o) f ≡ after o (λ ts. f (rows_of ts))
+pub after-rows : (o : Outcome (List Product)) (f : List Row → Outcome (List Row)) → after (row_work o) f ≡ after o (λ ts. f (rows_of ts))
 after-rows o f = go o.price o.answer
   where
-    go : (n : ℕ) (a : Answer (List Thing)) → then_do n (rows_answer a) f ≡ then_do n a (λ ts. f (rows_of ts))
+    go : (n : ℕ) (a : Answer (List Product)) → then_do n (rows_answer a) f ≡ then_do n a (λ ts. f (rows_of ts))
     go n (gives x) = refl
     go n (fails k) = refl
     go n unknown = refl
 
-pub rows-append : (ts us : List Thing) → rows_of (ts ++ us) ≡ rows_of ts ++ rows_of us
+pub rows-append : (ts us : List Product) → rows_of (ts ++ us) ≡ rows_of ts ++ rows_of us
 rows-append [] us = refl
 rows-append (a_row r ∷ ts) us = ap (λ rs. r ∷ rs) (rows-append ts us)
 rows-append (a_fresh x ∷ ts) us = rows-append ts us
@@ -125,17 +125,17 @@ parts-left p room s i (t ∷ ts) =
     ∙ (sym (after-rows u (λ rs. after (row_work r) (λ qs. pure (rs ++ qs))))
     ∙ ap (both (row_work u)) (parts-left p room s (suc i) ts)))
   where
-    joined : (r : Outcome (List Thing)) (rs : List Thing) → row_work (after r (λ qs. pure (rs ++ qs))) ≡ after (row_work r) (λ qs. pure (rows_of rs ++ qs))
+    joined : (r : Outcome (List Product)) (rs : List Product) → row_work (after r (λ qs. pure (rs ++ qs))) ≡ after (row_work r) (λ qs. pure (rows_of rs ++ qs))
     joined r rs =
         rows-after r (λ qs. pure (rs ++ qs))
         ∙ (after-alike r (λ qs. row_work (pure (rs ++ qs))) (λ qs. pure (rows_of rs ++ rows_of qs)) (λ qs. ap (λ (us : List Row). pure us) (rows-append rs qs)) ∙ sym (after-rows r (λ qs. pure (rows_of rs ++ qs))))
 
-known-rows : (a : Answer (List Thing)) → IsKnown (rows_answer a) → IsKnown a
+known-rows : (a : Answer (List Product)) → IsKnown (rows_answer a) → IsKnown a
 known-rows (gives x) h = tt
 known-rows (fails k) h = tt
 known-rows unknown h = h
 
-rows-more : (o u : Outcome (List Thing)) → Refines o u → Refines (row_work o) (row_work u)
+rows-more : (o u : Outcome (List Product)) → Refines o u → Refines (row_work o) (row_work u)
 rows-more o u h = (h.0, λ k. ap row_work (h.1 (known-rows o.answer k)))
 
 -- more room for what is left

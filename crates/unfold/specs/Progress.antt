@@ -6,7 +6,7 @@ use Rattle.calculus.specs.Form.{IsClosed}
 use Rattle.calculus.specs.Seeds.{digest_of, Split}
 use Rattle.calculus.specs.Outcome.{Prices, Answer, gives, fails, unknown, Outcome, pure, charged, after}
 use Rattle.calculus.specs.Rows.{Row}
-use Rattle.calculus.specs.Unfolding.{Thing, rows_of, unfold_part, unfold_in}
+use Rattle.calculus.specs.Unfolding.{Product, rows_of, unfold_part, unfold_in}
 use Rattle.calculus.proofs.Room.{Refines}
 use Rattle.rho_eval.specs.declared.stop.EvalStop.{EvalStop}
 use Rattle.rho_eval.specs.Outcomes.{Stopped}
@@ -36,13 +36,13 @@ pub record IsReady (w : Pending) : Type 0 where
   pub ordered : IsOrdered w.part
 
 -- an answer's rows
-abbrev pub rows_answer : Answer (List Thing) → Answer (List Row)
+abbrev pub rows_answer : Answer (List Product) → Answer (List Row)
 rows_answer (gives ts) = gives (rows_of ts)
 rows_answer (fails f) = fails f
 rows_answer unknown = unknown
 
 -- work, seen as the rows that it offers
-abbrev pub row_work : Outcome (List Thing) → Outcome (List Row)
+abbrev pub row_work : Outcome (List Product) → Outcome (List Row)
 row_work o = record { price = o.price; answer = rows_answer o.answer }
 
 -- what these parts offer in turn, where at most `room` processes are unfolded inside one another

@@ -2,7 +2,7 @@
 ghost use Rattle.std.specs.Prelude.{◌≡◌, ◌≤◌, ◌<◌, ◌*◌, ◌-◌, ◌^◌, ℕ, List, [], All, length, map, IfOk, MatchResult};
 ghost use Rattle.calculus.specs.CodeLaws.{IsShort};
 ghost use Rattle.calculus.specs.Form.{a_case, Fits, IsClosed};
-ghost use Rattle.calculus.specs.Outcome.{after, charged, pure};
+ghost use Rattle.calculus.specs.Outcome.{after, charged, free, pure, within_limits};
 ghost use Rattle.calculus.specs.Shape.{many, only, two};
 ghost use Rattle.calculus.specs.Substitution.{put};
 ghost use Rattle.calculus.specs.Tree.{match as matches, row};
@@ -17,12 +17,12 @@ ghost use Rattle.unfold.specs.Inner.{chosen_body, inner_process, HoldsNoProcess}
 use crate::limits::{add_cost, put_within};
 use name_seed::Seed;
 use price_table::Prices;
-use rho_eval::{EvalStop, Priced, eval_part, eval_term};
+use rho_eval::{EvalStop, Priced, eval_owned, eval_part, limited};
 use rho_term::{Origin, Part, Term, TermCase};
 use spatial_match::first_match;
 use std::alloc::{AllocError, Global};
 use system_names::made_name;
-use term_sort::substitute;
+use term_sort::{pat_bound, substitute};
 
 /// The process that is unfolded inside a part with this seed, from a price so far, and the empty process where none is.
 /// The part's code has so many bytes.
@@ -46,7 +46,7 @@ pub(crate) fn inner_process(
     match part {
         Part::New { names, body } => new_body(alloc, &names, &body, seed, prices, cap, price),
         Part::Match { target, cases } => {
-            match_body(alloc, &target, &cases, bytes, prices, cap, price)
+            match_body(alloc, target, cases, bytes, prices, cap, price)
         }
         Part::Bundle { body, .. } => Ok(Priced { value: body, price }),
         other => value_inside(alloc, &other, prices, cap, price),
@@ -93,8 +93,8 @@ fn new_body(
 /// The body that a match on this target with these cases unfolds; the code of the match has so many bytes.
 fn match_body(
     alloc: Global,
-    target: &Term,
-    cases: &Vec<TermCase>,
+    target: Term,
+    cases: Vec<TermCase>,
     bytes: u64,
     prices: &Prices,
     cap: u64,
@@ -102,15 +102,15 @@ fn match_body(
 ) -> Result<Priced<Term>, EvalStop>
     requires cap { cap < 2 ^ 64 - 1 }
     requires price { price ≤ cap }
-    requires bytes { bytes ≡ in_u64 (size (two matches target.now (many row (map case_tree cases.now.items)))) }
-    requires closed { IsClosed (only (two matches target.now (many row (map case_tree cases.now.items)))) }
-    ensures value { MatchResult result (λ p. Came cap price p.price p.value (after (value prices.now target.now) (λ v. chosen_body prices.now v (map case_tree cases.now.items)))) (λ e. Stopped cap price (after (value prices.now target.now) (λ v. chosen_body prices.now v (map case_tree cases.now.items))) e) }
+    requires bytes { bytes ≡ in_u64 (size (two matches target (many row (map case_tree cases.items)))) }
+    requires closed { IsClosed (only (two matches target (many row (map case_tree cases.items)))) }
+    ensures value { MatchResult result (λ p. Came cap price p.price p.value (after (value prices.now target) (λ v. chosen_body prices.now v (map case_tree cases.items)))) (λ e. Stopped cap price (after (value prices.now target) (λ v. chosen_body prices.now v (map case_tree cases.items))) e) }
     ensures closed { IfOk result (λ p. IsClosed p.value) }
 {
     if bytes >= LONG_CODE {
         return Err(EvalStop::NoMemory);
     }
-    let found = eval_term(alloc, target, prices, cap, price)?;
+    let found = eval_owned(alloc, target, prices, cap, price)?;
     case_body(alloc, &found.value, cases, prices, cap, found.price)
 }
 
@@ -119,7 +119,7 @@ fn match_body(
 fn case_body(
     alloc: Global,
     target: &Term,
-    cases: &Vec<TermCase>,
+    cases: Vec<TermCase>,
     prices: &Prices,
     cap: u64,
     price: u64,
@@ -128,22 +128,44 @@ fn case_body(
     requires price { price ≤ cap }
     requires target { IsClosed target.now }
     requires short_target { IsShort target.now }
-    requires cases { All (λ c. Fits a_case [] (case_tree c)) cases.now.items }
-    requires short_cases { All (λ c. IsShort c.pat) cases.now.items }
-    ensures value { MatchResult result (λ p. Came cap price p.price p.value (chosen_body prices.now target.now (map case_tree cases.now.items))) (λ e. Stopped cap price (chosen_body prices.now target.now (map case_tree cases.now.items)) e) }
+    requires cases { All (λ c. Fits a_case [] (case_tree c)) cases.items }
+    requires short_cases { All (λ c. IsShort c.pat) cases.items }
+    ensures value { MatchResult result (λ p. Came cap price p.price p.value (chosen_body prices.now target.now (map case_tree cases.items))) (λ e. Stopped cap price (chosen_body prices.now target.now (map case_tree cases.items)) e) }
     ensures closed { IfOk result (λ p. IsClosed p.value) }
 {
     let mut total = price;
     for case in cases {
         total = add_cost(total, prices.cases(), cap)?;
         if let Some(values) = first_match(alloc, &case.pat, target)? {
-            return put_within(alloc, &case.body, values.as_slice(), total, cap);
+            return bound_body(alloc, case, values.as_slice(), total, cap);
         }
     }
     Ok(Priced {
         value: Term::nil(alloc),
         price: total,
     })
+}
+
+/// The body of a case with these values for the variables of its pattern, or its fault where it is beyond the limits.
+/// Where the pattern has no variables the body is given away as it is.
+fn bound_body(
+    alloc: Global,
+    case: TermCase,
+    values: &[Term],
+    price: u64,
+    cap: u64,
+) -> Result<Priced<Term>, EvalStop>
+    requires price { price ≤ cap }
+    requires closed { Fits a_case [] (case_tree case) }
+    ensures { MatchResult result (λ p. Came cap price p.price p.value (free (within_limits (put values.now case.body)))) (λ e. Stopped cap price (free (within_limits (put values.now case.body))) e) }
+{
+    let TermCase { pat, body } = case;
+    if pat_bound(&pat) > 0 {
+        return put_within(alloc, &body, values, price, cap);
+    }
+    // What has a height is known to be in normal order.
+    let _height = body.height();
+    limited(body, price, cap)
 }
 
 /// The value of an operator or a method. A collection is evaluated, and nothing is unfolded inside it, nor inside what

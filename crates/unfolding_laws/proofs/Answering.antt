@@ -1,6 +1,7 @@
 -- What operators and methods answer on good values is good, and known.
 use Rattle.std.proofs.Common.{ℕ, Bool, true, false, cond, ◌&&◌, not, List, ◌++◌, ℤ, pos, negsuc, neg_ℤ, ◌+ℤ◌, ◌-ℤ◌, ◌*ℤ◌, int_le, int_lt, int_div, int_rem, ◌^◌}
 use Rattle.std.specs.Prelude.{⊤}
+use Rattle.list_laws.proofs.Members.{every-append, every-filter}
 use Rattle.calculus.specs.declared.plain.UnaryOp.{UnaryOp}
 use Rattle.calculus.specs.declared.plain.UnaryOp.TheVariants as unary_op
 use Rattle.calculus.specs.declared.plain.BinaryOp.{BinaryOp}
@@ -10,8 +11,6 @@ use Rattle.calculus.specs.Tree.{par, bool, int, str, bytes, list, tuple, set, di
 use Rattle.calculus.specs.Congruence.{congruent, same_int}
 use Rattle.calculus.specs.Outcome.{Answer, gives, fails, unknown}
 use Rattle.calculus.specs.Operators.{Seen, a_bool, an_int, a_text, some_bytes, a_list, a_tuple, a_set, a_map, seen_part, seen, of_int, of_text, of_bytes, is_among, least_int, an_answer, divided, on_ints, on_bools, on_texts, on_bytes, on_lists, on_sets, on_maps, on_kinds, on_kind, binary_answer, unary_answer}
-use Rattle.calculus.proofs.Candidates.{every-append}
-use Rattle.unfolding_laws.proofs.Lists.{every-filter}
 use Rattle.unfolding_laws.proofs.Goodness.{a_term, a_part, a_pair, IsGood, AreGood, listed-good}
 use Rattle.unfolding_laws.proofs.Making.{HasStandard, collections, bool-good, list-good, set-good, map-good}
 

@@ -2,6 +2,7 @@
 use Rattle.std.proofs.Common.{◌≡◌, Bool, true, false, not, ◌||◌, cond, List, [], ◌∷◌, ◌++◌, map as each, refl, subst, sym}
 use Rattle.std.specs.Prelude.{⊤, flat_map}
 use Rattle.std.proofs.lemmas.Bool.{true≢false}
+use Rattle.list_laws.proofs.Members.{Every, every-append, every-each, every-flat}
 use Rattle.calculus.specs.declared.plain.TermRest.{TermRest}
 use Rattle.calculus.specs.declared.plain.TermRest.TheVariants as rests
 use Rattle.calculus.specs.Tree.{Label, row, list, tuple, set, dict, pair, send, bundle, pattern, any, some_process, some_name, simple, same, both, either, not_this, list_pattern, set_pattern, map_pattern, Tree, node, Trees, none, also}
@@ -11,7 +12,6 @@ use Rattle.calculus.specs.Normal.{ascending}
 use Rattle.calculus.specs.Operators.{of_list}
 use Rattle.calculus.specs.Matching.{Bindings, Matcher, Member, Piece, one_if, both_of, some_match, choices, Choice, ways, completed, has_wide, is_empty, parts_match, items_match, rest_match, first_items_match, members_match, of_kind, rest_of, where_form, whole_at, inner_at, wholes, form_matches, piece_of, piece, pieces, all_matches, bind_matches}
 use Rattle.calculus.proofs.Alike.{same_label-Decides}
-use Rattle.calculus.proofs.Candidates.{Every, every-append, every-each, every-flat}
 use Rattle.unfolding_laws.proofs.Lists.{ascending-every}
 use Rattle.unfolding_laws.proofs.Goodness.{Role, a_term, a_part, a_pair, the_terms, open_slots, these_are, IsGood, AreGoodKids, AreGood, listed-good, held-good, row-good}
 use Rattle.unfolding_laws.proofs.Patterns.{PatternRole, a_pat, pat_part, pat_pair, the_pats, the_pairs, a_rest, PatternSlots, all_pats, these_pats, any_pats, no_pats, pattern_part_slots, pattern_slots, IsTidy, AreTidy}

@@ -1,6 +1,7 @@
 -- What methods answer on good values is good, and known.
 use Rattle.std.proofs.Common.{ℕ, zero, suc, Bool, ◌&&◌, not, leb, eqb, List, [], ◌∷◌, ◌++◌, length, take, drop, map as each, filter, Option, Some, None, pos, negsuc, bytes_eq}
 use Rattle.std.specs.Prelude.{⊤}
+use Rattle.list_laws.proofs.Members.{Every, every-append, every-take, every-drop, every-filter}
 use Rattle.calculus.specs.declared.fault.FaultKind.TheVariants as fault
 use Rattle.calculus.specs.Tree.{par, pair, Tree}
 use Rattle.calculus.specs.Shape.{leaf, two, at}
@@ -11,8 +12,7 @@ use Rattle.calculus.specs.Outcome.{Answer, gives, fails}
 use Rattle.calculus.specs.Texts.{characters, from_hex, to_hex}
 use Rattle.calculus.specs.Operators.{Seen, an_int, a_text, some_bytes, a_list, a_tuple, a_set, a_map, seen, of_int, of_text, of_bytes, of_list, of_set, of_map, is_among, key_of}
 use Rattle.calculus.specs.Methods.{Method, nth, nth_at, slice, hex_answer, with_set, with_map, as_tuple, methods, among_methods, method_answer}
-use Rattle.calculus.proofs.Candidates.{Every, every-append}
-use Rattle.unfolding_laws.proofs.Lists.{every-take, every-drop, every-filter, ascending-every}
+use Rattle.unfolding_laws.proofs.Lists.{ascending-every}
 use Rattle.unfolding_laws.proofs.Goodness.{a_term, a_pair, IsGood, AreGood, at-good, nil-good}
 use Rattle.unfolding_laws.proofs.Making.{HasStandard, collections, bool-good, list-good, set-good, map-good, pair-good, keys-good, found-good, tuples-good}
 use Rattle.unfolding_laws.proofs.Answering.{HoldsGood, IsKnownGood, seen-good, int-good, text-good, bytes-good, chosen}

@@ -1,6 +1,7 @@
 -- Parts that unfold with each seed, whatever changes are made to them.
 use Rattle.std.proofs.Common.{ℕ, Bool, true, false, cond, ltb, List, [], ◌∷◌, map as each}
 use Rattle.std.specs.Prelude.{⊤}
+use Rattle.list_laws.proofs.Members.{Every}
 use Rattle.calculus.specs.declared.fault.FaultKind.TheVariants as fault
 use Rattle.calculus.specs.Tree.{Label, row, bool, int, str, uri, bytes, fresh, var, name_var, list, tuple, set, dict, send, receive, new, match, unary, binary, method, Tree, node, Trees, none, also}
 use Rattle.calculus.specs.Shape.{joined_trees, two, many}
@@ -10,8 +11,7 @@ use Rattle.calculus.specs.Outcome.{Prices, Answer, gives, fails, unknown, in_ord
 use Rattle.calculus.specs.Substitution.{Change, change}
 use Rattle.calculus.specs.Values.{value, values}
 use Rattle.calculus.specs.Rows.{Row, row_length}
-use Rattle.calculus.specs.Unfolding.{Thing, a_row, Channel, row_limits, send_offered, receive_offered, sorted_receive, on_channels, all_readable, has_twins, unfold_part, unfold_in}
-use Rattle.calculus.proofs.Candidates.{Every}
+use Rattle.calculus.specs.Unfolding.{Product, a_row, Channel, row_limits, send_offered, receive_offered, sorted_receive, on_channels, all_readable, has_twins, unfold_part, unfold_in}
 use Rattle.unfolding_laws.proofs.Goodness.{Role, a_term, a_part, the_terms, Slots, each_is, these_are, any_kids, no_kids, open_slots, HasAsPart, IsGood, AreGoodKids}
 use Rattle.unfolding_laws.proofs.Moving.{IsStable}
 use Rattle.unfolding_laws.proofs.Making.{HasStandard, HasCollections, collections}
@@ -75,7 +75,7 @@ module _ (O : Tree → Type 0) (p : Prices) where
       go false true = tt
       go false false = tt
 
-  pub chosen-sure : (b : Bool) (x y : Answer (List Thing)) → IsKnownWith IsAnything x → IsKnownWith IsAnything y → IsKnownWith IsAnything (cond b x y)
+  pub chosen-sure : (b : Bool) (x y : Answer (List Product)) → IsKnownWith IsAnything x → IsKnownWith IsAnything y → IsKnownWith IsAnything (cond b x y)
   chosen-sure true x y h k = h
   chosen-sure false x y h k = k
 

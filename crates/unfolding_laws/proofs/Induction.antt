@@ -1,5 +1,6 @@
 -- What is built, with no variable open, is good.
 use Rattle.std.proofs.Common.{ℕ, zero, suc, ◌+◌, Bool, true, false, cond, ltb, List, [], ◌∷◌, ◌++◌, length, refl, inl, inr, map as each}
+use Rattle.list_laws.proofs.Members.{Every}
 use Rattle.calculus.specs.declared.fault.FaultKind.TheVariants as fault
 use Rattle.calculus.specs.declared.plain.Origin.{Origin}
 use Rattle.calculus.specs.declared.plain.Origin.TheVariants as origins
@@ -13,8 +14,7 @@ use Rattle.calculus.specs.Substitution.{put}
 use Rattle.calculus.specs.Seeds.{digest_of, Body}
 use Rattle.calculus.specs.Values.{value}
 use Rattle.calculus.specs.Matching.{Bindings, first_of_all, all_matches}
-use Rattle.calculus.specs.Unfolding.{Thing, opened, receive_offered, names_made, fresh_names, unfold_within, fitting, cases_tried, unfold_in}
-use Rattle.calculus.proofs.Candidates.{Every}
+use Rattle.calculus.specs.Unfolding.{Product, opened, receive_offered, names_made, fresh_names, unfold_within, fitting, cases_tried, unfold_in}
 use Rattle.unfolding_laws.proofs.Patterns.{a_pat, IsTidy}
 use Rattle.unfolding_laws.proofs.Goodness.{Role, a_term, a_part, a_pair, the_terms, the_cases, a_case, the_binds, a_bind, a_pattern, each_is, part_slots, slots, open_slots, HasAsPart, AreGoodKids, AreGood}
 use Rattle.unfolding_laws.proofs.Building.{AreKids, IsBuiltNode, IsLeaf, IsBuilt, built-kids}
@@ -77,7 +77,7 @@ module _ (p : Prices) where
     body-ends c vs body g x = ends-term p (put vs body) (ih a_term (put vs body) (put-built p h c vs body g x))
 
     -- the work with this first match, or else the next work
-    fitting-end : (c : ℕ) (s : List ℕ) (ms : List Bindings) (body : Tree) (next : ℕ → Outcome (List Thing)) → BindGood (EndsUntold p) (own-collections p) ms → IsBuilt (IsEndingLeaf p) h a_term c body → (n : ℕ) × IsSure (next n)
+    fitting-end : (c : ℕ) (s : List ℕ) (ms : List Bindings) (body : Tree) (next : ℕ → Outcome (List Product)) → BindGood (EndsUntold p) (own-collections p) ms → IsBuilt (IsEndingLeaf p) h a_term c body → (n : ℕ) × IsSure (next n)
         → (n : ℕ) × IsSure (fitting (unfold_in p n) s (first_of_all ms) body (next n))
     fitting-end c s [] body next b x k = k
     fitting-end c s (vs ∷ ms) body next b x k = within-end (put vs body) (body-ends c vs body b.0 x) s

@@ -1,31 +1,11 @@
 -- What is so of each thing of a list.
-use Rattle.std.proofs.Common.{ℕ, Bool, true, false, cond, List, [], ◌∷◌, take, drop, zero, suc, map as each, filter, reverse}
+use Rattle.std.proofs.Common.{ℕ, Bool, true, false, cond, List, [], ◌∷◌, map as each}
 use Rattle.std.specs.Prelude.{zip}
-use Rattle.std.proofs.lemmas.Grind.{reverse_onto}
+use Rattle.list_laws.proofs.Members.{Every, every-each}
 use Rattle.calculus.specs.Tree.{Tree}
 use Rattle.calculus.specs.Order.{up_to}
 use Rattle.calculus.specs.Code.{code}
 use Rattle.calculus.specs.Normal.{placed_by, by_code, arranged_by, ascending}
-use Rattle.calculus.proofs.Candidates.{Every, every-append, every-each}
-
-pub every-take : {A : Type 0} (P : A → Type 0) (n : ℕ) (xs : List A) → Every P xs → Every P (take n xs)
-every-take P zero xs h = tt
-every-take P (suc n) [] h = tt
-every-take P (suc n) (x ∷ xs) h = (h.0, every-take P n xs h.1)
-
-pub every-drop : {A : Type 0} (P : A → Type 0) (n : ℕ) (xs : List A) → Every P xs → Every P (drop n xs)
-every-drop P zero xs h = h
-every-drop P (suc n) [] h = tt
-every-drop P (suc n) (x ∷ xs) h = every-drop P n xs h.1
-
-pub every-filter : {A : Type 0} (P : A → Type 0) (f : A → Bool) (xs : List A) → Every P xs → Every P (filter f xs)
-every-filter P f [] h = tt
-every-filter P f (x ∷ xs) h =
-    elim (f x) as (λ (b : Bool). Every P (cond b (x ∷ filter f xs) (filter f xs))) [ true ↦ (h.0, every-filter P f xs h.1) | false ↦ every-filter P f xs h.1 ]
-
-pub every-reverse : {A : Type 0} (P : A → Type 0) (xs : List A) → Every P xs → Every P (reverse xs)
-every-reverse P [] h = tt
-every-reverse P (x ∷ xs) h = rw (reverse_onto xs x []) (every-append P (reverse xs) (x ∷ []) (every-reverse P xs h.1) (h.0, tt))
 
 -- a second thing with its code
 abbrev Second : {A : Type 0} → (A → Type 0) → List ℕ × A → Type 0

@@ -1,13 +1,13 @@
 -- Values that are made of good ones.
 use Rattle.std.proofs.Common.{Bool, true, false, cond, List, [], ◌∷◌, map as each}
 use Rattle.std.specs.Prelude.{⊤, flat_map}
+use Rattle.list_laws.proofs.Members.{Every, every-each, every-flat}
 use Rattle.calculus.specs.Tree.{Label, bool, int, str, uri, bytes, fresh, list, tuple, set, dict, pair, Tree, node, Trees, none, also, trees}
 use Rattle.calculus.specs.Shape.{leaf, many, only, process, held, two}
 use Rattle.calculus.specs.Congruence.{congruent}
 use Rattle.calculus.specs.Normal.{ascending}
 use Rattle.calculus.specs.Operators.{is_among, distinct, key_of, value_of, last_of_key, of_set, of_map, of_list, found}
 use Rattle.calculus.specs.Methods.{as_tuple}
-use Rattle.calculus.proofs.Candidates.{Every, every-each, every-flat}
 use Rattle.unfolding_laws.proofs.Lists.{ascending-every}
 use Rattle.unfolding_laws.proofs.Goodness.{a_term, a_part, a_pair, open_slots, IsGood, AreGoodKids, AreGood, trees-good, held-good}
 

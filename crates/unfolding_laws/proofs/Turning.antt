@@ -2,13 +2,13 @@
 use Rattle.std.proofs.Common.{◌≡◌, ℕ, zero, suc, ◌+◌, ◌-◌, ◌<◌, ◌≤◌, min, List, [], ◌∷◌, ◌++◌, length, refl, subst, sym, ap, ◌∙◌, arith, inl, inr, append-nil, append_assoc}
 use Rattle.std.specs.Prelude.{⊤, leb}
 use Rattle.std.proofs.lemmas.Bool.{cond_both, leb-true, leb-false}
+use Rattle.list_laws.proofs.Members.{Every}
 use Rattle.calculus.specs.Tree.{Label, par, row, var, name_var, list, tuple, set, dict, pair, send, receive, bind, new, match, case, bundle, unary, binary, method, Tree, node, Trees, none, also, trees}
 use Rattle.calculus.specs.Shape.{leaf, listed, joined_trees}
 use Rattle.calculus.specs.Variables.{bound, bound_all, binders}
 use Rattle.calculus.specs.Normal.{ascending}
 use Rattle.calculus.specs.Substitution.{Change, changed, change, change_all}
 use Rattle.calculus.proofs.Placing.{trees-listed}
-use Rattle.calculus.proofs.Candidates.{Every}
 use Rattle.unfolding_laws.proofs.Lists.{ascending-every}
 use Rattle.unfolding_laws.proofs.Goodness.{Role, a_term, a_part, a_pair, the_terms, the_cases, a_case, the_binds, a_bind, a_pattern, Slots, each_is, these_are, any_kids, no_kids, slots}
 use Rattle.unfolding_laws.proofs.Moving.{IsOfProcess, IsWhole}

@@ -1,5 +1,6 @@
 -- Good processes unfold: with each seed there is room enough.
 use Rattle.std.proofs.Common.{◌≡◌, ℕ, suc, ◌+◌, ◌<◌, Bool, List, [], ◌∷◌, ◌++◌, reverse, arith}
+use Rattle.list_laws.proofs.Members.{Every, every-reverse}
 use Rattle.calculus.specs.Tree.{Label, par, bool, int, str, uri, bytes, fresh, list, tuple, set, dict, send, receive, new, match, bundle, unary, binary, method, Tree, node, Trees, none, also, trees}
 use Rattle.calculus.specs.Shape.{held, listed, joined_trees, at}
 use Rattle.calculus.specs.Variables.{bound}
@@ -8,9 +9,8 @@ use Rattle.calculus.specs.Outcome.{Prices, Outcome, pure, after, in_order}
 use Rattle.calculus.specs.Substitution.{Change, change, the_one, put}
 use Rattle.calculus.specs.Seeds.{digest_of, Split, Body}
 use Rattle.calculus.specs.Values.{value, values}
-use Rattle.calculus.specs.Unfolding.{Thing, opened, send_offered, unfold_part, parts_unfolded, unfold_in}
-use Rattle.calculus.proofs.Candidates.{Every}
-use Rattle.unfolding_laws.proofs.Lists.{ascending-every, every-reverse}
+use Rattle.calculus.specs.Unfolding.{Product, opened, send_offered, unfold_part, parts_unfolded, unfold_in}
+use Rattle.unfolding_laws.proofs.Lists.{ascending-every}
 use Rattle.unfolding_laws.proofs.Goodness.{Role, a_term, a_part, the_terms, each_is, IsGood, AreGoodKids, AreGood, held-good, at-good}
 use Rattle.unfolding_laws.proofs.Moving.{moved}
 use Rattle.unfolding_laws.proofs.Quiet.{good-quiet}
@@ -56,7 +56,7 @@ module _ (p : Prices) where
         (λ v x. after-comes IsAnything IsAnything (in_order (values p xs)) (λ vs. send_offered p s q (opened v) vs) (values-sure (EndsUntold p) p l xs k) (λ vs y. send-sure (EndsUntold p) p s q (opened v) vs)),
   )
 
-  pub known-ends : (o : Outcome Tree) → IsSure o → IsSure (after o (λ v. pure {A = List Thing} []))
+  pub known-ends : (o : Outcome Tree) → IsSure o → IsSure (after o (λ v. pure {A = List Product} []))
   known-ends o h = after-comes IsAnything IsAnything o (λ v. pure []) h (λ v x. tt)
 
   mutual

@@ -1,6 +1,7 @@
 -- The value of what is good is good, and known.
 use Rattle.std.proofs.Common.{ℕ, Bool, true, false, cond, ltb, List, [], ◌∷◌, length, flat_map, zip}
 use Rattle.std.specs.Prelude.{⊤}
+use Rattle.list_laws.proofs.Members.{Every}
 use Rattle.calculus.specs.declared.plain.UnaryOp.{UnaryOp}
 use Rattle.calculus.specs.declared.plain.BinaryOp.{BinaryOp}
 use Rattle.calculus.specs.declared.plain.Rights.{Rights}
@@ -14,7 +15,6 @@ use Rattle.calculus.specs.Outcome.{Prices, Answer, gives, fails, unknown, Outcom
 use Rattle.calculus.specs.Operators.{unary_answer, binary_answer, of_set, of_map}
 use Rattle.calculus.specs.Methods.{method_answer}
 use Rattle.calculus.specs.Values.{in_code_order, checked, operated, value, values}
-use Rattle.calculus.proofs.Candidates.{Every}
 use Rattle.calculus.proofs.Results.{IsOne, AreTwo, two-of}
 use Rattle.unfolding_laws.proofs.Lists.{arranged-every, ascending-every, zip-every}
 use Rattle.unfolding_laws.proofs.Goodness.{a_term, a_part, a_pair, the_terms, each_is, open_slots, IsGood, AreGoodKids, AreGood, trees-good, row-good}

@@ -41,7 +41,7 @@ returns-clause-ran g c =
     let m = g.S.Scene.meaning in
     let X : Type 0 = g.row.S-Shard.Denot in let W : Type 0 = g.row.S-Work.Denot in
     let a = at_end m _ _ _ _ _ _ _ _ _ _ c.close_with-closed.ensures.values.2 c.gather.ensures.view refl c.requires.count in
-    let is = word_is (slots_items c.close_with-closed.result.words) 66 c.word-stop_word.result c.word-stop_word.ensures in
+    let is = word_is (slots_items c.close_with-closed.result.words) 2 c.word-stop_word.result c.word-stop_word.ensures in
     let same = c.take_shards-shards.ensures.left.0 in
     let hands : List (ℕ × W) = all_of (λ s. hand s.state.token.me.0.pile) c.args.seats.items in
     let Lies : List (Slot X W) → Type 0 = λ l. LiesOn l (map things_of a.desks) in
@@ -83,7 +83,7 @@ pub returns-clause-paid : goal.returns-clause-paid
 returns-clause-paid g c =
     let m = g.S.Scene.meaning in
     let a = at_end m _ _ _ _ _ _ _ _ _ _ c.close_with-closed.ensures.values.2 c.gather.ensures.view refl c.requires.count in
-    let is = word_is (slots_items c.close_with-closed.result.words) 65 c.word-charged.result c.word-charged.ensures in
+    let is = word_is (slots_items c.close_with-closed.result.words) 1 c.word-charged.result c.word-charged.ensures in
     let t = charged_total m.price (λ s. s.state.token.me.0.tally.settled) (λ s. s.state.token.me.0.tally.fresh) c.args.seats.items in
     sym is ∙ (a.paid ∙ ap (λ (n : ℕ). c.args.hub.table.shared.key.terms.spent + n) t)
 
@@ -98,14 +98,14 @@ pub returns-clause-over : goal.returns-clause-over
 returns-clause-over g c =
     let m = g.S.Scene.meaning in
     let a = at_end m _ _ _ _ _ _ _ _ _ _ c.close_with-closed.ensures.values.2 c.gather.ensures.view refl c.requires.count in
-    let is = word_is (slots_items c.close_with-closed.result.words) 65 c.word-charged.result c.word-charged.ensures in
+    let is = word_is (slots_items c.close_with-closed.result.words) 1 c.word-charged.result c.word-charged.ensures in
     some_of (λ s. s.state.token.me.0.tally.over) _ c.args.seats.items (λ more. let q = a.over more in omega arith)
 
 pub returns-clause-stop : goal.returns-clause-stop
 returns-clause-stop g c =
     let m = g.S.Scene.meaning in
     let a = at_end m _ _ _ _ _ _ _ _ _ _ c.close_with-closed.ensures.values.2 c.gather.ensures.view refl c.requires.count in
-    let is = word_is (slots_items c.close_with-closed.result.words) 66 c.word-stop_word.result c.word-stop_word.ensures in
+    let is = word_is (slots_items c.close_with-closed.result.words) 2 c.word-stop_word.result c.word-stop_word.ensures in
     some_of (λ s. s.state.token.me.0.tally.no_memory + s.state.token.me.0.tally.fault) _ c.args.seats.items
     (λ more. stop_is (total (λ s. s.state.token.me.0.tally.no_memory) c.args.seats.items) (total (λ s. s.state.token.me.0.tally.fault) c.args.seats.items) _ _ (c.of_code-stop.ensures ∙ ap {A = ℕ} cause_at (sym is)) a.no_memory a.fault
     (let q = total_plus (λ s. s.state.token.me.0.tally.no_memory) (λ s. s.state.token.me.0.tally.fault) c.args.seats.items in omega arith))
@@ -114,12 +114,12 @@ pub returns-clause-memory : goal.returns-clause-memory
 returns-clause-memory g c =
     let m = g.S.Scene.meaning in
     let a = at_end m _ _ _ _ _ _ _ _ _ _ c.close_with-closed.ensures.values.2 c.gather.ensures.view refl c.requires.count in
-    let is = word_is (slots_items c.close_with-closed.result.words) 66 c.word-stop_word.result c.word-stop_word.ensures in
+    let is = word_is (slots_items c.close_with-closed.result.words) 2 c.word-stop_word.result c.word-stop_word.ensures in
     some_of (λ s. s.state.token.me.0.tally.no_memory) _ c.args.seats.items (λ more. c.of_code-stop.ensures ∙ ap {A = ℕ} cause_at (sym is ∙ a.no_memory more))
 
 pub returns-clause-faulty : goal.returns-clause-faulty
 returns-clause-faulty g c =
     let m = g.S.Scene.meaning in
     let a = at_end m _ _ _ _ _ _ _ _ _ _ c.close_with-closed.ensures.values.2 c.gather.ensures.view refl c.requires.count in
-    let is = word_is (slots_items c.close_with-closed.result.words) 66 c.word-stop_word.result c.word-stop_word.ensures in
+    let is = word_is (slots_items c.close_with-closed.result.words) 2 c.word-stop_word.result c.word-stop_word.ensures in
     some_of (λ s. s.state.token.me.0.tally.fault) _ c.args.seats.items (λ more. c.of_code-stop.ensures ∙ ap {A = ℕ} cause_at (sym is ∙ a.fault more))

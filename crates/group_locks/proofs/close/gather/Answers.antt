@@ -1,4 +1,4 @@
-use Rattle.std.proofs.Common.{◌≡◌, ◌∙◌, ◌+◌, ◌-◌, ◌*◌, ◌++◌, sym, ap, arith, length, length-append, [], ℕ, List, append_assoc}
+use Rattle.std.proofs.Common.{◌≡◌, ◌∙◌, ◌+◌, ◌-◌, ◌*◌, ◌++◌, ◌∷◌, sym, ap, arith, length, length-append, [], ℕ, List, append_assoc}
 use Rattle.group_locks.specs.Counts.{all_of}
 use Rattle.group_locks.specs.Rule.{view, joined, both, heaped}
 use Rattle.group_locks.specs.Works.{hand}
@@ -6,7 +6,7 @@ use Rattle.group_locks.specs.declared.view.Pile.{Pile}
 use Rattle.group_locks.specs.declared.view.View.{View}
 use Rattle.group_locks.specs.declared.view.Tally.{Tally}
 use Rattle.group_locks.proofs.Seats.{join}
-use Rattle.group_locks.proofs.Ends.{all_tail, all_of_split, total_split, joined_view, kept_alone, out_of}
+use Rattle.group_locks.proofs.Ends.{all_tail, all_of_snoc, all_of_split, total_split, joined_view, kept_alone, out_of}
 use Rattle.group_locks.proofs.close.gather.Goals as goal
 
 pub join_seat-requires : goal.join_seat-requires
@@ -21,18 +21,19 @@ join_seat-requires g c =
       join m _ _ _ _ _ _ (ap (λ x. x.0.held) i.me) here.0.1 (i.clear.3, i.clear.4) (seat.state.calm.0, seat.state.calm.1),
     )
 
-pub move_all-requires : goal.move_all-requires
-move_all-requires g c =
-    let i = c.loop-seat.invariant in let s = c.in-Some.ensures.steps in let seat = c.in-Some.seat in
-    let t = total_split (λ t. length t.state.token.me.0.entries) _ _ _ s.0 in let e = ap length seat.state.told in let r = i.room in omega arith
+pub push_reserved-requires : goal.push_reserved-requires
+push_reserved-requires g c =
+    let i = c.loop-seat.invariant in let s = c.in-Some.ensures.steps in let o = c.loop-seat.lists.ok in
+    let q = ap length s.0 in let r = i.room in omega arith
 
 pub loop-seat-preserved : goal.loop-seat-preserved
 loop-seat-preserved g c =
     let E : Type 0 = g.row.S-Entry.Denot in let X : Type 0 = g.row.S-Shard.Denot in let W : Type 0 = g.row.S-Work.Denot in
     let i = c.loop-seat.invariant in let s = c.in-Some.ensures.steps in let seat = c.in-Some.seat in
     let here = all_tail (λ t. (t.state.token.table_id ≡ c.args.token.now.table_id) × (t.state.token.me.0.held ≡ [])) _ _ _ s.0 i.each in
-    let all : List (ℕ × E) = c.loop-seat.all.items in
-    let moved : c.move_all.new.all.items ≡ all ++ seat.state.token.me.0.entries = c.move_all.ensures.items ∙ ap {A = List (ℕ × E)} (λ l. all ++ l) seat.state.told in
+    let all : List (ℕ × E) = all_of (λ t. t.items) c.loop-seat.lists.items in
+    let new : List (ℕ × E) = all_of (λ t. t.items) c.push_reserved.new.self.items in
+    let moved : new ≡ all ++ seat.state.token.me.0.entries = ap (all_of (λ t. t.items)) c.push_reserved.ensures.items ∙ (all_of_snoc (λ t. t.items) c.loop-seat.lists.items seat.state.entries ∙ ap {A = List (ℕ × E)} (λ l. all ++ l) seat.state.told) in
     let rest = c.next.new.self.rest.items in
     let n : ℕ = length c.args.seats.items - length c.loop-seat.seat-iterator.rest.items in
     let size : length c.loop-seat.seat-iterator.rest.items ≡ length rest + 1 = (let q = ap length s.0 in omega arith) in
@@ -47,8 +48,8 @@ loop-seat-preserved g c =
       left = let a = i.left in omega arith;
       me = c.join_seat.ensures.2 ∙ (ap (λ x. (joined x.0 w, x.1)) i.me ∙ (ap {A = View E X W} (λ v. (v, [])) (joined_view all t p n w seat.state.part)
           ∙ (ap {A = ℕ} (λ k. (view {E = E} {X = X} {W = W} (32 * k) (all ++ w.entries) [] [] (both t w.tally) (heaped p w.pile), [])) more ∙ ap {A = List (ℕ × E)} (λ l. (view {E = E} {X = X} {W = W} (32 * (length c.args.seats.items - length rest)) l [] [] (both t w.tally) (heaped p w.pile), [])) (sym moved)
-          ∙ ap {A = Tally E} (λ u. (view {E = E} {X = X} {W = W} (32 * (length c.args.seats.items - length rest)) c.move_all.new.all.items [] [] u (heaped p w.pile), [])) (sym tallied)
-          ∙ ap {A = Pile E W} (λ q. (view {E = E} {X = X} {W = W} (32 * (length c.args.seats.items - length rest)) c.move_all.new.all.items [] [] c.join_seat.new.seat.me.0.tally q, [])) (sym piled))));
+          ∙ ap {A = Tally E} (λ u. (view {E = E} {X = X} {W = W} (32 * (length c.args.seats.items - length rest)) new [] [] u (heaped p w.pile), [])) (sym tallied)
+          ∙ ap {A = Pile E W} (λ q. (view {E = E} {X = X} {W = W} (32 * (length c.args.seats.items - length rest)) new [] [] c.join_seat.new.seat.me.0.tally q, [])) (sym piled))));
       all = ap {A = List (ℕ × E)} (λ l. l ++ all_of (λ t. t.state.token.me.0.entries) rest) moved ∙ (append_assoc all w.entries (all_of (λ t. t.state.token.me.0.entries) rest) ∙ (ap {A = List (ℕ × E)} (λ l. all ++ l) (sym (all_of_split (λ t. t.state.token.me.0.entries) _ _ _ s.0)) ∙ i.all));
       settled = ap {A = Tally E} (λ u. u.settled ++ all_of (λ y. y.state.token.me.0.tally.settled) rest) tallied ∙ (append_assoc t.settled w.tally.settled (all_of (λ y. y.state.token.me.0.tally.settled) rest)
           ∙ (ap {A = List (ℕ × E)} (λ l. t.settled ++ l) (sym (all_of_split (λ y. y.state.token.me.0.tally.settled) _ _ _ s.0)) ∙ i.settled));
@@ -68,6 +69,6 @@ loop-seat-preserved g c =
       empty = let a = ap {A = Pile E W} (λ u. u.empty) piled in let b = total_split (λ y. y.state.token.me.0.pile.empty) _ _ _ s.0 in let d = i.empty in omega arith;
       behind = let a = ap {A = Pile E W} (λ u. u.left) piled in let b = total_split (λ y. y.state.token.me.0.pile.left) _ _ _ s.0 in let d = i.behind in omega arith;
       fetched = let a = ap {A = Pile E W} (λ u. u.fetched) piled in let b = total_split (λ y. y.state.token.me.0.pile.fetched) _ _ _ s.0 in let d = i.fetched in omega arith;
-      room = let a = ap length moved in let b = length-append all w.entries in let t = total_split (λ t. length t.state.token.me.0.entries) _ _ _ s.0 in let r = i.room in let k = c.move_all.ensures.room in omega arith;
+      room = let a = ap length c.push_reserved.ensures.items in let b = length-append c.loop-seat.lists.items (seat.state.entries ∷ []) in let r = i.room in let k = c.push_reserved.ensures.capacity in omega arith;
       each = here.1;
     }

@@ -9,8 +9,8 @@ abbrev pub invariant-loop-seat : goal.invariant-loop-seat
 invariant-loop-seat g l = record {
   table : l.token.table_id ≡ l.initial.token.table_id;
   left : length l.seat-iterator.rest.items ≤ length l.fn.seats.items;
-  me : l.token.me ≡ (view (32 * (length l.fn.seats.items - length l.seat-iterator.rest.items)) l.all.items [] [] l.token.me.0.tally l.token.me.0.pile, []);
-  all : l.all.items ++ all_of (λ s. s.state.token.me.0.entries) l.seat-iterator.rest.items ≡ all_of (λ s. s.state.token.me.0.entries) l.fn.seats.items;
+  me : l.token.me ≡ (view (32 * (length l.fn.seats.items - length l.seat-iterator.rest.items)) (all_of (λ t. t.items) l.lists.items) [] [] l.token.me.0.tally l.token.me.0.pile, []);
+  all : all_of (λ t. t.items) l.lists.items ++ all_of (λ s. s.state.token.me.0.entries) l.seat-iterator.rest.items ≡ all_of (λ s. s.state.token.me.0.entries) l.fn.seats.items;
   settled : l.token.me.0.tally.settled ++ all_of (λ s. s.state.token.me.0.tally.settled) l.seat-iterator.rest.items ≡ all_of (λ s. s.state.token.me.0.tally.settled) l.fn.seats.items;
   due : l.token.me.0.tally.due ≡ [];
   low : l.token.me.0.tally.low ≡ 0;
@@ -26,6 +26,6 @@ invariant-loop-seat g l = record {
   empty : l.token.me.0.pile.empty + total (λ s. s.state.token.me.0.pile.empty) l.seat-iterator.rest.items ≡ total (λ s. s.state.token.me.0.pile.empty) l.fn.seats.items;
   behind : l.token.me.0.pile.left + total (λ s. s.state.token.me.0.pile.left) l.seat-iterator.rest.items ≡ total (λ s. s.state.token.me.0.pile.left) l.fn.seats.items;
   fetched : l.token.me.0.pile.fetched + total (λ s. s.state.token.me.0.pile.fetched) l.seat-iterator.rest.items ≡ total (λ s. s.state.token.me.0.pile.fetched) l.fn.seats.items;
-  room : length l.all.items + total (λ s. length s.state.token.me.0.entries) l.seat-iterator.rest.items ≤ vec_capacity l.all;
+  room : length l.lists.items + length l.seat-iterator.rest.items ≤ vec_capacity l.lists;
   each : All (λ s. (s.state.token.table_id ≡ l.initial.token.table_id) × (s.state.token.me.0.held ≡ [])) l.seat-iterator.rest.items;
 }

@@ -58,4 +58,4 @@ pub returns-clause-ok : goal.returns-clause-ok
 returns-clause-ok g c =
     let h = c.take_desk.ensures.taken in let l = c.desk_out-works.ensures.left in
     let e = l.1 ∙ ap (λ a. (a.0, (c.args.desk + 64, Desk l.0) ∷ rest a.1)) h.2 in
-    c.ring.ensures.same.2 ∙ (c.give_left.ensures.left ∙ ap (λ a. (with_pile a.0 (leaves a.0.pile), rest a.1)) e)
+    c.ring_for.ensures.same.2 ∙ (c.give_left.ensures.left ∙ ap (λ a. (with_pile a.0 (leaves a.0.pile), rest a.1)) e)

@@ -7,13 +7,13 @@ loop-init g c = record { table = refl; id = refl; waits = waits_first _ }
 
 pub loop-preserved : goal.loop-preserved
 loop-preserved g c =
-    let i = c.loop.invariant in let m = c.may_go_at.ensures in let d = c.in_default.ensures in let r = c.read_pending.ensures in
+    let i = c.loop.invariant in let m = c.may_go_at.ensures in let d = c.in_default.ensures in let r = c.read_pending.ensures in let z = c.sleep_for_bell.ensures.same in
     let yes = c.if-not-may_go_at.false in
     let w = (waits_on _ _ _ i.waits m.view m.charged.0 m.charged.1 m.fresh m.clear (m.stays yes).0 (m.stays yes).1 (m.go yes).1 (m.go yes).2).0 in
     record {
-      table = r.same.0 ∙ (d.same.0 ∙ (m.same.0 ∙ i.table));
-      id = r.same.1 ∙ (d.same.1 ∙ (m.same.1 ∙ i.id));
-      waits = waits_same _ _ _ (waits_same _ _ _ w d.none) (r.some (let z = c.if-read_pending-eq0.false in omega arith));
+      table = z.0 ∙ (r.same.0 ∙ (d.same.0 ∙ (m.same.0 ∙ i.table)));
+      id = z.1 ∙ (r.same.1 ∙ (d.same.1 ∙ (m.same.1 ∙ i.id)));
+      waits = waits_same _ _ _ (waits_same _ _ _ (waits_same _ _ _ w d.none) (r.some (let y = c.if-read_pending-eq0.false in omega arith))) z.2;
     }
 
 pub returns-then-not-may_go_at-clause-view : goal.returns-then-not-may_go_at-clause-view

@@ -1,4 +1,5 @@
 use Rattle.std.proofs.Common.{◌≡◌, ◌∙◌, ◌++◌, length, ap, sym, arith}
+use Rattle.group_locks.specs.Counts.{count}
 use Rattle.group_locks.specs.Rule.{below, descends, emptied}
 use Rattle.group_locks.proofs.Offers.{length_things}
 use Rattle.group_locks.proofs.Waits.{even_left}
@@ -11,6 +12,7 @@ invariant_of-state g c = let e = c.in-Ok.ensures.ok in let s = c.args.state.now 
   told = s.told ∙ sym (ap (λ x. x.0.entries) e);
   out = ap (λ x. x.1) e ∙ (s.out ∙ sym (ap (λ x. emptied x.0.held) e));
   falls = (ap (λ x. below 64 x.0.held) e ∙ s.falls.0, ap (λ x. descends x.0.held) e ∙ s.falls.1);
+  bits = λ k lt. s.bits k lt ∙ sym (ap (λ x. count k x.0.held) e);
   part = ap (λ x. x.0.parts) e ∙ s.part;
   fresh = λ h. ap (λ x. x.0.since) e ∙ s.fresh (sym (ap (λ x. x.0.held) e) ∙ h);
   owed = ap (λ x. x.0.entries) e ∙ (s.owed ∙ sym (ap (λ x. (x.0.tally.settled ++ x.0.tally.fresh) ++ x.0.tally.due) e));

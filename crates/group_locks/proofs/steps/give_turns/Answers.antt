@@ -1,23 +1,29 @@
-use Rattle.std.proofs.Common.{sym, arith}
-use Rattle.group_locks.proofs.Groups.{giving_more, giving_on, top_of}
+use Rattle.std.proofs.Common.{sym}
+use Rattle.group_locks.proofs.SetBits.{returning_first, giving_top, is_carried, top_held, returning_less, less_without, top_bit}
 use Rattle.group_locks.proofs.steps.give_turns.Goals as goal
+
+pub loop-rest-init : goal.loop-rest-init
+loop-rest-init g c = let r = c.requires in returning_first g.S.Scene.meaning c.args.token.now _ c.args.shards r.since r.out r.falls.0 r.falls.1 r.carries r.numbers
+
+pub unreachable-requires : goal.unreachable-requires
+unreachable-requires g c =
+    let m = g.S.Scene.meaning in let l = c.ilog2-number.ensures in let k = c.ilog2-number.result in
+    let u = giving_top m c.args.token.now c.loop-rest.token _ c.loop-rest.rest k c.loop-rest.invariant l.bound l.power_le l.next_power_gt in
+    is_carried m c.args.token.now c.loop-rest.token _ k u.0 u.1 (sym c.in_default.ensures.shard)
 
 pub give_turn-requires-clause-top : goal.give_turn-requires-clause-top
 give_turn-requires-clause-top g c κs within =
-    let m = g.S.Scene.meaning in
-    top_of m _ c.loop-number.token _ c.loop-number.number c.in-Some.shard c.loop-number-test.true c.loop-number.invariant.giving (sym c.in-Some.ensures.shard)
+    let m = g.S.Scene.meaning in let l = c.ilog2-number.ensures in let k = c.ilog2-number.result in
+    let u = giving_top m c.args.token.now c.loop-rest.token _ c.loop-rest.rest k c.loop-rest.invariant l.bound l.power_le l.next_power_gt in
+    top_held m c.args.token.now c.loop-rest.token _ k c.in-Some.shard u.0 (sym c.in-Some.ensures.shard)
 
-pub loop-number-preserved-in-Some : goal.loop-number-preserved-in-Some
-loop-number-preserved-in-Some g c =
-    let m = g.S.Scene.meaning in record {
-      low = let l = c.loop-number.invariant.low in omega arith;
-      giving = giving_more m _ c.loop-number.token _ _ _ c.loop-number.number c.in-Some.shard c.loop-number-test.true c.loop-number.invariant.giving (sym c.in-Some.ensures.shard)
-          c.give_turn.ensures.same.0 c.give_turn.ensures.same.1 c.give_turn.ensures.view c.give_turn.ensures.out c.in-Some.ensures.here c.in-Some.ensures.others;
-    }
+pub loop-rest-smaller : goal.loop-rest-smaller
+loop-rest-smaller g c =
+    let l = c.ilog2-number.ensures in let k = c.ilog2-number.result in
+    less_without c.loop-rest.rest k l.bound (top_bit k c.loop-rest.rest l.power_le l.next_power_gt)
 
-pub loop-number-preserved : goal.loop-number-preserved
-loop-number-preserved g c =
-    let m = g.S.Scene.meaning in record {
-      low = let l = c.loop-number.invariant.low in omega arith;
-      giving = giving_on m _ c.loop-number.token _ _ c.loop-number.number c.loop-number-test.true c.loop-number.invariant.giving (sym c.in_default.ensures.shard) c.in_default.ensures.here c.in_default.ensures.others;
-    }
+pub loop-rest-preserved : goal.loop-rest-preserved
+loop-rest-preserved g c =
+    let m = g.S.Scene.meaning in let l = c.ilog2-number.ensures in let k = c.ilog2-number.result in let e = c.give_turn.ensures in
+    returning_less m c.args.token.now c.loop-rest.token c.give_turn.new.token _ _ c.loop-rest.rest k c.in-Some.shard c.loop-rest.invariant l.bound l.power_le l.next_power_gt (sym c.in-Some.ensures.shard)
+    e.same.0 e.same.1 e.view e.out c.in-Some.ensures.here c.in-Some.ensures.others

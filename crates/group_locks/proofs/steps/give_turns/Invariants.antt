@@ -1,12 +1,8 @@
-use Rattle.std.proofs.Common.{◌≤◌}
-use Rattle.group_locks.proofs.Loops.{Giving}
+use Rattle.group_locks.proofs.Loops.{Returning}
 use Rattle.group_locks.proofs.steps.give_turns.Given as goal
 
-abbrev pub invariant-loop-number : goal.invariant-loop-number
-invariant-loop-number g l = record {
-  low : l.number ≤ 64;
-  giving : Giving g.S.Scene.meaning l.initial.token l.token (g.S.Scene.in_hand l.held) l.number;
-}
+abbrev pub invariant-loop-rest : goal.invariant-loop-rest
+invariant-loop-rest g l = Returning g.S.Scene.meaning l.initial.token l.token (g.S.Scene.in_hand l.held) l.rest
 
-abbrev pub decreases-loop-number : goal.decreases-loop-number
-decreases-loop-number g l = l.number
+abbrev pub decreases-loop-rest : goal.decreases-loop-rest
+decreases-loop-rest g l = l.rest

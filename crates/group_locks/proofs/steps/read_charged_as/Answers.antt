@@ -15,7 +15,7 @@ load-requires g c =
     let key = c.args.board.now.key in
     let X : Type 0 = g.row.S-Shard.Denot in let W : Type 0 = g.row.S-Work.Denot in
     let opened : List X × List W = (key.shards.value.items, key.works.value.items) in
-    let Asks : ℕ → Type 0 = λ limit. Allows (HubRule m opened key.terms) slots p.id p.me 65 (λ n. n) (ReadCharged limit (step slots 65 0 0 none) p.me) in (
+    let Asks : ℕ → Type 0 = λ limit. Allows (HubRule m opened key.terms) slots p.id p.me 1 (λ n. n) (ReadCharged limit (step slots 1 0 0 none) p.me) in (
       c.requires.table.0,
       (let w = c.requires.table.1 in omega arith),
       subst Asks (sym c.requires.named) (read_charged m opened key.terms slots p.id p.me.0 p.me.1),

@@ -1,29 +1,41 @@
-use Rattle.std.proofs.Common.{◌≡◌, ◌<◌, ℕ, sym, ap, subst, arith, ◌+◌}
-use Rattle.std.specs.Int.{bit_at}
-use Rattle.group_locks.specs.Counts.{count}
-use Rattle.group_locks.proofs.Loops.{Taken}
-use Rattle.group_locks.proofs.Groups.{below_none, taken_more, taken_on, more_numbers, same_numbers}
+use Rattle.std.proofs.Common.{refl, arith, w64}
+use Rattle.std.specs.Int.{trailing_zeros}
+use Rattle.group_locks.proofs.Groups.{below_none}
+use Rattle.group_locks.proofs.SetBits.{taking_first, taking_up, taking_more, taking_end, less_without, least_bit}
 use Rattle.group_locks.proofs.steps.take_turns.Goals as goal
-use Rattle.group_locks.proofs.steps.take_turns.Goals.{then-shards-number-eq1, else-shards-number-eq1}
+
+pub loop-rest-init : goal.loop-rest-init
+loop-rest-init g c = let f = c.requires.fresh in taking_first g.S.Scene.meaning c.args.token.now _ c.args.shards f.0 f.1 f.2 c.requires.none
+
+pub take_turn-shard-requires-clause-counts : goal.take_turn-shard-requires-clause-counts
+take_turn-shard-requires-clause-counts g c κs within =
+    let n = c.loop-rest.rest in let some = c.loop-rest-test.true in let fits = c.loop-rest.auto.rest-fits in
+    let z = least_bit n (trailing_zeros w64 n) refl (omega arith) (omega arith) in (c.requires.counts, z.0)
 
 pub add-requires-clause-absent : goal.add-requires-clause-absent
-add-requires-clause-absent g c = let t = c.loop-number.invariant.taken in t.carries.1 c.loop-number.number (below_none c.loop-number.number c.loop-number.token.me.0.held t.below)
+add-requires-clause-absent g c =
+    let n = c.loop-rest.rest in let some = c.loop-rest-test.true in let fits = c.loop-rest.auto.rest-fits in
+    let z = least_bit n (trailing_zeros w64 n) refl (omega arith) (omega arith) in
+    let u = taking_up g.S.Scene.meaning c.args.token.now c.loop-rest.token _ c.args.shards n (trailing_zeros w64 n) c.loop-rest.invariant z.0 z.1 z.2 in
+    u.0.carries.1 (trailing_zeros w64 n) (below_none (trailing_zeros w64 n) c.loop-rest.token.me.0.held u.0.below)
 
-pub loop-number-preserved : goal.loop-number-preserved
-loop-number-preserved g c =
-    let m = g.S.Scene.meaning in
-    let Goal : _ → _ → Type 0 = λ q h. record {
-      taken : Taken m c.args.token.now q (g.S.Scene.in_hand h) (c.loop-number.number + 1);
-      numbers : (k : ℕ) → k < c.loop-number.number + 1 → count k q.me.0.held ≡ bit_at c.args.shards k;
-    } in
-    let i = c.loop-number.invariant in
-    elim c.if-shards-number-eq1.branch [
-      | then-shards-number-eq1 w ↦ subst (λ q. Goal q c.if-shards-number-eq1.held) (sym w.token-is) (subst (Goal w.take_turn-shard.new.token) (sym w.held-is) (record {
-        taken = taken_more m _ c.loop-number.token _ _ _ c.loop-number.number w.take_turn-shard.result i.taken w.take_turn-shard.ensures.same.0 w.take_turn-shard.ensures.same.1 w.take_turn-shard.ensures.view w.take_turn-shard.ensures.out w.add.ensures.here w.add.ensures.others;
-        numbers = more_numbers (λ k. bit_at c.args.shards k) c.loop-number.number w.take_turn-shard.result c.loop-number.token.me.0.held w.take_turn-shard.new.token.me.0.held (ap (λ v. v.held) w.take_turn-shard.ensures.view) i.taken.below i.numbers w.if-shards-number-eq1.true;
-      }))
-      | else-shards-number-eq1 w ↦ subst (λ q. Goal q c.if-shards-number-eq1.held) (sym w.token-is) (subst (Goal c.loop-number.token) (sym w.held-is) (record {
-        taken = taken_on m _ c.loop-number.token _ _ i.taken;
-        numbers = same_numbers (λ k. bit_at c.args.shards k) c.loop-number.number c.loop-number.token.me.0.held i.taken.below i.numbers (let n = w.if-shards-number-eq1.false in omega arith);
-      }))
-    ]
+pub loop-rest-smaller : goal.loop-rest-smaller
+loop-rest-smaller g c =
+    let n = c.loop-rest.rest in let some = c.loop-rest-test.true in let fits = c.loop-rest.auto.rest-fits in
+    let z = least_bit n (trailing_zeros w64 n) refl (omega arith) (omega arith) in less_without n (trailing_zeros w64 n) z.0 z.1
+
+pub loop-rest-preserved : goal.loop-rest-preserved
+loop-rest-preserved g c =
+    let n = c.loop-rest.rest in let some = c.loop-rest-test.true in let fits = c.loop-rest.auto.rest-fits in
+    let z = least_bit n (trailing_zeros w64 n) refl (omega arith) (omega arith) in
+    let e = c.take_turn-shard.ensures in
+    taking_more g.S.Scene.meaning c.args.token.now c.loop-rest.token c.take_turn-shard.new.token _ _ c.args.shards n (trailing_zeros w64 n) c.take_turn-shard.result c.loop-rest.invariant z.0 z.1 z.2
+    e.same.0 e.same.1 e.view e.out c.add.ensures.here c.add.ensures.others
+
+pub returns-clause-falls : goal.returns-clause-falls
+returns-clause-falls g c =
+    let t = taking_end g.S.Scene.meaning c.args.token.now c.loop-rest.token _ c.args.shards c.loop-rest.rest c.loop-rest.invariant (let z = c.loop-rest-test.false in omega arith) in (t.0.below, t.0.falls)
+
+pub returns-clause-numbers : goal.returns-clause-numbers
+returns-clause-numbers g c =
+    (taking_end g.S.Scene.meaning c.args.token.now c.loop-rest.token _ c.args.shards c.loop-rest.rest c.loop-rest.invariant (let z = c.loop-rest-test.false in omega arith)).1

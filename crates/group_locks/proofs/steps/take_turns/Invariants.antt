@@ -1,11 +1,8 @@
-use Rattle.std.proofs.Common.{◌≡◌, ◌<◌, ℕ}
-use Rattle.std.specs.Int.{bit_at}
-use Rattle.group_locks.specs.Counts.{count}
-use Rattle.group_locks.proofs.Loops.{Taken}
+use Rattle.group_locks.proofs.Loops.{Taking}
 use Rattle.group_locks.proofs.steps.take_turns.Given as goal
 
-abbrev pub invariant-loop-number : goal.invariant-loop-number
-invariant-loop-number g l = record {
-  taken : Taken g.S.Scene.meaning l.initial.token l.token (g.S.Scene.in_hand l.held) l.number;
-  numbers : (k : ℕ) → k < l.number → count k l.token.me.0.held ≡ bit_at l.shards k;
-}
+abbrev pub invariant-loop-rest : goal.invariant-loop-rest
+invariant-loop-rest g l = Taking g.S.Scene.meaning l.initial.token l.token (g.S.Scene.in_hand l.held) l.shards l.rest
+
+abbrev pub decreases-loop-rest : goal.decreases-loop-rest
+decreases-loop-rest g l = l.rest

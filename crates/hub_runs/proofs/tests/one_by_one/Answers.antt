@@ -1,4 +1,4 @@
-use Rattle.std.proofs.Common.{◌≡◌, ◌∙◌, ◌∷◌, [], length, length-append, ap, arith}
+use Rattle.std.proofs.Common.{◌∙◌, ◌∷◌, [], length, length-append, ap, arith}
 use Rattle.group_locks.specs.Works.{hand}
 use Rattle.group_locks.specs.Seats.{AtRest, IsIdle}
 use Rattle.group_locks.proofs.Ends.{all_tail}

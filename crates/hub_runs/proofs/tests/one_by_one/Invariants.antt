@@ -1,4 +1,4 @@
-use Rattle.std.proofs.Common.{◌≡◌, ◌+◌, [], length}
+use Rattle.std.proofs.Common.{◌≡◌, ◌+◌, length}
 use Rattle.std.specs.List.{All}
 use Rattle.group_locks.specs.Seats.{AtRest, IsIdle}
 use Rattle.hub_runs.proofs.tests.one_by_one.Given as goal

@@ -1,4 +1,3 @@
-use Rattle.std.proofs.Common.{◌≡◌}
 use Rattle.hub_runs.proofs.tests.work_and_stop.Goals as goal
 
 pub do_work-requires-clause-work : goal.do_work-requires-clause-work

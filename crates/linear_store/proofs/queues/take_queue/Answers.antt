@@ -1,5 +1,5 @@
 use Rattle.std.proofs.Common.{sym, ap}
-use Rattle.events.proofs.Orders.{unmoved}
+use Rattle.list_laws.proofs.Permutations.{unmoved}
 use Rattle.linear_store.specs.Queues.{queued}
 use Rattle.linear_store.proofs.Filed.{is_key, rows_taken, filed_taken, queue_taken, none_has_key}
 use Rattle.linear_store.proofs.queues.take_queue.Goals as goal

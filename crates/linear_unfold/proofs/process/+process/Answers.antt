@@ -6,7 +6,7 @@ use Rattle.calculus.specs.Substitution.{put}
 use Rattle.calculus.specs.Form.{IsClosed}
 use Rattle.calculus.specs.Seeds.{digest_of, Split}
 use Rattle.calculus.specs.Outcome.{Outcome}
-use Rattle.calculus.specs.Unfolding.{Thing, names_made, fresh_names, unfold_part, unfold_in}
+use Rattle.calculus.specs.Unfolding.{Product, names_made, fresh_names, unfold_part, unfold_in}
 use Rattle.rho_term.specs.Parts.{part_tree, bind_tree}
 use Rattle.linear_unfold.specs.Linear.{all_plain, is_linear, is_linear_part}
 use Rattle.linear_unfold.specs.Offers.{Went, Stopped}
@@ -23,7 +23,7 @@ offer_process-returns-in_err-offer_part t c =
     let e = c.split-inner.ensures ∙ (ap (λ n. digest_of (Split s n)) c.loop-part.invariant.number ∙ same-part s i) in
     let h = part-stopped p again s part_tree xs c.args.cap c.loop-part.work.price i _ c.split-inner.result c.part-item.result _ c.loop-part-test.true c.part-item.is e c.in_err-offer_part.ensures in
     let k = unfold-parts p (c.args.room - 1) c.args.room c.args.term.now s (map part_tree xs) (omega arith) c.parts-parts.ensures.parts c.parts-parts.ensures.normal in
-    exit _ _ _ _ c.from_residual.ensures.1 (subst (λ (o : Outcome (List Thing)). Stopped c.args.cap c.args.work.now.price o c.in_err-offer_part.field-0.0) (sym k) (c.loop-part.invariant.stopped _ h))
+    exit _ _ _ _ c.from_residual.ensures.1 (subst (λ (o : Outcome (List Product)). Stopped c.args.cap c.args.work.now.price o c.in_err-offer_part.field-0.0) (sym k) (c.loop-part.invariant.stopped _ h))
 
 pub offer_process-loop-part-preserved : goal.offer_process-loop-part-preserved
 offer_process-loop-part-preserved t c =
@@ -42,8 +42,8 @@ offer_process-returns t c =
     let p = c.args.prices.now in let again = unfold_in p (c.args.room - 1) in let s = c.args.seed.now in let xs = c.parts-parts.result.now in let i = c.loop-part.part-index in
     let n = none-left p again s part_tree xs i (omega (arith, c.loop-part-test.false)) in
     let k = unfold-parts p (c.args.room - 1) c.args.room c.args.term.now s (map part_tree xs) (omega arith) c.parts-parts.ensures.parts c.parts-parts.ensures.normal in
-    let Q = λ (o : Outcome (List Thing)). Went c.args.cap c.args.work.now.price c.loop-part.work.price c.args.work.now.offers.items c.loop-part.work.offers.items o in
-    let R = λ (o : Outcome (List Thing)). Went c.args.cap c.loop-part.work.price c.loop-part.work.price c.loop-part.work.offers.items c.loop-part.work.offers.items o in
+    let Q = λ (o : Outcome (List Product)). Went c.args.cap c.args.work.now.price c.loop-part.work.price c.args.work.now.offers.items c.loop-part.work.offers.items o in
+    let R = λ (o : Outcome (List Product)). Went c.args.cap c.loop-part.work.price c.loop-part.work.price c.loop-part.work.offers.items c.loop-part.work.offers.items o in
     subst Q (sym k) (c.loop-part.invariant.went _ _ (subst R (sym n) (went-none c.args.cap c.loop-part.work.price c.loop-part.work.offers.items c.loop-part.invariant.fits)))
 
 pub offer_process-offer_part-requires : goal.offer_process-offer_part-requires
@@ -82,7 +82,7 @@ offer_part-returns-in_err-offer_send-in-Send t c =
     let h : is_linear_part (two (send s.persistent) s.channel (many row s.args.items)) ≡ true = subst (λ q. is_linear_part (part_tree q) ≡ true) s.is c.requires.linear in
     let e = ap part_tree s.is ∙ send-of s.persistent s.channel s.args.items c.index-arg.result.now c.index-arg.ensures h in
     let u = ap (unfold_part p again d) e ∙ send-unfolds p again d s.channel c.index-arg.result.now in
-    exit _ _ _ _ c.from_residual.ensures.1 (subst (λ (o : Outcome (List Thing)). Stopped c.args.cap c.args.work.now.price o c.in_err-offer_send-in-Send.field-0.0) (sym u) c.in_err-offer_send-in-Send.ensures)
+    exit _ _ _ _ c.from_residual.ensures.1 (subst (λ (o : Outcome (List Product)). Stopped c.args.cap c.args.work.now.price o c.in_err-offer_send-in-Send.field-0.0) (sym u) c.in_err-offer_send-in-Send.ensures)
 
 pub offer_part-returns-in_ok-offer_send-in-Send : goal.offer_part-returns-in_ok-offer_send-in-Send
 offer_part-returns-in_ok-offer_send-in-Send t c =
@@ -90,7 +90,7 @@ offer_part-returns-in_ok-offer_send-in-Send t c =
     let h : is_linear_part (two (send s.persistent) s.channel (many row s.args.items)) ≡ true = subst (λ q. is_linear_part (part_tree q) ≡ true) s.is c.requires.linear in
     let e = ap part_tree s.is ∙ send-of s.persistent s.channel s.args.items c.index-arg.result.now c.index-arg.ensures h in
     let u = ap (unfold_part p again d) e ∙ send-unfolds p again d s.channel c.index-arg.result.now in
-    subst (λ (o : Outcome (List Thing)). Went c.args.cap c.args.work.now.price c.offer_send.new.work.price c.args.work.now.offers.items c.offer_send.new.work.offers.items o) (sym u) c.in_ok-offer_send-in-Send.ensures
+    subst (λ (o : Outcome (List Product)). Went c.args.cap c.args.work.now.price c.offer_send.new.work.price c.args.work.now.offers.items c.offer_send.new.work.offers.items o) (sym u) c.in_ok-offer_send-in-Send.ensures
 
 pub offer_part-offer_receive-requires-clause-linear : goal.offer_part-offer_receive-requires-clause-linear
 offer_part-offer_receive-requires-clause-linear t c =
@@ -111,7 +111,7 @@ offer_part-returns-in_err-offer_receive-in-Receive t c =
     let h : is_linear_part (two (receive s.kind) (many row (map bind_tree s.binds.items)) s.body) ≡ true = subst (λ q. is_linear_part (part_tree q) ≡ true) s.is c.requires.linear in
     let e = ap part_tree s.is ∙ receive-of s.kind s.binds.items s.body c.index-bind.result.now c.index-bind.ensures h in
     let u = ap (unfold_part p again d) e ∙ receive-unfolds p again d (bind_tree c.index-bind.result.now) s.body in
-    exit _ _ _ _ c.from_residual-in_err-offer_receive-in-Receive.ensures.1 (subst (λ (o : Outcome (List Thing)). Stopped c.args.cap c.args.work.now.price o c.in_err-offer_receive-in-Receive.field-0.0) (sym u) c.in_err-offer_receive-in-Receive.ensures)
+    exit _ _ _ _ c.from_residual-in_err-offer_receive-in-Receive.ensures.1 (subst (λ (o : Outcome (List Product)). Stopped c.args.cap c.args.work.now.price o c.in_err-offer_receive-in-Receive.field-0.0) (sym u) c.in_err-offer_receive-in-Receive.ensures)
 
 pub offer_part-returns-in_ok-offer_receive-in-Receive : goal.offer_part-returns-in_ok-offer_receive-in-Receive
 offer_part-returns-in_ok-offer_receive-in-Receive t c =
@@ -119,10 +119,10 @@ offer_part-returns-in_ok-offer_receive-in-Receive t c =
     let h : is_linear_part (two (receive s.kind) (many row (map bind_tree s.binds.items)) s.body) ≡ true = subst (λ q. is_linear_part (part_tree q) ≡ true) s.is c.requires.linear in
     let e = ap part_tree s.is ∙ receive-of s.kind s.binds.items s.body c.index-bind.result.now c.index-bind.ensures h in
     let u = ap (unfold_part p again d) e ∙ receive-unfolds p again d (bind_tree c.index-bind.result.now) s.body in
-    subst (λ (o : Outcome (List Thing)). Went c.args.cap c.args.work.now.price c.offer_receive.new.work.price c.args.work.now.offers.items c.offer_receive.new.work.offers.items o) (sym u) c.in_ok-offer_receive-in-Receive.ensures
+    subst (λ (o : Outcome (List Product)). Went c.args.cap c.args.work.now.price c.offer_receive.new.work.price c.args.work.now.offers.items c.offer_receive.new.work.offers.items o) (sym u) c.in_ok-offer_receive-in-Receive.ensures
 
 pub offer_part-returns-in_default : goal.offer_part-returns-in_default
 offer_part-returns-in_default t c =
     let p = c.args.prices.now in let again = unfold_in p c.args.room in let d = c.args.seed.now in
     let u = quiet p again d c.args.part.now c.in_default.not-Send c.in_default.not-Receive c.in_default.not-New c.requires.linear in
-    subst (λ (o : Outcome (List Thing)). Went c.args.cap c.args.work.now.price c.args.work.now.price c.args.work.now.offers.items c.args.work.now.offers.items o) (sym u) (went-none c.args.cap c.args.work.now.price c.args.work.now.offers.items c.requires.price)
+    subst (λ (o : Outcome (List Product)). Went c.args.cap c.args.work.now.price c.args.work.now.price c.args.work.now.offers.items c.args.work.now.offers.items o) (sym u) (went-none c.args.cap c.args.work.now.price c.args.work.now.offers.items c.requires.price)

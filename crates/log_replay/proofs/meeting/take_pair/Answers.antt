@@ -1,10 +1,10 @@
 use Rattle.std.proofs.Common.{◌≡◌, length, subst, arith}
 use Rattle.std.specs.Prelude.{MatchBool}
 use Rattle.std.proofs.lemmas.List.Elements.{All-head, All-tail}
+use Rattle.list_laws.proofs.Permutations.{moved_so}
 use Rattle.event_log.specs.View.{step_of}
 use Rattle.linear_store.specs.Channels.{IsOnOneChannel}
 use Rattle.linear_store.proofs.Becoming.{all_moved}
-use Rattle.events.proofs.Orders.{moved_so}
 use Rattle.log_replay.specs.Rows.{AreOnOne}
 use Rattle.log_replay.proofs.Choosing.{one_datum, no_receive, no_send, not_on_one, makes}
 use Rattle.log_replay.proofs.meeting.take_pair.Goals as goal

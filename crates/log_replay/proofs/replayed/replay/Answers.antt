@@ -2,7 +2,7 @@ use Rattle.std.proofs.Common.{sym, ◌∙◌, subst}
 use Rattle.std.specs.Prelude.{Option, IfSome}
 use Rattle.event_log.specs.View.{header_of}
 use Rattle.replays.specs.Replays.{Refusal, refused, Answers}
-use Rattle.linear_play.specs.Courses.{steps_of}
+use Rattle.event_log.specs.View.{steps_of}
 use Rattle.linear_replays.specs.Replayed.{from_nothing}
 use Rattle.log_replay.proofs.Replaying.{none-is-not-some}
 use Rattle.log_replay.proofs.replayed.replay.Goals as goal

@@ -4,7 +4,7 @@ use Rattle.calculus.specs.Log.{Step}
 use Rattle.event_log.specs.View.{header_of, step_of}
 use Rattle.event_log.specs.declared.log.LogStep.{LogStep}
 use Rattle.linear_runs.specs.Premises.{IsCalm}
-use Rattle.linear_play.specs.Courses.{steps_of}
+use Rattle.event_log.specs.View.{steps_of}
 use Rattle.replays.specs.Replays.{refused, no_run, Answers}
 use Rattle.linear_replays.specs.Replayed.{NoPairMakes, from_nothing}
 use Rattle.log_replay.specs.Courses.{IsOn}

@@ -1,5 +1,5 @@
 use Rattle.std.proofs.Common.{◌≡◌, take}
-use Rattle.linear_play.specs.Courses.{steps_of}
+use Rattle.event_log.specs.View.{steps_of}
 use Rattle.log_replay.specs.Courses.{IsOn, IsWithin}
 use Rattle.log_replay.proofs.replayed.replay_steps.Given as goal
 

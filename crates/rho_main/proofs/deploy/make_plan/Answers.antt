@@ -8,7 +8,7 @@ use Rattle.calculus.specs.Limits.{price_digest}
 use Rattle.event_log.specs.View.{step_of}
 use Rattle.linear_runs.specs.Courses.{IsRunOf}
 use Rattle.linear_runs.specs.Premises.{IsCalm}
-use Rattle.linear_play.specs.Courses.{verdict_of}
+use Rattle.run_verdict.specs.View.{verdict_of}
 use Rattle.rho_main.specs.Runs.{the_prices, Left}
 use Rattle.rho_main.proofs.Running.{left_by_source, old_left}
 use Rattle.rho_main.proofs.deploy.make_plan.Goals as goal

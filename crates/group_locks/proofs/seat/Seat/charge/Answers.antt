@@ -1,5 +1,6 @@
 use Rattle.group_locks.specs.Works.{hand}
 use Rattle.std.proofs.Common.{◌+◌, ◌%◌, ◌^◌, ◌≡◌, ◌∙◌, ◌++◌, length, sym, ap, arith, append-nil, append_assoc, length-append, false, true}
+use Rattle.group_locks.specs.Counts.{count}
 use Rattle.group_locks.specs.Rule.{below, descends, emptied}
 use Rattle.group_locks.proofs.seat.Seat.charge.Goals as goal
 
@@ -8,6 +9,7 @@ invariant_of-self g c = let e = c.pay.ensures.paid in let s = c.args.self.now.st
   told = s.told ∙ sym (ap (λ x. x.0.entries) e);
   out = ap (λ x. x.1) e ∙ (s.out ∙ sym (ap (λ x. emptied x.0.held) e));
   falls = (ap (λ x. below 64 x.0.held) e ∙ s.falls.0, ap (λ x. descends x.0.held) e ∙ s.falls.1);
+  bits = λ k lt. s.bits k lt ∙ sym (ap (λ x. count k x.0.held) e);
   part = ap (λ x. x.0.parts) e ∙ s.part;
   near = s.near;
   calm = (ap (λ x. x.0.pile.owes) e ∙ s.calm.0, ap (λ x. x.0.pile.desk) e ∙ s.calm.1, ap (λ x. x.0.pile.kept) e ∙ s.calm.2);

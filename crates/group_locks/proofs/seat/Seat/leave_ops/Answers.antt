@@ -1,5 +1,5 @@
 use Rattle.std.proofs.Common.{refl}
-use Rattle.group_locks.proofs.Leaves.{Left, left_same, left_nothing, left_back}
+use Rattle.group_locks.proofs.Leaves.{left_same, left_nothing, left_back}
 use Rattle.group_locks.proofs.seat.Seat.leave_ops.Goals as goal
 
 pub leave_at-requires-clause-table : goal.leave_at-requires-clause-table

@@ -1,7 +1,7 @@
-use Rattle.std.proofs.Common.{◌∙◌, ◌++◌, ◌+◌, ◌^◌, ◌<◌, inr, ap, arith, vec_len, vec_capacity}
+use Rattle.std.proofs.Common.{◌∙◌, ◌++◌, ◌+◌, inr, ap, arith}
 use Rattle.group_locks.specs.Works.{hand}
 use Rattle.group_locks.specs.Seats.{HasRoom}
-use Rattle.group_locks.proofs.Takes.{Looked, looked_entries, looked_held, looked_since, looked_charged, looked_taken, looked_new, looked_go, looked_idle, looked_cause}
+use Rattle.group_locks.proofs.Takes.{looked_charged, looked_taken, looked_new, looked_go, looked_idle, looked_cause}
 use Rattle.group_locks.proofs.seat.Seat.take_op.Goals as goal
 
 pub stop-requires-clause-hub : goal.stop-requires-clause-hub

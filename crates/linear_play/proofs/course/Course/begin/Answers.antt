@@ -1,6 +1,6 @@
 use Rattle.std.proofs.Common.{refl, ap}
 use Rattle.std.specs.Prelude.{None}
-use Rattle.linear_play.specs.Courses.{steps_of}
+use Rattle.event_log.specs.View.{steps_of}
 use Rattle.linear_play.proofs.Beginnings.{fault-at, on-begin}
 use Rattle.linear_play.proofs.course.Course.begin.Goals as goal
 

@@ -1,4 +1,5 @@
-use Rattle.linear_play.proofs.Endings.{is-done, left-on-channels, on-end}
+use Rattle.run_verdict.proofs.Done.{is-done}
+use Rattle.linear_play.proofs.Endings.{left-on-channels, on-end}
 use Rattle.linear_play.proofs.course.Course.end.Goals as goal
 
 pub returns-clause-channels : goal.returns-clause-channels

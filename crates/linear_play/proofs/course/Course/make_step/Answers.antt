@@ -20,7 +20,8 @@ use Rattle.linear_play.specs.declared.course.Course.{Course}
 use Rattle.linear_play.specs.Courses.{made}
 use Rattle.linear_play.proofs.Beginnings.{fault-at}
 use Rattle.linear_play.proofs.Counting.{paid_more}
-use Rattle.linear_play.proofs.Steps.{same-work, on-step}
+use Rattle.linear_work.proofs.Works.{same-work}
+use Rattle.linear_play.proofs.Steps.{on-step}
 use Rattle.linear_play.proofs.course.Course.make_step.Goals as goal
 
 pub work_body-requires-clause-linear : goal.work_body-requires-clause-linear

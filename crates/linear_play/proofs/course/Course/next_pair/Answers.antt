@@ -2,7 +2,8 @@ use Rattle.std.proofs.Common.{subst}
 use Rattle.linear_store.specs.Meetings.{Adds, Pairs, Meets}
 use Rattle.linear_store.specs.declared.store.Met.{Met}
 use Rattle.linear_runs.specs.Courses.{IsSound}
-use Rattle.linear_play.proofs.Meetings.{on-one-channel, popped-sound, stored-sound, left-sound, is-pair, on-stored, on-met}
+use Rattle.linear_runs.proofs.Storing.{on-one-channel}
+use Rattle.linear_play.proofs.Meetings.{popped-sound, stored-sound, left-sound, is-pair, on-stored, on-met}
 use Rattle.std.proofs.lemmas.List.Elements.{All-head}
 use Rattle.linear_play.proofs.course.Course.next_pair.Goals as goal
 

@@ -6,8 +6,8 @@ use Rattle.rho_term.specs.declared.op.Op.{Op}
 use Rattle.linear_store.specs.Channels.{IsOnOneChannel}
 use Rattle.replays.specs.Replays.{refused, reducible, Answers}
 use Rattle.linear_replays.specs.Replayed.{HasNoPair, from_nothing}
-use Rattle.linear_play.proofs.Endings.{is-done}
-use Rattle.linear_play.specs.Courses.{verdict_of}
+use Rattle.run_verdict.proofs.Done.{is-done}
+use Rattle.run_verdict.specs.View.{verdict_of}
 use Rattle.log_replay.specs.Least.{IsLeastPair}
 use Rattle.log_replay.proofs.Answering.{answered_end, answered_rest}
 use Rattle.log_replay.proofs.Taken.{on_channels}

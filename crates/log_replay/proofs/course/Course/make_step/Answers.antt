@@ -11,8 +11,8 @@ use Rattle.rho_term.specs.Rows.{row_of_op}
 use Rattle.linear_events.specs.Partners.{body_of, sent}
 use Rattle.linear_runs.specs.Courses.{IsSound}
 use Rattle.linear_work.proofs.Bodies.{body-linear, process-linear, together-closed}
-use Rattle.linear_play.proofs.Steps.{same-work}
-use Rattle.linear_play.specs.Courses.{verdict_of}
+use Rattle.linear_work.proofs.Works.{same-work}
+use Rattle.run_verdict.specs.View.{verdict_of}
 use Rattle.log_replay.proofs.Steps.{on_step}
 use Rattle.log_replay.proofs.course.Course.make_step.Goals as goal
 

@@ -1,0 +1,5 @@
+pub mod Answers
+pub mod Arguments
+pub mod Clap
+pub mod Commands
+pub mod Plain

@@ -1,6 +1,0 @@
-use Rattle.std.proofs.Common.{◌%◌, arith}
-use Rattle.hub_runs.proofs.Numbers.{bits}
-use Rattle.hub_runs.proofs.tests.NumbersScene.touches.Goals as goal
-
-pub returns-clause-bits : goal.returns-clause-bits
-returns-clause-bits c k lt = bits (c.args.entry.now % 64) k (omega arith)

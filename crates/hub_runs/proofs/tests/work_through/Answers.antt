@@ -1,5 +1,0 @@
-use Rattle.std.proofs.Common.{◌≡◌}
-use Rattle.hub_runs.proofs.tests.work_through.Goals as goal
-
-pub do_work-requires-clause-work : goal.do_work-requires-clause-work
-do_work-requires-clause-work g c = let t = c.in-Some-take_op.ensures.taken in (t.0, t.1, c.in-Some-take_op.ensures.new.0)

@@ -1,2 +1,0 @@
-pub mod OneTerm
-pub mod ExamplesNormal

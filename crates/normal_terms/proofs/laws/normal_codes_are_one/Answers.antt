@@ -1,5 +1,0 @@
-use Rattle.normal_terms.proofs.laws.normal_codes_are_one.Goals as goal
-use Rattle.normal_terms.proofs.OneTerm.{normal_codes_are_one}
-
-pub returns : goal.returns
-returns c = record { law = normal_codes_are_one }

@@ -1,0 +1,7 @@
+mod Found
+mod Forks
+mod Same
+mod Meets
+mod Halves
+mod Wells
+mod Grown

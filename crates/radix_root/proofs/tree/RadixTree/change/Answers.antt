@@ -1,0 +1,33 @@
+use Rattle.std.proofs.Common.{◌≡◌, ◌<◌, ℕ, List, [], ◌==◌, true, false, length, map, sym, ap, ◌∙◌, arith, Vec, Global, cond}
+use Rattle.std.specs.Str.{bytes_eq}
+use Rattle.std.proofs.lemmas.Bool.Decides.{nat_tests}
+use Rattle.sha2.proofs.Facts256.{length-sha256}
+use Rattle.radix_root.specs.Leaves.{Leaves, digest_at}
+use Rattle.radix_root.proofs.Meets.{keeps-changed, some-rows, no-rows}
+use Rattle.radix_root.proofs.Wells.{share-none}
+use Rattle.radix_root.proofs.tree.RadixTree.change.Goals as goal
+
+pub set-requires : goal.set-requires
+set-requires c =
+    record {
+      shared = share-none c.self.inside.root.depth c.args.key.now.0 c.self.inside.root.leaves c.self.invariant.depth;
+      sizes = (c.known_length.ensures, ap length c.leaf_digest-digest.ensures ∙ length-sha256 _);
+    }
+
+pub returns-then-is_empty-clause-rows : goal.returns-then-is_empty-clause-rows
+returns-then-is_empty-clause-rows c = λ f h.
+    let items : Vec ℕ Global → List ℕ = λ r. r.items in
+    let test : (length c.args.rows.now == 0) ≡ true = sym c.is_empty.ensures ∙ c.if-is_empty.true in
+    let none : length c.args.rows.now ≡ 0 = grind (arith, nat_tests) in
+    keeps-changed c.args.self.now c.remove.new.self.leaves f c.args.key.now.0 [] (map items c.args.rows.now)
+    (λ j. c.remove.ensures.groups j ∙ ap (λ (ls : Leaves). cond (bytes_eq j c.args.key.now.0) [] (digest_at ls j)) c.self.view_is)
+    (no-rows items c.args.key.now.0 c.args.rows.now none) h
+
+pub returns-clause-rows : goal.returns-clause-rows
+returns-clause-rows c = λ f h.
+    let items : Vec ℕ Global → List ℕ = λ r. r.items in
+    let test : (length c.args.rows.now == 0) ≡ false = sym c.is_empty.ensures ∙ c.if-is_empty.false in
+    let some : 0 < length c.args.rows.now = grind (arith, nat_tests) in
+    keeps-changed c.args.self.now c.set.new.self.leaves f c.args.key.now.0 c.leaf_digest-digest.result.0 (map items c.args.rows.now)
+    (λ j. c.in_ok-made.ensures.groups j ∙ ap (λ (ls : Leaves). cond (bytes_eq j c.args.key.now.0) c.leaf_digest-digest.result.0 (digest_at ls j)) c.self.view_is)
+    (c.leaf_digest-digest.ensures ∙ some-rows items c.args.key.now.0 c.args.rows.now some) h

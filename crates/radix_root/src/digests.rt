@@ -1,0 +1,65 @@
+// The digests of nodes, and the half bytes of keys.
+
+ghost use Rattle.std.specs.Prelude.{◌≡◌, ◌<◌, ◌∷◌, ◌++◌, length, map};
+ghost use Rattle.sha2.specs.Sha256.{sha256};
+ghost use Rattle.calculus.specs.Bytes.{be32, joined};
+ghost use Rattle.radix_root.specs.Leaves.{half_of};
+
+use crate::node::Node;
+use calculus::Digest;
+use sha2::{Digest as _, Sha256};
+
+// The tags that the messages of nodes begin with.
+const ONE_GROUP: u8 = 0x10;
+
+const SEVERAL_GROUPS: u8 = 0x11;
+
+/// The number as four bytes, the high one first, without its higher bits.
+fn four_bytes(n: usize) -> [u8; 4]
+    ensures { result ≡ be32 n }
+{
+    ((n % 0x1_0000_0000) as u32).to_be_bytes()
+}
+
+/// The digest of a group with this key and these codes of rows, in this order.
+pub(crate) fn leaf_digest(key: &Digest, rows: &[Vec<u8>]) -> Digest
+    ensures { result.0 ≡ sha256 (0x10 ∷ (key.now.0 ++ (be32 (length rows.now) ++ joined (map (λ r. r.items) rows.now)))) }
+{
+    let mut hasher = Sha256::new();
+    hasher.update(&[ONE_GROUP]);
+    hasher.update(&key.0);
+    hasher.update(&four_bytes(rows.len()));
+    for row in rows {
+        hasher.update(row.as_slice());
+    }
+    Digest(hasher.finalize())
+}
+
+/// The digest of several groups, from the digests that the nodes above them keep.
+pub(crate) fn fork_digest(children: &[Node]) -> Digest
+    ensures { result.0 ≡ sha256 (0x11 ∷ joined (map (λ c. c.digest) children.now)) }
+{
+    let mut hasher = Sha256::new();
+    hasher.update(&[SEVERAL_GROUPS]);
+    for child in children {
+        hasher.update(&child.digest().0);
+    }
+    Digest(hasher.finalize())
+}
+
+/// The half byte of a key at a place, the high one of each byte first.
+pub(crate) fn half_at(key: &Digest, place: u32) -> u8
+    requires { place < 64 }
+    ensures half { result ≡ half_of place key.now.0 }
+    ensures small { result < 16 }
+{
+    let byte = key.0[(place / 2) as usize];
+    if place % 2 == 0 { byte / 16 } else { byte % 16 }
+}
+
+/// Says that these are 32 bytes.
+pub(crate) fn known_length(bytes: &[u8; 32])
+    ensures { length bytes.now ≡ 32 }
+{
+    let _bytes = *bytes;
+}

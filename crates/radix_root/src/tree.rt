@@ -1,0 +1,79 @@
+ghost use Rattle.std.specs.Prelude.{◌≡◌, ◌≤◌, ℕ, List, [], map, IfOk, OnOk, OnErr};
+ghost use Rattle.calculus.specs.Rows.{Row};
+ghost use Rattle.calculus.specs.Root.{root};
+ghost use Rattle.radix_root.specs.Leaves.{Keeps, changed, groups_of};
+
+use crate::digests::{known_length, leaf_digest};
+use crate::node::Node;
+use calculus::Digest;
+use std::alloc::{AllocError, Global};
+use std::marker::Model;
+
+/// The groups of the rows of a state, by their keys, with the root of these rows.
+///
+/// The tree keeps the digest of each group, and not its rows.
+#[derive(Drop)]
+pub struct RadixTree {
+    root: Node,
+}
+
+impl Model for RadixTree {
+    ghost use Rattle.radix_root.specs.Leaves.{Leaves};
+    ghost use Rattle.radix_root.specs.Nodes.{IsNode};
+
+    ghost Value = { Leaves };
+
+    ghost view = { λ a. a.root.leaves };
+
+    ghost invariant = { λ a. IsNode 0 a.root };
+}
+
+impl RadixTree {
+    /// The tree of no rows.
+    pub fn new(alloc: Global) -> RadixTree
+        ensures { result ≡ [] }
+    {
+        RadixTree {
+            root: Node::empty(alloc, 0),
+        }
+    }
+
+    /// An equal tree, with new memory. No digest is made.
+    pub fn copy(&self, alloc: Global) -> Result<RadixTree, AllocError>
+        ensures { IfOk result (λ t. t ≡ self.now) }
+    {
+        Ok(RadixTree {
+            root: self.root.copy(alloc)?,
+        })
+    }
+
+    /// The root of the rows.
+    pub fn root(&self) -> Digest
+        ensures { (rs : List Row) → Keeps self.now (groups_of rs) → result.0 ≡ root rs }
+    {
+        self.root.digest()
+    }
+
+    /// Makes these the codes of the rows of this key, and says how many digests of nodes were made. The codes ascend,
+    /// and where there are none, the key has no rows from then on.
+    ///
+    /// The only error is want of memory, and the tree is then as it was.
+    pub fn change(
+        &mut self,
+        alloc: Global,
+        key: &Digest,
+        rows: &[Vec<u8>],
+    ) -> Result<u32, AllocError>
+        ensures rows { OnOk result ((f : List ℕ → List (List ℕ)) → Keeps self.old f → Keeps self.new (changed f key.now.0 (map (λ r. r.items) rows.now))) }
+        ensures err { OnErr result (self.new ≡ self.old) }
+        ensures made { IfOk result (λ n. n ≤ 65) }
+    {
+        if rows.is_empty() {
+            return Ok(self.root.remove(key));
+        }
+        known_length(&key.0);
+        let digest = leaf_digest(key, rows);
+        let made = self.root.set(alloc, key, &digest)?;
+        Ok(made + 1)
+    }
+}

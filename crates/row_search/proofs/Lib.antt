@@ -1,0 +1,10 @@
+pub mod Known
+pub mod Taking
+pub mod Looping
+pub mod Apart
+pub mod Sound
+pub mod Complete
+pub mod Heard
+pub mod Distinct
+pub mod Answering
+pub mod Lawful

@@ -1,0 +1,11 @@
+pub mod Growing
+pub mod Holding
+pub mod Ending
+pub mod Showing
+pub mod Owning
+pub mod Counted
+pub mod First
+pub mod Queued
+pub mod Counting
+pub mod Computed
+pub mod FirstPath
