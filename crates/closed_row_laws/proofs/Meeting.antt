@@ -180,3 +180,7 @@ meeting-closes b made s h =
 -- of rows that meet, wherever they stand
 pub rows-close : (hs : List PlacedRow) → Every (λ h. IsClosedRow h.1) hs → IfThere MeetingCloses (meet_rows hs)
 rows-close hs k = if-up MeetingFits MeetingCloses (meet_rows hs) closes (rows-meet-fits hs k)
+
+-- and they bind closed processes
+pub rows-bind : (hs : List PlacedRow) → Every (λ h. IsClosedRow h.1) hs → IfThere (λ m. Every IsClosed m.bindings) (meet_rows hs)
+rows-bind hs k = if-up MeetingFits (λ m. Every IsClosed m.bindings) (meet_rows hs) (λ m x. each-closed m.bindings x.1) (rows-meet-fits hs k)

@@ -3,15 +3,16 @@ use Rattle.std.proofs.Common.{◌≡◌, ◌∙◌, ℕ, List, [], ◌∷◌, Op
 use Rattle.std.specs.Result.{IsOkAnd}
 use Rattle.calculus.specs.Log.{log_text}
 use Rattle.rho_outside.specs.FileMap.{FileMap}
-use Rattle.rho_outside.specs.Put.{GrewBy, GrewByPart}
-use Rattle.rho_outside.specs.Kept.{with_files, PartSet}
+use Rattle.rho_outside.specs.Put.{GrewBy}
+use Rattle.rho_outside.specs.Kept.{with_files}
 use Rattle.rho_main.specs.Words.{Names}
 use Rattle.rho_main.specs.Report.{status_of}
-use Rattle.rho_main.specs.Ends.{OnVerdict, LeavesAll, LeavesSome, header_of}
+use Rattle.rho_main.specs.Ends.{OnVerdict, LeavesAll, LeavesSome, StopsOnTheWay, header_of, entries_of, bytes_of}
+use Rattle.rho_main.specs.Inputs.{Task}
 use Rattle.rho_main.specs.Plan.{IsPlan}
 use Rattle.rho_main.specs.declared.deploy.Plan.{Plan}
 use Rattle.rho_main.specs.declared.status.Status.{Status}
-use Rattle.rho_main.specs.declared.status.Status.TheVariants.{Done, Usage, ReadFault, WriteFault, Source, Log, Replay, Limit, Unbuilt, Exhausted, Faulted, NoMemory, TooLarge}
+use Rattle.rho_main.specs.declared.status.Status.TheVariants.{Done, Usage, ReadFault, WriteFault, Source, Prices, Limit, Log, Replay, Unbuilt, Exhausted, Faulted, NoMemory, TooLarge}
 
 -- what holds anyhow holds where a run ended with a verdict
 pub on_verdict : (s : Status) (P : Type 0) → P → OnVerdict s P
@@ -22,9 +23,10 @@ on_verdict (Usage u) P p = tt
 on_verdict (ReadFault i) P p = tt
 on_verdict WriteFault P p = tt
 on_verdict (Source f) P p = tt
+on_verdict (Prices f) P p = tt
+on_verdict (Limit n m) P p = tt
 on_verdict (Log f) P p = tt
 on_verdict (Replay f) P p = tt
-on_verdict (Limit n m) P p = tt
 on_verdict (Unbuilt i) P p = tt
 on_verdict NoMemory P p = tt
 on_verdict (TooLarge i n m) P p = tt
@@ -33,26 +35,33 @@ on_verdict (TooLarge i n m) P p = tt
 pub ok_and : {A E : Type 0} (P : A → Type 0) (r : Result A E) (x : A) → r ≡ Ok x → P x → IsOkAnd r P
 ok_and P r x e p = let Q = λ (s : Result _ _). IsOkAnd s P in subst Q (sym e) p
 
+-- the entries of a plan, as they are kept
+abbrev planned : Names → Plan → List (List ℕ × List ℕ)
+planned names p = (names.log, p.log.items) ∷ (names.next, p.next.items) ∷ []
+
+-- they are those of what is left
+same-entries : (names : Names) (task : Task) (p : Plan) (plan : IsPlan names.limit task p) → planned names p ≡ entries_of names task plan.left
+same-entries names task p plan =
+    ap (λ (l : List ℕ). (names.log, l) ∷ (names.next, p.next.items) ∷ []) plan.log
+    ∙ ap (λ (n : List ℕ). (names.log, log_text (header_of names.limit task) plan.left.steps) ∷ (names.next, n) ∷ []) plan.next
+
 -- a plan that was written is all that a deploy leaves
-pub leaves_all : (s : Status) (names : Names) (source : List ℕ) (p : Plan) (old mid new : Option FileMap) (before after : Option (List ℕ))
-    → IsPlan names.limit source p → s ≡ status_of p.verdict → mid ≡ old
-    → new ≡ with_files ((names.log, p.log.items) ∷ (names.next, p.next.items) ∷ []) mid → GrewBy p.line.items before after
-    → LeavesAll s names old new before after source
-leaves_all s names source p old mid new before after plan e same kept put =
-    let F = λ (l n : List ℕ) (m : Option FileMap). with_files ((names.log, l) ∷ (names.next, n) ∷ []) m in
-    let log = log_text (header_of names.limit source) plan.left.steps in
-    let files : new ≡ F log plan.left.next old = kept ∙ (ap (λ l. F l p.next.items mid) plan.log ∙ (ap (λ n. F log n mid) plan.next ∙ ap (λ m. F log plan.left.next m) same)) in
-    let bytes = λ (l : List ℕ). GrewBy l before after in
-    (plan.left, (record { run = plan.run; verdict = e ∙ ap status_of plan.verdict; old = λ n. plan.old (λ d. n (e ∙ ap status_of d)); steps = plan.steps }, (files, subst bytes plan.line put)))
+pub leaves_all : (s : Status) (names : Names) (task : Task) (p : Plan) (old mid new : Option FileMap) (before after : Option (List ℕ))
+    → IsPlan names.limit task p → s ≡ status_of p.verdict → mid ≡ old
+    → new ≡ with_files ((names.log, p.log.items) ∷ (names.next, p.next.items) ∷ []) mid → GrewBy p.bytes.items before after
+    → LeavesAll s names old new before after task
+leaves_all s names task p old mid new before after plan e same kept put =
+    let files : new ≡ with_files (entries_of names task plan.left) old = kept ∙ (ap (λ es. with_files es mid) (same-entries names task p plan) ∙ ap (with_files (entries_of names task plan.left)) same) in
+    (plan.left, (record { run = plan.run; verdict = e ∙ ap status_of plan.verdict }, (files, subst (λ (l : List ℕ). GrewBy l before after) plan.bytes put)))
 
 -- a plan that was written in part is some of what a deploy leaves
-pub leaves_some : (names : Names) (source : List ℕ) (p : Plan) (old mid new : Option FileMap) (before after : Option (List ℕ))
-    → IsPlan names.limit source p → mid ≡ old
-    → PartSet ((names.log, p.log.items) ∷ (names.next, p.next.items) ∷ []) mid new → GrewByPart p.line.items before after
-    → LeavesSome names old new before after source
-leaves_some names source p old mid new before after plan same part put =
-    let F = λ (l n : List ℕ) (m : Option FileMap). PartSet ((names.log, l) ∷ (names.next, n) ∷ []) m new in
-    let log = log_text (header_of names.limit source) plan.left.steps in
-    let files = subst (λ m. F log plan.left.next m) same (subst (λ n. F log n mid) plan.next (subst (λ l. F l p.next.items mid) plan.log part)) in
-    let bytes = λ (l : List ℕ). GrewByPart l before after in
-    (plan.left, (plan.run, (files, subst bytes plan.line put)))
+pub leaves_some : (names : Names) (task : Task) (p : Plan) (old mid new : Option FileMap) (faults_old faults_mid faults_new : ℕ) (before after : Option (List ℕ))
+    → IsPlan names.limit task p → mid ≡ old → faults_mid ≡ faults_old
+    → StopsOnTheWay ((names.log, p.log.items) ∷ (names.next, p.next.items) ∷ []) p.bytes.items mid new faults_mid faults_new before after
+    → LeavesSome names old new faults_old faults_new before after task
+leaves_some names task p old mid new f g h before after plan same count stops =
+    let F = λ (es : List (List ℕ × List ℕ)) (bytes : List ℕ) (m : Option FileMap) (k : ℕ). StopsOnTheWay es bytes m new k h before after in
+    let entries = entries_of names task plan.left in
+    let all : F entries (bytes_of plan.left) old f =
+    subst (F entries (bytes_of plan.left) old) count (subst (λ m. F entries (bytes_of plan.left) m g) same (subst (λ b. F entries b mid g) plan.bytes (subst (λ es. F es p.bytes.items mid g) (same-entries names task p plan) stops))) in
+    (plan.left, (plan.run, all))

@@ -4,9 +4,8 @@ use Rattle.std.specs.Prelude.{IsErrAnd, IsPermutation}
 use Rattle.std.specs.Result.{IsOkAnd}
 use Rattle.list_laws.proofs.Permutations.{unmoved}
 use Rattle.calculus.specs.Tree.{Tree}
-use Rattle.calculus.specs.Log.{Header, Step}
+use Rattle.calculus.specs.Log.{Step}
 use Rattle.calculus.specs.Rows.{Row}
-use Rattle.calculus.specs.Root.{root}
 use Rattle.calculus.specs.Runs.{Verdict, done, exhausted, faulted}
 use Rattle.event_log.specs.View.{header_of, step_of}
 use Rattle.replays.specs.Replays.{Refusal, header_refusal, refused, Answers}
@@ -30,54 +29,81 @@ use Rattle.log_replay.specs.declared.replayed.Replayed.{Replayed}
 use Rattle.made_names.proofs.Calm.{fresh_is_calm}
 use Rattle.rho_outside.specs.Put.{GrewBy, GrewByPart}
 use Rattle.rho_outside.specs.Kept.{with_files, PartSet}
-use Rattle.rho_main.specs.Report.{report_line, status_of}
-use Rattle.rho_main.specs.Runs.{the_prices, Left}
+use Rattle.rho_main.specs.Report.{status_of}
 use Rattle.rho_main.specs.Ends.{OnFileRefusal}
 use Rattle.rho_main.specs.Given.{IsGiven}
 use Rattle.rho_main.specs.ReplayPlans.{given_of, steps_in, AreFreshIn, IsRefusedBy, ReplayStatusOf, IsReplayStop, IsReplayPlan, IsPlanned}
 use Rattle.rho_main.specs.declared.accept.ReplayInputs.{ReplayInputs}
 use Rattle.rho_main.specs.declared.replay.ReplayPlan.{ReplayPlan}
-use Rattle.rho_main.proofs.Running.{nameless, old_left}
+use Rattle.rho_main.specs.Inputs.{empty_state, Task}
+use Rattle.made_names.specs.Names.{names_in}
+use Rattle.made_names.proofs.Sources.{sources_have_no_names}
+use Rattle.states.proofs.Computed.{state_examples}
 use Rattle.sha2.specs.Sha256.{sha256}
 use Rattle.rho_outside.specs.FileMap.{FileMap}
 use Rattle.rho_outside.specs.Told.{Told}
 use Rattle.rho_main.specs.Words.{Names}
 use Rattle.rho_main.specs.Runnable.{IsUnbuilt}
 use Rattle.rho_main.specs.Refused.{IsFaultOf, SourceCause}
-use Rattle.rho_main.specs.Replaying.{accepted_source, accepted_log, ReplayRefusedFor, IsReplayRefused, IsOutcomeLeft, IsLeftByReplay, IsLogOf, IsReplayedBy, ReplayLeavesAll, ReplayLeavesSome}
+use Rattle.rho_main.specs.Replaying.{accepted_source, accepted_log, ReplayCause, ReplayLeft, ReplayRefusedFor, IsReplayRefused, IsOutcomeLeft, IsLeftByReplay, IsLogOf, ReplayLeavesAll, ReplayLeavesSome}
 use Rattle.rho_main.specs.declared.status.Input.{Input}
-use Rattle.rho_main.specs.declared.status.Input.TheVariants.{Source}
 use Rattle.rho_main.specs.declared.status.Status.{Status}
 use Rattle.rho_main.specs.declared.status.Status.TheVariants as status
 use Rattle.rho_main.proofs.Leaving.{ok_and}
 
+-- no fresh name stands in the process of a source
+nameless : (source : List ℕ) (t : Tree) → IsSourceOf source t → names_in t ≡ []
+nameless source t s = ap names_in s.normal ∙ sources_have_no_names _ _ s.process _ s.accepted.spelt.spells
+
+-- where nothing is left, the text of the rows is the empty state
+old_left : (rows : List Op) (text : List ℕ) → text ≡ state_text (each row_of_op rows) → rows ≡ [] → text ≡ empty_state
+old_left rows text e n = e ∙ (ap (λ (rs : List Op). state_text (each row_of_op rs)) n ∙ state_examples.no_rows)
+
+-- why a source is refused is what stands against it
+pub also_cause : (source : List ℕ) (s : Status) → SourceCause source s → ReplayCause source s
+also_cause source (status.Source f) c = c
+also_cause source status.NoMemory c = tt
+also_cause source (status.Unbuilt i) c = absurd c
+also_cause source status.Done c = absurd c
+also_cause source (status.Usage u) c = absurd c
+also_cause source (status.ReadFault i) c = absurd c
+also_cause source status.WriteFault c = absurd c
+also_cause source (status.Prices f) c = absurd c
+also_cause source (status.Limit n m) c = absurd c
+also_cause source (status.Log f) c = absurd c
+also_cause source (status.Replay f) c = absurd c
+also_cause source status.Exhausted c = absurd c
+also_cause source status.Faulted c = absurd c
+also_cause source (status.TooLarge i n m) c = absurd c
+
 -- what stands against the source of a replay
-pub source_refused : (told : Option FileMap) (names : Names) (before now : ℕ) (source : List ℕ) (s : Status) → SourceCause source s
-    → Told told (λ files. accepted_source names files ≡ Ok source) → ReplayRefusedFor told names before now s
-source_refused told names before now source (status.Source f) c a = λ files e. ok_and (IsFaultOf f) (accepted_source names files) source (a files e) c
-source_refused told names before now source (status.Unbuilt i) c a =
-    subst (λ (x : Input). ReplayRefusedFor told names before now (status.Unbuilt x)) (sym c.0) (λ files e. ok_and IsUnbuilt (accepted_source names files) source (a files e) c.1)
-source_refused told names before now source status.NoMemory c a = tt
-source_refused told names before now source status.Done c a = absurd c
-source_refused told names before now source (status.Usage u) c a = absurd c
-source_refused told names before now source (status.ReadFault i) c a = absurd c
-source_refused told names before now source status.WriteFault c a = absurd c
-source_refused told names before now source (status.Log f) c a = absurd c
-source_refused told names before now source (status.Replay f) c a = absurd c
-source_refused told names before now source (status.Limit n m) c a = absurd c
-source_refused told names before now source status.Exhausted c a = absurd c
-source_refused told names before now source status.Faulted c a = absurd c
-source_refused told names before now source (status.TooLarge i n m) c a = absurd c
+pub source_refused : (told : Option FileMap) (names : Names) (before now : ℕ) (task : Task) (s : Status) → ReplayCause task.source s
+    → Told told (λ files. accepted_source names files ≡ Ok task) → ReplayRefusedFor told names before now s
+source_refused told names before now task (status.Source f) c a = λ files e. ok_and (λ (t : Task). IsFaultOf f t.source) (accepted_source names files) task (a files e) c
+source_refused told names before now task (status.Unbuilt i) c a =
+    subst (λ (x : Input). ReplayRefusedFor told names before now (status.Unbuilt x)) (sym c.0) (λ files e. ok_and (λ (t : Task). IsUnbuilt t.source) (accepted_source names files) task (a files e) c.1)
+source_refused told names before now task status.NoMemory c a = tt
+source_refused told names before now task status.Done c a = absurd c
+source_refused told names before now task (status.Usage u) c a = absurd c
+source_refused told names before now task (status.ReadFault i) c a = absurd c
+source_refused told names before now task status.WriteFault c a = absurd c
+source_refused told names before now task (status.Prices f) c a = absurd c
+source_refused told names before now task (status.Limit n m) c a = absurd c
+source_refused told names before now task (status.Log f) c a = absurd c
+source_refused told names before now task (status.Replay f) c a = absurd c
+source_refused told names before now task status.Exhausted c a = absurd c
+source_refused told names before now task status.Faulted c a = absurd c
+source_refused told names before now task (status.TooLarge i n m) c a = absurd c
 
 -- where the digests are fresh, a log of a source's process is calm
 calm-in : (r : ReplayInputs) → IsSourceOf r.inputs.source.items r.inputs.term → is_linear r.inputs.term ≡ true → AreFreshIn r
-    → IsCalm the_prices r.log.header.limit r.inputs.term (sha256 r.inputs.source.items) (steps_in r)
-calm-in r spelt linear fresh = fresh_is_calm the_prices r.log.header.limit r.inputs.term (sha256 r.inputs.source.items) (steps_in r) linear (nameless r.inputs.source.items r.inputs.term spelt) fresh
+    → IsCalm r.inputs.prices r.log.header.limit r.inputs.term (sha256 r.inputs.source.items) (steps_in r)
+calm-in r spelt linear fresh = fresh_is_calm r.inputs.prices r.log.header.limit r.inputs.term (sha256 r.inputs.source.items) (steps_in r) linear (nameless r.inputs.source.items r.inputs.term spelt) fresh
 
 module _ (r : ReplayInputs) (spelt : IsSourceOf r.inputs.source.items r.inputs.term) (linear : is_linear r.inputs.term ≡ true) (result : Result Replayed ReplayFault)
     (header : (x : Refusal) → header_refusal (given_of r) (header_of r.log.header) ≡ Some x → IsErrAnd result (λ e. refusal_of e ≡ Some x))
-    (answered : header_refusal (given_of r) (header_of r.log.header) ≡ None → IsCalm the_prices r.log.header.limit r.inputs.term (sha256 r.inputs.source.items) (steps_in r)
-    → IsAnswered the_prices r.inputs.term (sha256 r.inputs.source.items) (header_of r.log.header) (steps_in r) result) where
+    (answered : header_refusal (given_of r) (header_of r.log.header) ≡ None → IsCalm r.inputs.prices r.log.header.limit r.inputs.term (sha256 r.inputs.source.items) (steps_in r)
+    → IsAnswered r.inputs.prices r.inputs.term (sha256 r.inputs.source.items) (header_of r.log.header) (steps_in r) result) where
   module _ (f : ReplayFault) (is : result ≡ Err f) where
     answer-of : (x : Refusal) → refusal_of f ≡ Some x → (o : Option Refusal) → header_refusal (given_of r) (header_of r.log.header) ≡ o
         → (header_refusal (given_of r) (header_of r.log.header) ≡ Some x) ⊎ ((header_refusal (given_of r) (header_of r.log.header) ≡ None) × (AreFreshIn r → Answers (given_of r) (header_of r.log.header) (steps_in r) (refused x)))
@@ -85,7 +111,7 @@ module _ (r : ReplayInputs) (spelt : IsSourceOf r.inputs.source.items r.inputs.t
         inr (
           h,
           λ fresh.
-              let a = subst (λ (v : Result Replayed ReplayFault). IsAnswered the_prices r.inputs.term (sha256 r.inputs.source.items) (header_of r.log.header) (steps_in r) v) is (answered h (calm-in r spelt linear fresh)) in
+              let a = subst (λ (v : Result Replayed ReplayFault). IsAnswered r.inputs.prices r.inputs.term (sha256 r.inputs.source.items) (header_of r.log.header) (steps_in r) v) is (answered h (calm-in r spelt linear fresh)) in
               subst (λ (o : Option Refusal). IfSome o (λ y. Answers (given_of r) (header_of r.log.header) (steps_in r) (refused y))) e a,
         )
     answer-of x e (Some y) h = inl (h ∙ (sym (subst (λ (v : Result Replayed ReplayFault). IsErrAnd v (λ k. refusal_of k ≡ Some y)) is (header y h)) ∙ e))
@@ -110,12 +136,12 @@ module _ (r : ReplayInputs) (spelt : IsSourceOf r.inputs.source.items r.inputs.t
   -- what is made of what the log's replay came to
   pub replay_plan : (x : Replayed) → result ≡ Ok x → (x.verdict ≢ ending.Done → x.rows.items ≡ []) → (p : ReplayPlan) → IsPlanned r x p → IsReplayPlan r p
   replay_plan x is lost p planned =
-      let left : Left = record { steps = steps_in r; next = p.next.items; report = record { verdict = x.verdict; cost = x.cost; root = planned.digest; steps = length r.log.steps.items } } in
+      let left : ReplayLeft = record { steps = steps_in r; next = p.next.items; report = record { verdict = x.verdict; cost = x.cost; root = planned.digest; steps = length r.log.steps.items } } in
       record {
         left = left;
         steps_are = refl;
         right = right;
-        answer = λ fresh. outcome (subst (λ (v : Result Replayed ReplayFault). IsAnswered the_prices r.inputs.term (sha256 r.inputs.source.items) (header_of r.log.header) (steps_in r) v) is (answered right (calm-in r spelt linear fresh)));
+        answer = λ fresh. outcome (subst (λ (v : Result Replayed ReplayFault). IsAnswered r.inputs.prices r.inputs.term (sha256 r.inputs.source.items) (header_of r.log.header) (steps_in r) v) is (answered right (calm-in r spelt linear fresh)));
         next = refl;
         line = planned.line;
         verdict = planned.verdict;
@@ -133,8 +159,8 @@ module _ (r : ReplayInputs) (spelt : IsSourceOf r.inputs.source.items r.inputs.t
       none : verdict_of x.verdict ≢ done → x.rows.items ≡ []
       none n = lost (λ e. n (ap verdict_of e))
 
-      outcome : Replays the_prices r.inputs.term (sha256 r.inputs.source.items) (header_of r.log.header) (steps_in r) x.rows.items (verdict_of x.verdict) x.cost
-          → IsOutcomeLeft r.inputs.term (sha256 r.inputs.source.items) (header_of r.log.header) (record { steps = steps_in r; next = p.next.items; report = record { verdict = x.verdict; cost = x.cost; root = planned.digest; steps = length r.log.steps.items } })
+      outcome : Replays r.inputs.prices r.inputs.term (sha256 r.inputs.source.items) (header_of r.log.header) (steps_in r) x.rows.items (verdict_of x.verdict) x.cost
+          → IsOutcomeLeft r.inputs.prices r.inputs.term (sha256 r.inputs.source.items) (header_of r.log.header) (record { steps = steps_in r; next = p.next.items; report = record { verdict = x.verdict; cost = x.cost; root = planned.digest; steps = length r.log.steps.items } })
       outcome a =
           let moved : IsPermutation (each row_of_op x.rows.items) a.outcome.rows = left-rows (verdict_of x.verdict) x.rows.items a.outcome.rows a.left a.lost none in
           record {
@@ -152,12 +178,12 @@ ok_more : {A E : Type 0} (P Q : A → Type 0) (v : Result A E) → ((x : A) → 
 ok_more P Q (Ok x) h k = h x k
 ok_more P Q (Err e) h k = absurd k
 
--- the bytes of a source and a log, as the inputs that were read of them
-given-log : (r : ReplayInputs) (inputs : List ℕ × List ℕ) → IsGiven r inputs → IsSourceOf r.inputs.source.items r.inputs.term → IsLogOf inputs r.inputs.term (header_of r.log.header) (steps_in r)
-given-log r inputs i s = record { spelt = subst (λ (b : List ℕ). IsSourceOf b r.inputs.term) (sym i.source) s; read = i.log }
+-- what is to be run and a log, as the inputs that were read of them
+given-log : (r : ReplayInputs) (inputs : Task × List ℕ) → IsGiven r inputs → IsSourceOf r.inputs.source.items r.inputs.term → IsLogOf inputs r.inputs.term (header_of r.log.header) (steps_in r)
+given-log r inputs i s = record { spelt = subst (λ (k : Task). IsSourceOf k.source r.inputs.term) (sym i.task) s; read = i.log }
 
 -- a replay that was refused
-given-refused : (r : ReplayInputs) (inputs : List ℕ × List ℕ) (f : ReplayFault) → IsGiven r inputs → IsSourceOf r.inputs.source.items r.inputs.term → IsRefusedBy f r → IsReplayRefused f inputs
+given-refused : (r : ReplayInputs) (inputs : Task × List ℕ) (f : ReplayFault) → IsGiven r inputs → IsSourceOf r.inputs.source.items r.inputs.term → IsRefusedBy f r → IsReplayRefused f inputs
 given-refused r inputs f i s b =
     record {
       process = r.inputs.term;
@@ -166,21 +192,21 @@ given-refused r inputs f i s b =
       log = given-log r inputs i s;
       refusal = b.refusal;
       is = b.is;
-      answer = subst (λ (t : List ℕ). (header_refusal (from_nothing the_prices r.inputs.term (sha256 t)) (header_of r.log.header) ≡ Some b.refusal)
-          ⊎ ((header_refusal (from_nothing the_prices r.inputs.term (sha256 t)) (header_of r.log.header) ≡ None) × (FreshDigests the_prices r.log.header.limit r.inputs.term (sha256 t) (steps_in r) → Answers (from_nothing the_prices r.inputs.term (sha256 t)) (header_of r.log.header) (steps_in r) (refused b.refusal)))) (sym i.source) b.answer;
+      answer = subst (λ (k : Task). (header_refusal (from_nothing k.prices r.inputs.term (sha256 k.source)) (header_of r.log.header) ≡ Some b.refusal)
+          ⊎ ((header_refusal (from_nothing k.prices r.inputs.term (sha256 k.source)) (header_of r.log.header) ≡ None) × (FreshDigests k.prices r.log.header.limit r.inputs.term (sha256 k.source) (steps_in r) → Answers (from_nothing k.prices r.inputs.term (sha256 k.source)) (header_of r.log.header) (steps_in r) (refused b.refusal)))) (sym i.task) b.answer;
     }
 
 -- a replay that left this
-given-left : (r : ReplayInputs) (inputs : List ℕ × List ℕ) (p : ReplayPlan) (plan : IsReplayPlan r p) → IsGiven r inputs → IsSourceOf r.inputs.source.items r.inputs.term → IsLeftByReplay inputs plan.left
+given-left : (r : ReplayInputs) (inputs : Task × List ℕ) (p : ReplayPlan) (plan : IsReplayPlan r p) → IsGiven r inputs → IsSourceOf r.inputs.source.items r.inputs.term → IsLeftByReplay inputs plan.left
 given-left r inputs p plan i s =
     record {
       process = r.inputs.term;
       header = header_of r.log.header;
       log = subst (λ (ss : List Step). IsLogOf inputs r.inputs.term (header_of r.log.header) ss) (sym plan.steps_are) (given-log r inputs i s);
-      right = subst (λ (t : List ℕ). header_refusal (from_nothing the_prices r.inputs.term (sha256 t)) (header_of r.log.header) ≡ None) (sym i.source) plan.right;
+      right = subst (λ (k : Task). header_refusal (from_nothing k.prices r.inputs.term (sha256 k.source)) (header_of r.log.header) ≡ None) (sym i.task) plan.right;
       answer = λ fresh.
-          let f : AreFreshIn r = subst (λ (t : List ℕ). FreshDigests the_prices r.log.header.limit r.inputs.term (sha256 t) (steps_in r)) i.source (subst (λ (ss : List Step). FreshDigests the_prices r.log.header.limit r.inputs.term (sha256 inputs.0) ss) plan.steps_are fresh) in
-          subst (λ (t : List ℕ). IsOutcomeLeft r.inputs.term (sha256 t) (header_of r.log.header) plan.left) (sym i.source) (plan.answer f);
+          let f : AreFreshIn r = subst (λ (k : Task). FreshDigests k.prices r.log.header.limit r.inputs.term (sha256 k.source) (steps_in r)) i.task (subst (λ (ss : List Step). FreshDigests inputs.0.prices r.log.header.limit r.inputs.term (sha256 inputs.0.source) ss) plan.steps_are fresh) in
+          subst (λ (k : Task). IsOutcomeLeft k.prices r.inputs.term (sha256 k.source) (header_of r.log.header) plan.left) (sym i.task) (plan.answer f);
     }
 
 module _ (told : Option FileMap) (names : Names) (r : ReplayInputs) (spelt : IsSourceOf r.inputs.source.items r.inputs.term) (accepted : Told told (λ files. IsOkAnd (accepted_log names files) (IsGiven r))) where
@@ -194,6 +220,7 @@ module _ (told : Option FileMap) (names : Names) (r : ReplayInputs) (spelt : IsS
   stop_refused before now status.WriteFault b = absurd b
   stop_refused before now (status.Source f) b = absurd b
   stop_refused before now (status.Log f) b = absurd b
+  stop_refused before now (status.Prices f) b = absurd b
   stop_refused before now (status.Limit n m) b = absurd b
   stop_refused before now (status.Unbuilt i) b = absurd b
   stop_refused before now status.Exhausted b = absurd b

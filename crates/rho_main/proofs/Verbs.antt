@@ -1,8 +1,6 @@
 -- Words are those of one verb at most: a deploy has twelve of them, and a replay ten.
-use Rattle.std.proofs.Common.{◌≡◌, ◌∙◌, ℕ, Bool, true, false, not, ◌&&◌, List, [], ◌∷◌, Option, Some, None, refl, sym}
-use Rattle.std.specs.Prelude.{if◌then◌else◌}
-use Rattle.std.specs.Str.{bytes_eq}
-use Rattle.rho_main.specs.Words.{Names, are_fixed_in_replay, names_in, replay_names_in}
+use Rattle.std.proofs.Common.{◌≡◌, ◌∙◌, ℕ, List, [], ◌∷◌, Option, Some, None, refl, sym}
+use Rattle.rho_main.specs.Words.{Names, names_in, replay_names_in}
 
 -- a value is not none
 no_value : (n : Names) (o : Option Names) → o ≡ None → o ≡ Some n → ⊥
@@ -39,22 +37,3 @@ no_replay (w0 ∷ w1 ∷ w2 ∷ w3 ∷ w4 ∷ w5 ∷ w6 ∷ w7 ∷ w8 ∷ w9 ∷
 no_replay (w0 ∷ w1 ∷ w2 ∷ w3 ∷ w4 ∷ w5 ∷ w6 ∷ w7 ∷ w8 ∷ w9 ∷ w10 ∷ []) n h = absurd (no_value n None refl h)
 no_replay (w0 ∷ w1 ∷ w2 ∷ w3 ∷ w4 ∷ w5 ∷ w6 ∷ w7 ∷ w8 ∷ w9 ∷ w10 ∷ w11 ∷ []) n h = refl
 no_replay (w0 ∷ w1 ∷ w2 ∷ w3 ∷ w4 ∷ w5 ∷ w6 ∷ w7 ∷ w8 ∷ w9 ∷ w10 ∷ w11 ∷ w12 ∷ ws) n h = absurd (no_value n None refl h)
-
--- the words of a replay give no limit
-pub no_limit : (ws : List (List ℕ)) (n : Names) → replay_names_in ws ≡ Some n → n.limit ≡ 0
-no_limit (verb ∷ source ∷ a ∷ state ∷ b ∷ prices ∷ c ∷ log ∷ d ∷ next ∷ []) n h = go (are_fixed_in_replay verb a b c d && not (bytes_eq log next)) h
-  where
-    go : (t : Bool) → (if t then Some (record { source = source; state = state; prices = prices; limit = 0; log = log; next = next }) else None) ≡ Some n → n.limit ≡ 0
-    go true e = cc
-    go false e = absurd (no_value n None refl e)
-no_limit [] n h = absurd (no_value n None refl h)
-no_limit (w0 ∷ []) n h = absurd (no_value n None refl h)
-no_limit (w0 ∷ w1 ∷ []) n h = absurd (no_value n None refl h)
-no_limit (w0 ∷ w1 ∷ w2 ∷ []) n h = absurd (no_value n None refl h)
-no_limit (w0 ∷ w1 ∷ w2 ∷ w3 ∷ []) n h = absurd (no_value n None refl h)
-no_limit (w0 ∷ w1 ∷ w2 ∷ w3 ∷ w4 ∷ []) n h = absurd (no_value n None refl h)
-no_limit (w0 ∷ w1 ∷ w2 ∷ w3 ∷ w4 ∷ w5 ∷ []) n h = absurd (no_value n None refl h)
-no_limit (w0 ∷ w1 ∷ w2 ∷ w3 ∷ w4 ∷ w5 ∷ w6 ∷ []) n h = absurd (no_value n None refl h)
-no_limit (w0 ∷ w1 ∷ w2 ∷ w3 ∷ w4 ∷ w5 ∷ w6 ∷ w7 ∷ []) n h = absurd (no_value n None refl h)
-no_limit (w0 ∷ w1 ∷ w2 ∷ w3 ∷ w4 ∷ w5 ∷ w6 ∷ w7 ∷ w8 ∷ []) n h = absurd (no_value n None refl h)
-no_limit (w0 ∷ w1 ∷ w2 ∷ w3 ∷ w4 ∷ w5 ∷ w6 ∷ w7 ∷ w8 ∷ w9 ∷ w10 ∷ ws) n h = absurd (no_value n None refl h)

@@ -1,14 +1,20 @@
--- What a replay was given.
+-- What a deploy and a replay were given.
 use Rattle.std.specs.Prelude.{◌≡◌, ℕ, List, map, Ok, Err, ⊤}
 use Rattle.event_log.specs.Reading.{log_of}
 use Rattle.event_log.specs.View.{header_of, step_of}
+use Rattle.rho_main.specs.Inputs.{Task}
+use Rattle.rho_main.specs.declared.accept.Inputs.{Inputs}
 use Rattle.rho_main.specs.declared.accept.ReplayInputs.{ReplayInputs}
 use Rattle.rho_main.specs.declared.status.Status.{Status}
 use Rattle.rho_main.specs.declared.status.Status.TheVariants as status
 
--- these are the bytes of the source and of the log
-pub record IsGiven (r : ReplayInputs) (inputs : List ℕ × List ℕ) : Type 0 where
-  pub source : inputs.0 ≡ r.inputs.source.items
+-- what is to be run of these inputs
+abbrev pub task_of : Inputs → Task
+task_of i = record { prices = i.prices; source = i.source.items }
+
+-- this is what is to be run, and these are the bytes of the log
+pub record IsGiven (r : ReplayInputs) (inputs : Task × List ℕ) : Type 0 where
+  pub task : inputs.0 ≡ task_of r.inputs
   pub log : log_of inputs.1 ≡ Ok (header_of r.log.header, map step_of r.log.steps.items)
 
 -- why the bytes of a log are refused

@@ -1,11 +1,14 @@
 -- What a deploy makes of the files that it is given, before it runs.
-use Rattle.std.specs.Prelude.{ℕ, ◌*◌, nat_le, ◌&&◌, if◌then◌else◌, List, [], ◌∷◌, ◌++◌, length, replicate, codes, Result, Ok, Err, Option, Some, None}
+use Rattle.std.specs.Prelude.{ℕ, nat_le, ◌&&◌, if◌then◌else◌, List, ◌∷◌, ◌++◌, length, replicate, codes, Result, Ok, Err, Option, Some, None}
 use Rattle.std.specs.Str.{bytes_eq}
+use Rattle.calculus.specs.Limits.{most_limit}
+use Rattle.calculus.specs.Outcome.{Prices as PriceTable}
+use Rattle.phlo_meter.specs.PriceTable as meter
+use Rattle.phlo_meter.specs.PriceTable.{prices_of}
 use Rattle.rho_outside.specs.FileMap.{FileMap}
 use Rattle.rho_main.specs.declared.status.Input.{Input}
 use Rattle.rho_main.specs.declared.status.Input.TheVariants.{State, Prices, Source, Log}
 use Rattle.rho_main.specs.Words.{Names}
-use Rattle.rho_main.specs.Runs.{the_prices}
 
 -- the greatest number of bytes of an input
 abbrev pub size_limit : Input → ℕ
@@ -21,12 +24,13 @@ name_of names Prices = names.prices
 name_of names Source = names.source
 name_of names Log = names.log
 
--- why files are refused: one is missing, is too large or has a form that is not built yet, or the limit is out of range
+-- why files are refused: one is missing, is too large or has a form that is not built yet, the price text gives no prices, or the limit is out of range, the greatest one being this
 pub data Refusal : Type 0 where
   missing : Input → Refusal
   too_large : Input → Refusal
   unbuilt : Input → Refusal
-  bad_limit : Refusal
+  bad_prices : meter.Refusal → Refusal
+  bad_limit : ℕ → Refusal
 
 infixl 10 ◌>>=◌
 -- one thing and, where it is not refused, the next
@@ -51,34 +55,41 @@ only input wanted bytes = if bytes_eq bytes wanted then Ok bytes else Err (unbui
 abbrev pub empty_state : List ℕ
 empty_state = codes "RHOSTATE" ++ (1 ∷ replicate 40 0)
 
--- a line of a text
-abbrev pub line : List ℕ → List ℕ
-line text = text ++ 10 ∷ []
+-- prices, or what a price text is refused for
+abbrev pub or_refused : Result PriceTable meter.Refusal → Result PriceTable Refusal
+or_refused (Ok prices) = Ok prices
+or_refused (Err r) = Err (bad_prices r)
 
--- the one price text that is read so far
-abbrev pub price_text : List ℕ
-price_text = line (codes "comm = 10") ++ (line (codes "send = 3") ++ (line (codes "receive = 4") ++ (line (codes "name = 2") ++ (line (codes "case = 1") ++ (line (codes "op = 1") ++ line (codes "byte = 0"))))))
+-- the prices that a text gives
+abbrev pub priced : List ℕ → Result PriceTable Refusal
+priced text = or_refused (prices_of text)
 
--- the greatest limit of a deploy
-abbrev pub most_limit : ℕ
-most_limit = the_prices.comm * 1048576
+-- these prices, where the limit is in range under them
+abbrev pub in_range : ℕ → PriceTable → Result PriceTable Refusal
+in_range limit prices = if nat_le 1 limit && nat_le limit (most_limit prices) then Ok prices else Err (bad_limit (most_limit prices))
 
--- a limit in range
-abbrev pub in_range : ℕ → Result ℕ Refusal
-in_range limit = if nat_le 1 limit && nat_le limit most_limit then Ok limit else Err bad_limit
+-- what is to be run: the prices, and the bytes of the source
+pub record Task : Type 0 where
+  pub prices : PriceTable
+  pub source : List ℕ
+
+-- a source under prices
+abbrev pub with_prices : PriceTable → Result (List ℕ) Refusal → Result Task Refusal
+with_prices prices (Ok source) = Ok (record { prices = prices; source = source })
+with_prices prices (Err r) = Err r
 
 -- the state's bytes, or the first refusal
 abbrev pub accepted_state : Names → FileMap → Result (List ℕ) Refusal
 accepted_state names files = given names files State >>= only State empty_state
 
--- the state and then the price text
-abbrev pub accepted_prices : Names → FileMap → Result (List ℕ) Refusal
-accepted_prices names files = accepted_state names files >>= (λ state. given names files Prices >>= only Prices price_text)
+-- the state and then the prices
+abbrev pub accepted_prices : Names → FileMap → Result PriceTable Refusal
+accepted_prices names files = accepted_state names files >>= (λ state. given names files Prices >>= priced)
 
 -- these and then the limit
-abbrev pub accepted_limit : Names → FileMap → Result ℕ Refusal
-accepted_limit names files = accepted_prices names files >>= (λ prices. in_range names.limit)
+abbrev pub accepted_limit : Names → FileMap → Result PriceTable Refusal
+accepted_limit names files = accepted_prices names files >>= in_range names.limit
 
 -- these and then the source's bytes
-abbrev pub accepted : Names → FileMap → Result (List ℕ) Refusal
-accepted names files = accepted_limit names files >>= (λ limit. given names files Source)
+abbrev pub accepted : Names → FileMap → Result Task Refusal
+accepted names files = accepted_limit names files >>= (λ prices. with_prices prices (given names files Source))

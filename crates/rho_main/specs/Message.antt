@@ -1,12 +1,15 @@
 -- The exit status and the message of a status.
 use Rattle.std.specs.Prelude.{ℕ, List, [], ◌++◌, codes, decimal, string_bytes}
 use Rattle.std.specs.List.{join_by}
+use Rattle.std.specs.Fmt.{signed_decimal}
 use Rattle.hex.specs.Hex.{encode_lower}
 use Rattle.calculus.specs.declared.ids.Digest.{Digest}
 use Rattle.event_log.specs.declared.fault.LogFault.{LogFault}
 use Rattle.event_log.specs.declared.fault.LogFault.TheVariants as logged
 use Rattle.log_replay.specs.declared.fault.ReplayFault.{ReplayFault}
 use Rattle.log_replay.specs.declared.fault.ReplayFault.TheVariants as replayed
+use Rattle.phlo_meter.specs.declared.fault.PriceFault.{PriceFault}
+use Rattle.phlo_meter.specs.declared.fault.PriceFault.TheVariants as faults
 use Rattle.rho_lexer.specs.declared.token.LexFault.{LexFault}
 use Rattle.rho_lexer.specs.declared.token.LexFault.TheVariants as lexical
 use Rattle.rho_parser.specs.declared.parse_fault.ParseFault.{ParseFault}
@@ -29,6 +32,7 @@ code_of (status.Usage u) = 2
 code_of (status.ReadFault i) = 3
 code_of status.WriteFault = 4
 code_of (status.Source f) = 6
+code_of (status.Prices f) = 7
 code_of (status.Limit n m) = 7
 code_of (status.Log f) = 8
 code_of (status.Replay f) = 9
@@ -82,6 +86,15 @@ source_text (source.Lex fault) = lex_text fault
 source_text (source.Parse fault) = parse_text fault
 source_text (source.Scope fault) = scope_text fault
 
+-- the same of what a price text is refused for
+abbrev pub price_text : PriceFault → List ℕ
+price_text faults.NotToml = codes "NotToml"
+price_text (faults.MissingKey key) = codes "MissingKey key=" ++ string_bytes key
+price_text (faults.NotInteger key) = codes "NotInteger key=" ++ string_bytes key
+price_text (faults.OutOfRange key value) = codes "OutOfRange key=" ++ (string_bytes key ++ (codes " value=" ++ signed_decimal value))
+price_text (faults.UnknownKey key) = codes "UnknownKey key=" ++ string_bytes key
+price_text faults.NoMemory = codes "NoMemory"
+
 -- the same of what the bytes of a log are refused for
 abbrev pub log_text : LogFault → List ℕ
 log_text (logged.Short at) = codes "Short at=" ++ decimal at
@@ -115,9 +128,10 @@ message_of (status.Usage u) = codes "rho: usage: " ++ usage_name u
 message_of (status.ReadFault i) = codes "rho: read: ReadFault input=" ++ input_name i
 message_of status.WriteFault = codes "rho: write: WriteFault"
 message_of (status.Source f) = codes "rho: source: " ++ source_text f
+message_of (status.Prices f) = codes "rho: prices: " ++ price_text f
+message_of (status.Limit n m) = codes "rho: prices: Limit limit=" ++ (decimal n ++ (codes " most=" ++ decimal m))
 message_of (status.Log f) = codes "rho: log: " ++ log_text f
 message_of (status.Replay f) = codes "rho: replay: " ++ replay_text f
-message_of (status.Limit n m) = codes "rho: prices: Limit limit=" ++ (decimal n ++ (codes " most=" ++ decimal m))
 message_of (status.Unbuilt i) = codes "rho: unbuilt: Unbuilt input=" ++ input_name i
 message_of status.Exhausted = []
 message_of status.Faulted = []

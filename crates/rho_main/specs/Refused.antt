@@ -1,5 +1,8 @@
 -- When a deploy ends before it runs.
-use Rattle.std.specs.Prelude.{◌≡◌, ℕ, ◌<◌, ◌⊎◌, List, IsOk, IsOkAnd, Err, Option, Some, None, ⊤}
+use Rattle.std.specs.Prelude.{◌≡◌, ℕ, ◌<◌, ◌⊎◌, List, IsOk, IsOkAnd, Err, Option, Some, None, ⊤, string_bytes}
+use Rattle.phlo_meter.specs.PriceTable as meter
+use Rattle.phlo_meter.specs.declared.fault.PriceFault.{PriceFault}
+use Rattle.phlo_meter.specs.declared.fault.PriceFault.TheVariants as faults
 use Rattle.sources.specs.Faults.{refusal_of}
 use Rattle.sources.specs.Sources as sources
 use Rattle.sources.specs.declared.fault.SourceFault.{SourceFault}
@@ -7,8 +10,7 @@ use Rattle.rho_outside.specs.FileMap.{FileMap, Lacks, GivesAtLeast}
 use Rattle.rho_outside.specs.Causes.{Rose}
 use Rattle.rho_outside.specs.Told.{Told}
 use Rattle.rho_main.specs.Words.{Names}
-use Rattle.rho_main.specs.Runnable.{IsUnbuilt}
-use Rattle.rho_main.specs.Inputs.{Refusal, missing, too_large, unbuilt, bad_limit, name_of, size_limit, most_limit, accepted_state, accepted_limit, accepted}
+use Rattle.rho_main.specs.Inputs.{Refusal, missing, too_large, unbuilt, bad_prices, bad_limit, priced, name_of, size_limit, accepted_state, accepted_limit, accepted}
 use Rattle.rho_main.specs.declared.status.Input.{Input}
 use Rattle.rho_main.specs.declared.status.Input.TheVariants.{State, Prices, Source, Log}
 use Rattle.rho_main.specs.declared.status.Status.{Status}
@@ -28,14 +30,33 @@ InputCause told name max input before now (status.TooLarge i seen most) = (i ≡
 InputCause told name max input before now status.NoMemory = ⊤
 InputCause told name max input before now _ = ⊥
 
+-- what a price text is refused for that has this fault; nothing where memory ran out
+abbrev pub price_refusal : PriceFault → Option meter.Refusal
+price_refusal faults.NotToml = Some meter.not_toml
+price_refusal (faults.MissingKey key) = Some (meter.missing (string_bytes key))
+price_refusal (faults.NotInteger key) = Some (meter.not_integer (string_bytes key))
+price_refusal (faults.OutOfRange key value) = Some (meter.out_of_range (string_bytes key) value)
+price_refusal (faults.UnknownKey key) = Some (meter.unknown (string_bytes key))
+price_refusal faults.NoMemory = None
+
+-- a refusal of files is that of a price text with this fault
+abbrev pub IsPriceFault : PriceFault → Refusal → Type 0
+IsPriceFault f (bad_prices r) = price_refusal f ≡ Some r
+IsPriceFault f _ = ⊥
+
+-- why a text gives no prices
+abbrev pub PriceCause : List ℕ → Status → Type 0
+PriceCause text (status.Prices f) = (r : Refusal) × (IsPriceFault f r × (priced text ≡ Err r))
+PriceCause text status.NoMemory = ⊤
+PriceCause text _ = ⊥
+
 -- a fault is what a source is refused for
 abbrev pub IsFaultOf : SourceFault → List ℕ → Type 0
 IsFaultOf f source = (r : sources.Refusal) × ((refusal_of f ≡ Some r) × sources.IsRefused source r)
 
--- why a source is refused, or is not built yet
+-- why a source is refused
 abbrev pub SourceCause : List ℕ → Status → Type 0
 SourceCause source (status.Source f) = IsFaultOf f source
-SourceCause source (status.Unbuilt i) = (i ≡ Source) × IsUnbuilt source
 SourceCause source status.NoMemory = ⊤
 SourceCause source _ = ⊥
 
@@ -43,10 +64,10 @@ SourceCause source _ = ⊥
 abbrev pub RefusedFor : Option FileMap → Names → ℕ → ℕ → Status → Type 0
 RefusedFor told names before now (status.ReadFault input) = (Rose before now ⊎ Lacks told (name_of names input)) × Reaches told names input
 RefusedFor told names before now (status.TooLarge input seen max) = (max ≡ size_limit input) × ((max < seen) × (GivesAtLeast told (name_of names input) seen × Told told (λ files. accepted names files ≡ Err (too_large input))))
-RefusedFor told names before now (status.Unbuilt Source) = Told told (λ files. IsOkAnd (accepted names files) IsUnbuilt)
-RefusedFor told names before now (status.Source f) = Told told (λ files. IsOkAnd (accepted names files) (IsFaultOf f))
 RefusedFor told names before now (status.Unbuilt input) = Told told (λ files. accepted names files ≡ Err (unbuilt input))
-RefusedFor told names before now (status.Limit limit most) = (limit ≡ names.limit) × ((most ≡ most_limit) × Told told (λ files. accepted names files ≡ Err bad_limit))
+RefusedFor told names before now (status.Prices f) = Told told (λ files. (r : Refusal) × (IsPriceFault f r × (accepted names files ≡ Err r)))
+RefusedFor told names before now (status.Limit limit most) = (limit ≡ names.limit) × Told told (λ files. accepted names files ≡ Err (bad_limit most))
+RefusedFor told names before now (status.Source f) = Told told (λ files. IsOkAnd (accepted names files) (λ task. IsFaultOf f task.source))
 RefusedFor told names before now status.NoMemory = ⊤
 RefusedFor told names before now _ = ⊥
 
@@ -56,7 +77,8 @@ Says refusal status.NoMemory = ⊤
 Says (missing input) (status.ReadFault i) = i ≡ input
 Says (too_large input) (status.TooLarge i seen max) = i ≡ input
 Says (unbuilt input) (status.Unbuilt i) = i ≡ input
-Says bad_limit (status.Limit limit most) = ⊤
+Says (bad_prices r) (status.Prices f) = price_refusal f ≡ Some r
+Says (bad_limit most) (status.Limit limit m) = m ≡ most
 Says _ _ = ⊥
 
 -- the status of a fault of a source: want of memory where it says no refusal
@@ -64,24 +86,21 @@ abbrev pub StatusOf : SourceFault → Option sources.Refusal → Status → Type
 StatusOf f None s = s ≡ status.NoMemory
 StatusOf f (Some r) s = s ≡ status.Source f
 
+-- the status of a fault of a price text: want of memory where it says no refusal
+abbrev pub PriceStatusOf : PriceFault → Option meter.Refusal → Status → Type 0
+PriceStatusOf f None s = s ≡ status.NoMemory
+PriceStatusOf f (Some r) s = s ≡ status.Prices f
+
 -- a status says this refusal of a source; want of memory may stand in its place
 abbrev pub SaysSource : sources.Refusal → Status → Type 0
 SaysSource r status.NoMemory = ⊤
 SaysSource r (status.Source f) = refusal_of f ≡ Some r
 SaysSource r _ = ⊥
 
--- a status says that the form of the source is not built yet; want of memory may stand in its place
-abbrev pub SaysUnbuilt : Status → Type 0
-SaysUnbuilt status.NoMemory = ⊤
-SaysUnbuilt (status.Unbuilt i) = i ≡ Source
-SaysUnbuilt _ = ⊥
+-- a status says what a source is refused for, if it is refused
+abbrev pub SaysOf : List ℕ → Status → Type 0
+SaysOf source s = (r : sources.Refusal) → sources.IsRefused source r → SaysSource r s
 
--- a status says what stands against a source, if anything does
-pub record SaysOf (source : List ℕ) (s : Status) : Type 0 where
-  pub refused : (r : sources.Refusal) → sources.IsRefused source r → SaysSource r s
-  pub unbuilt : IsUnbuilt source → SaysUnbuilt s
-
--- nothing stands against a source
-pub record IsFree (source : List ℕ) : Type 0 where
-  pub refused : (r : sources.Refusal) → sources.IsRefused source r → ⊥
-  pub unbuilt : IsUnbuilt source → ⊥
+-- a source is refused for nothing
+abbrev pub IsFree : List ℕ → Type 0
+IsFree source = (r : sources.Refusal) → sources.IsRefused source r → ⊥

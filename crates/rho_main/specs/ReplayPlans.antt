@@ -1,7 +1,7 @@
 -- What a plan of a replay holds.
 use Rattle.std.specs.Prelude.{◌≡◌, ◌≢◌, ◌⊎◌, ℕ, List, length, map, Option, Some, None, ⊤}
 use Rattle.sha2.specs.Sha256.{sha256}
-use Rattle.calculus.specs.Log.{Header, Step}
+use Rattle.calculus.specs.Log.{Step}
 use Rattle.replays.specs.Replays.{Given, Refusal, refused, header_refusal, Answers}
 use Rattle.event_log.specs.View.{header_of, step_of}
 use Rattle.events.specs.Events.{FreshDigests}
@@ -14,8 +14,7 @@ use Rattle.rho_term.specs.Rows.{row_of_op}
 use Rattle.log_replay.specs.declared.replayed.Replayed.{Replayed}
 use Rattle.rho_main.specs.Inputs.{empty_state}
 use Rattle.rho_main.specs.Report.{report_line}
-use Rattle.rho_main.specs.Runs.{the_prices, Left}
-use Rattle.rho_main.specs.Replaying.{IsOutcomeLeft}
+use Rattle.rho_main.specs.Replaying.{ReplayLeft, IsOutcomeLeft}
 use Rattle.rho_main.specs.declared.accept.ReplayInputs.{ReplayInputs}
 use Rattle.rho_main.specs.declared.replay.ReplayPlan.{ReplayPlan}
 use Rattle.rho_main.specs.declared.status.Status.{Status}
@@ -24,7 +23,7 @@ use Rattle.run_verdict.specs.declared.verdict.Verdict.TheVariants.{Done}
 
 -- what is given to the replay of these inputs
 abbrev pub given_of : ReplayInputs → Given
-given_of r = from_nothing the_prices r.inputs.term (sha256 r.inputs.source.items)
+given_of r = from_nothing r.inputs.prices r.inputs.term (sha256 r.inputs.source.items)
 
 -- the steps of the log
 abbrev pub steps_in : ReplayInputs → List Step
@@ -32,7 +31,7 @@ steps_in r = map step_of r.log.steps.items
 
 -- the digests that the log's steps make are fresh
 abbrev pub AreFreshIn : ReplayInputs → Type 0
-AreFreshIn r = FreshDigests the_prices r.log.header.limit r.inputs.term (sha256 r.inputs.source.items) (steps_in r)
+AreFreshIn r = FreshDigests r.inputs.prices r.log.header.limit r.inputs.term (sha256 r.inputs.source.items) (steps_in r)
 
 -- why the log is refused
 pub record IsRefusedBy (f : ReplayFault) (r : ReplayInputs) : Type 0 where
@@ -54,10 +53,10 @@ IsReplayStop r _ = ⊥
 
 -- the bytes of a next state and a report that a replay of these inputs left
 pub record IsReplayPlan (r : ReplayInputs) (p : ReplayPlan) : Type 0 where
-  pub left : Left
+  pub left : ReplayLeft
   pub steps_are : left.steps ≡ steps_in r
   pub right : header_refusal (given_of r) (header_of r.log.header) ≡ None
-  pub answer : AreFreshIn r → IsOutcomeLeft r.inputs.term (sha256 r.inputs.source.items) (header_of r.log.header) left
+  pub answer : AreFreshIn r → IsOutcomeLeft r.inputs.prices r.inputs.term (sha256 r.inputs.source.items) (header_of r.log.header) left
   pub next : p.next.items ≡ left.next
   pub line : p.line.items ≡ report_line left.report
   pub verdict : p.verdict ≡ left.report.verdict

@@ -1,36 +1,63 @@
 -- What a run of a source from the empty state leaves.
-use Rattle.std.specs.Prelude.{◌≡◌, ℕ, List, []}
+use Rattle.std.specs.Prelude.{◌≡◌, ◌≢◌, ◌⊎◌, ◌≤◌, ℕ, List, [], ◌∷◌, ◌++◌, length, All}
 use Rattle.sha2.specs.Sha256.{sha256}
 use Rattle.calculus.specs.Tree.{Tree}
-use Rattle.calculus.specs.Outcome.{Prices}
 use Rattle.calculus.specs.Log.{Step}
 use Rattle.calculus.specs.Root.{root}
-use Rattle.calculus.specs.Runs.{deploy_of, State, IsRun, verdict, cost, next_rows}
+use Rattle.calculus.specs.Runs.{Deploy, deploy_of, State, IsRun, Verdict, done, verdict, cost, next_rows}
 use Rattle.states.specs.States.{state_text}
 use Rattle.sources.specs.Sources.{IsSourceOf}
-use Rattle.events.specs.Events.{FreshDigests}
+use Rattle.events.specs.Spending.{IsSpentBy}
+use Rattle.fresh_digests.specs.Premises.{Collides}
 use Rattle.run_verdict.specs.View.{verdict_of}
+use Rattle.run_verdict.specs.declared.verdict.Verdict.TheVariants as ending
+use Rattle.rho_main.specs.Inputs.{Task, empty_state}
 use Rattle.rho_main.specs.Report.{Report}
 
--- the prices of the one price text that is read so far
-abbrev pub the_prices : Prices
-the_prices = record { comm = 10; send = 3; receive = 4; name = 2; case = 1; op = 1; byte = 0 }
-
--- what a run leaves: the steps of its log, the next state's bytes and a report
+-- what a run leaves: the steps of its log, the next state's bytes, what it prints, and a report
 pub record Left : Type 0 where
   pub steps : List Step
   pub next : List ℕ
+  pub output : List ℕ
   pub report : Report
 
--- what is left is what a run of this process leaves: the steps are a run, the report says its verdict, its cost and the root of the rows that it leaves, and the next state is the text of these rows
-pub record IsLeftByRun (limit : ℕ) (source : List ℕ) (t : Tree) (left : Left) : Type 0 where
-  pub state : State
-  pub run : IsRun (deploy_of the_prices limit [] t (sha256 source)) left.steps state
-  pub verdict_is : verdict_of left.report.verdict ≡ verdict the_prices limit state
-  pub cost_is : left.report.cost ≡ cost the_prices limit state
-  pub root_is : left.report.root ≡ root (next_rows [] (verdict the_prices limit state) state.bag)
-  pub next_is : left.next ≡ state_text (next_rows [] (verdict the_prices limit state) state.bag)
+-- the deploy of this process from the empty state, which the source of a task spells
+abbrev pub deploy_in : Task → ℕ → Tree → Deploy
+deploy_in task limit t = deploy_of task.prices limit [] t (sha256 task.source)
 
--- where the digests that are made are fresh, it is what a run of the process that the source spells leaves
-abbrev pub IsLeftBySource : ℕ → List ℕ → Left → Type 0
-IsLeftBySource limit source left = (t : Tree) → IsSourceOf source t → FreshDigests the_prices limit t (sha256 source) left.steps → IsLeftByRun limit source t left
+-- along these steps no id is spent by two of them: none of a datum that is taken without a peek and is not persistent, and none of a receiver that is linear or peeks
+abbrev pub SpendsOnce : Deploy → List Step → Type 0
+SpendsOnce deploy ss = (before between after : List Step) (s u : Step) (id : List ℕ)
+    → ss ≡ before ++ s ∷ (between ++ u ∷ after) → IsSpentBy deploy before s id → IsSpentBy deploy (before ++ s ∷ between) u id → ⊥
+
+-- what is printed with this verdict, where the steps print this: all of it where the run is done, and else nothing
+abbrev pub printed : Verdict → List ℕ → List ℕ
+printed done output = output
+printed _ output = []
+
+-- what is left is what a run of this deploy leaves: the steps are a run, along which no id is spent twice; the report says its verdict, its cost and the root of the rows that it leaves; the next state is the text of these rows; and its output is printed where it is done
+pub record IsLeftByRun (deploy : Deploy) (left : Left) : Type 0 where
+  pub state : State
+  pub run : IsRun deploy left.steps state
+  pub once : SpendsOnce deploy left.steps
+  pub verdict_is : verdict_of left.report.verdict ≡ verdict deploy.prices deploy.limit state
+  pub cost_is : left.report.cost ≡ cost deploy.prices deploy.limit state
+  pub root_is : left.report.root ≡ root (next_rows [] (verdict deploy.prices deploy.limit state) state.bag)
+  pub next_is : left.next ≡ state_text (next_rows [] (verdict deploy.prices deploy.limit state) state.bag)
+  pub output_is : left.output ≡ printed (verdict deploy.prices deploy.limit state) state.output
+
+-- a step takes 1 to 16 data
+pub record TakesInRange (s : Step) : Type 0 where
+  pub some : 1 ≤ length s.data_ids
+  pub few : length s.data_ids ≤ 16
+
+-- what is left is what a run leaves of the process that the source of a task spells, or two of the texts that this deploy hashes with these steps have one digest. In either case the log is no longer than a log may be and each of its steps takes as many data as a step may, the report counts the log's steps, and with another verdict than done the next state is the old one and nothing is printed
+pub record IsLeftBySource (task : Task) (limit : ℕ) (left : Left) : Type 0 where
+  pub process : Tree
+  pub spelt : IsSourceOf task.source process
+  pub run : IsLeftByRun (deploy_in task limit process) left ⊎ Collides (deploy_in task limit process) left.steps
+  pub few : length left.steps ≤ 1048608
+  pub taken : All TakesInRange left.steps
+  pub steps : left.report.steps ≡ length left.steps
+  pub old : left.report.verdict ≢ ending.Done → left.next ≡ empty_state
+  pub silent : left.report.verdict ≢ ending.Done → left.output ≡ []

@@ -3,22 +3,23 @@ ghost use Rattle.event_log.specs.Reading.{log_of};
 ghost use Rattle.event_log.specs.View.{header_of, step_of};
 ghost use Rattle.sources.specs.Faults.{refusal_of};
 ghost use Rattle.calculus.specs.Form.{IsClosed};
+ghost use Rattle.calculus.specs.Limits.{most_limit as greatest_limit};
 ghost use Rattle.linear_unfold.specs.Linear.{is_linear};
 ghost use Rattle.rho_outside.specs.Causes.{Rose};
 ghost use Rattle.rho_outside.specs.FileMap.{Gives};
 ghost use Rattle.rho_outside.specs.Told.{Told};
 ghost use Rattle.rho_main.specs.Words.{names_of};
-ghost use Rattle.rho_main.specs.Inputs.{Refusal, accepted_state, accepted_prices, accepted_limit, accepted};
-ghost use Rattle.rho_main.specs.Refused.{InputCause, RefusedFor, Says, SourceCause, SaysOf, IsFree, StatusOf};
-ghost use Rattle.rho_main.specs.Given.{IsGiven, LogCause};
-ghost use Rattle.rho_main.specs.Replaying.{accepted_log, accepted_source, IsNoLimit, ReplayRefusedFor};
+ghost use Rattle.rho_main.specs.Inputs.{Refusal, priced, accepted_state, accepted_prices, accepted_limit, accepted};
+ghost use Rattle.rho_main.specs.Refused.{price_refusal, InputCause, PriceCause, PriceStatusOf, RefusedFor, Says, SourceCause, SaysOf, IsFree, StatusOf};
+ghost use Rattle.rho_main.specs.Given.{task_of, IsGiven, LogCause};
+ghost use Rattle.rho_main.specs.Replaying.{accepted_log, accepted_source, ReplayCause, ReplayRefusedFor};
 ghost use Rattle.sources.specs.Sources.{IsSourceOf};
 
-use crate::prices::PRICE_TEXT;
 use crate::status::{Input, Status};
 use crate::words::Command;
 use event_log::{Log, LogFault, read_log};
 use linear_unfold::is_linear;
+use phlo_meter::{PriceFault, read_prices};
 use price_table::{Prices, most_limit};
 use rho_lexer::LexFault;
 use rho_outside::{FetchFault, Shelf};
@@ -72,7 +73,7 @@ fn accept_state<S: Shelf>(alloc: Global, shelf: &mut S, command: &Command) -> Re
     ensures fetch_faults { S.fetch_faults shelf.old ≤ S.fetch_faults shelf.new }
     ensures accepted { IfOk result (λ _. Told (S.files shelf.old) (λ files. IsOk (accepted_state (names_of command.now) files))) }
     ensures refused { IfErr result (RefusedFor (S.files shelf.old) (names_of command.now) (S.fetch_faults shelf.old) (S.fetch_faults shelf.new)) }
-    ensures no_limit { IfErr result IsNoLimit }
+    ensures replay_refused { IfErr result (ReplayRefusedFor (S.files shelf.old) (names_of command.now) (S.fetch_faults shelf.old) (S.fetch_faults shelf.new)) }
     ensures exact { Told (S.files shelf.old) (λ files. (r : Refusal) → accepted_state (names_of command.now) files ≡ Err r
         → ¬ (Rose (S.fetch_faults shelf.old) (S.fetch_faults shelf.new)) → MatchResult result (λ _. ⊥) (Says r)) }
 {
@@ -92,52 +93,74 @@ fn accept_state<S: Shelf>(alloc: Global, shelf: &mut S, command: &Command) -> Re
     }
 }
 
+/// The status of what a price text is refused for, or that memory is wanted.
+fn status_of_price_fault(fault: PriceFault) -> Status
+    ensures { PriceStatusOf fault (price_refusal fault) result }
+{
+    match fault {
+        PriceFault::NoMemory => Status::NoMemory,
+        fault => Status::Prices(fault),
+    }
+}
+
+/// The prices that a text gives.
+fn prices_in(alloc: Global, text: &[u8]) -> Result<Prices, Status>
+    ensures prices { IfOk result (λ prices. priced text.now ≡ Ok prices) }
+    ensures refused { IfErr result (PriceCause text.now) }
+{
+    match read_prices(alloc, text) {
+        Ok(prices) => Ok(prices),
+        Err(fault) => Err(status_of_price_fault(fault)),
+    }
+}
+
 /// Fetches and checks the prices, after the state.
-fn accept_prices<S: Shelf>(alloc: Global, shelf: &mut S, command: &Command) -> Result<(), Status>
+fn accept_prices<S: Shelf>(
+    alloc: Global,
+    shelf: &mut S,
+    command: &Command,
+) -> Result<Prices, Status>
     ensures files { S.files shelf.new ≡ S.files shelf.old }
     ensures keep_faults { S.keep_faults shelf.new ≡ S.keep_faults shelf.old }
     ensures fetch_faults { S.fetch_faults shelf.old ≤ S.fetch_faults shelf.new }
-    ensures accepted { IfOk result (λ _. Told (S.files shelf.old) (λ files. IsOk (accepted_prices (names_of command.now) files))) }
+    ensures accepted { IfOk result (λ prices. Told (S.files shelf.old) (λ files. accepted_prices (names_of command.now) files ≡ Ok prices)) }
     ensures refused { IfErr result (RefusedFor (S.files shelf.old) (names_of command.now) (S.fetch_faults shelf.old) (S.fetch_faults shelf.new)) }
-    ensures no_limit { IfErr result IsNoLimit }
+    ensures replay_refused { IfErr result (ReplayRefusedFor (S.files shelf.old) (names_of command.now) (S.fetch_faults shelf.old) (S.fetch_faults shelf.new)) }
     ensures exact { Told (S.files shelf.old) (λ files. (r : Refusal) → accepted_prices (names_of command.now) files ≡ Err r
         → ¬ (Rose (S.fetch_faults shelf.old) (S.fetch_faults shelf.new)) → MatchResult result (λ _. ⊥) (Says r)) }
 {
     accept_state(alloc, shelf, command)?;
-    let prices = take(
+    let text = take(
         alloc,
         shelf,
         command.prices.as_str(),
         Input::Prices,
         PRICES_MAX,
     )?;
-    if prices.as_slice() == PRICE_TEXT {
-        Ok(())
-    } else {
-        Err(Status::Unbuilt {
-            input: Input::Prices,
-        })
+    match prices_in(alloc, text.as_slice()) {
+        Ok(prices) => Ok(prices),
+        Err(status) => Err(status),
     }
 }
 
 /// Checks the limit, after the state and the prices.
-fn accept_limit<S: Shelf>(alloc: Global, shelf: &mut S, command: &Command) -> Result<(), Status>
+fn accept_limit<S: Shelf>(alloc: Global, shelf: &mut S, command: &Command) -> Result<Prices, Status>
     ensures files { S.files shelf.new ≡ S.files shelf.old }
     ensures keep_faults { S.keep_faults shelf.new ≡ S.keep_faults shelf.old }
     ensures fetch_faults { S.fetch_faults shelf.old ≤ S.fetch_faults shelf.new }
-    ensures accepted { IfOk result (λ _. Told (S.files shelf.old) (λ files. IsOk (accepted_limit (names_of command.now) files))) }
-    ensures in_range { IfOk result (λ _. command.now.limit ≤ 10485760) }
+    ensures accepted { IfOk result (λ prices. Told (S.files shelf.old) (λ files. accepted_limit (names_of command.now) files ≡ Ok prices)) }
+    ensures in_range { IfOk result (λ prices. command.now.limit ≤ greatest_limit prices) }
     ensures refused { IfErr result (RefusedFor (S.files shelf.old) (names_of command.now) (S.fetch_faults shelf.old) (S.fetch_faults shelf.new)) }
     ensures exact { Told (S.files shelf.old) (λ files. (r : Refusal) → accepted_limit (names_of command.now) files ≡ Err r
         → ¬ (Rose (S.fetch_faults shelf.old) (S.fetch_faults shelf.new)) → MatchResult result (λ _. ⊥) (Says r)) }
 {
-    accept_prices(alloc, shelf, command)?;
+    let prices = accept_prices(alloc, shelf, command)?;
     let limit = command.limit;
-    let most = most_limit(&Prices::standard());
+    let most = most_limit(&prices);
     if limit == 0 || limit > most {
         return Err(Status::Limit { limit, most });
     }
-    Ok(())
+    Ok(prices)
 }
 
 /// Fetches the source, after the state, the prices and the limit.
@@ -145,24 +168,26 @@ fn accept_source<S: Shelf>(
     alloc: Global,
     shelf: &mut S,
     command: &Command,
-) -> Result<Vec<u8>, Status>
+) -> Result<(Prices, Vec<u8>), Status>
     ensures files { S.files shelf.new ≡ S.files shelf.old }
     ensures keep_faults { S.keep_faults shelf.new ≡ S.keep_faults shelf.old }
     ensures fetch_faults { S.fetch_faults shelf.old ≤ S.fetch_faults shelf.new }
-    ensures accepted { IfOk result (λ source. Told (S.files shelf.old) (λ files. accepted (names_of command.now) files ≡ Ok source.items)) }
-    ensures in_range { IfOk result (λ _. command.now.limit ≤ 10485760) }
+    ensures accepted { IfOk result (λ given. Told (S.files shelf.old) (λ files. accepted (names_of command.now) files ≡ Ok (record { prices = given.0; source = given.1.items }))) }
+    ensures in_range { IfOk result (λ given. command.now.limit ≤ greatest_limit given.0) }
+    ensures short { IfOk result (λ given. length given.1.items ≤ 1048576) }
     ensures refused { IfErr result (RefusedFor (S.files shelf.old) (names_of command.now) (S.fetch_faults shelf.old) (S.fetch_faults shelf.new)) }
     ensures exact { Told (S.files shelf.old) (λ files. (r : Refusal) → accepted (names_of command.now) files ≡ Err r
         → ¬ (Rose (S.fetch_faults shelf.old) (S.fetch_faults shelf.new)) → MatchResult result (λ _. ⊥) (Says r)) }
 {
-    accept_limit(alloc, shelf, command)?;
-    take(
+    let prices = accept_limit(alloc, shelf, command)?;
+    let source = take(
         alloc,
         shelf,
         command.file.as_str(),
         Input::Source,
         SOURCE_MAX,
-    )
+    )?;
+    Ok((prices, source))
 }
 
 /// The status of what a source is refused for, or that memory is wanted.
@@ -177,30 +202,23 @@ fn status_of_fault(fault: SourceFault) -> Status
     }
 }
 
-/// The process of a source, where its forms are those that are run so far.
+/// The process of a source.
 fn accept_term(alloc: Global, source: &[u8]) -> Result<Term, Status>
     ensures term { IfOk result (IsSourceOf source.now) }
-    ensures linear { IfOk result (λ t. is_linear t ≡ true) }
     ensures closed { IfOk result IsClosed }
     ensures cause { IfErr result (SourceCause source.now) }
     ensures exact { MatchResult result (λ _. IsFree source.now) (SaysOf source.now) }
 {
-    let term = match read_source(alloc, source) {
-        Ok(term) => term,
-        Err(fault) => return Err(status_of_fault(fault)),
-    };
-    if is_linear(&term) {
-        Ok(term)
-    } else {
-        Err(Status::Unbuilt {
-            input: Input::Source,
-        })
+    match read_source(alloc, source) {
+        Ok(term) => Ok(term),
+        Err(fault) => Err(status_of_fault(fault)),
     }
 }
 
-/// What a deploy was given: the source's bytes, and the normal term of the process that they spell.
+/// What a deploy was given: the prices, the source's bytes, and the normal term of the process that they spell.
 #[derive(Drop)]
 pub(crate) struct Inputs {
+    pub(crate) prices: Prices,
     pub(crate) source: Vec<u8>,
     pub(crate) term: Term,
 }
@@ -213,24 +231,48 @@ pub(crate) fn accept<S: Shelf>(
 ) -> Result<Inputs, Status>
     ensures files { S.files shelf.new ≡ S.files shelf.old }
     ensures keep_faults { S.keep_faults shelf.new ≡ S.keep_faults shelf.old }
-    ensures accepted { IfOk result (λ i. Told (S.files shelf.old) (λ files. accepted (names_of command.now) files ≡ Ok i.source.items)) }
+    ensures accepted { IfOk result (λ i. Told (S.files shelf.old) (λ files. accepted (names_of command.now) files ≡ Ok (task_of i))) }
     ensures term { IfOk result (λ i. IsSourceOf i.source.items i.term) }
-    ensures linear { IfOk result (λ i. is_linear i.term ≡ true) }
     ensures closed { IfOk result (λ i. IsClosed i.term) }
-    ensures in_range { IfOk result (λ _. command.now.limit ≤ 10485760) }
+    ensures in_range { IfOk result (λ i. command.now.limit ≤ greatest_limit i.prices) }
+    ensures short { IfOk result (λ i. length i.source.items ≤ 1048576) }
     ensures refused { IfErr result (RefusedFor (S.files shelf.old) (names_of command.now) (S.fetch_faults shelf.old) (S.fetch_faults shelf.new)) }
     ensures exact { Told (S.files shelf.old) (λ files. (r : Refusal) → accepted (names_of command.now) files ≡ Err r
         → ¬ (Rose (S.fetch_faults shelf.old) (S.fetch_faults shelf.new)) → MatchResult result (λ _. ⊥) (Says r)) }
-    ensures source_exact { Told (S.files shelf.old) (λ files. IfOk (accepted (names_of command.now) files) (λ source.
-        ¬ (Rose (S.fetch_faults shelf.old) (S.fetch_faults shelf.new)) → MatchResult result (λ _. IsFree source) (SaysOf source))) }
+    ensures source_exact { Told (S.files shelf.old) (λ files. IfOk (accepted (names_of command.now) files) (λ task.
+        ¬ (Rose (S.fetch_faults shelf.old) (S.fetch_faults shelf.new)) → MatchResult result (λ _. IsFree task.source) (SaysOf task.source))) }
 {
-    let source = match accept_source(alloc, shelf, command) {
-        Ok(source) => source,
+    let (prices, source) = match accept_source(alloc, shelf, command) {
+        Ok(given) => given,
         Err(status) => return Err(status),
     };
     match accept_term(alloc, source.as_slice()) {
-        Ok(term) => Ok(Inputs { source, term }),
+        Ok(term) => Ok(Inputs {
+            prices,
+            source,
+            term,
+        }),
         Err(status) => Err(status),
+    }
+}
+
+/// The process of a source, where its forms are those that are replayed so far.
+fn accept_linear(alloc: Global, source: &[u8]) -> Result<Term, Status>
+    ensures term { IfOk result (IsSourceOf source.now) }
+    ensures linear { IfOk result (λ t. is_linear t ≡ true) }
+    ensures closed { IfOk result IsClosed }
+    ensures cause { IfErr result (ReplayCause source.now) }
+{
+    let term = match accept_term(alloc, source) {
+        Ok(term) => term,
+        Err(status) => return Err(status),
+    };
+    if is_linear(&term) {
+        Ok(term)
+    } else {
+        Err(Status::Unbuilt {
+            input: Input::Source,
+        })
     }
 }
 
@@ -240,17 +282,16 @@ fn accept_replay_source<S: Shelf>(
     shelf: &mut S,
     command: &Command,
 ) -> Result<Inputs, Status>
-    requires { command.now.limit ≡ 0 }
     ensures files { S.files shelf.new ≡ S.files shelf.old }
     ensures keep_faults { S.keep_faults shelf.new ≡ S.keep_faults shelf.old }
     ensures fetch_faults { S.fetch_faults shelf.old ≤ S.fetch_faults shelf.new }
-    ensures accepted { IfOk result (λ i. Told (S.files shelf.old) (λ files. accepted_source (names_of command.now) files ≡ Ok i.source.items)) }
+    ensures accepted { IfOk result (λ i. Told (S.files shelf.old) (λ files. accepted_source (names_of command.now) files ≡ Ok (task_of i))) }
     ensures term { IfOk result (λ i. IsSourceOf i.source.items i.term) }
     ensures linear { IfOk result (λ i. is_linear i.term ≡ true) }
     ensures closed { IfOk result (λ i. IsClosed i.term) }
     ensures refused { IfErr result (ReplayRefusedFor (S.files shelf.old) (names_of command.now) (S.fetch_faults shelf.old) (S.fetch_faults shelf.new)) }
 {
-    accept_prices(alloc, shelf, command)?;
+    let prices = accept_prices(alloc, shelf, command)?;
     let source = take(
         alloc,
         shelf,
@@ -258,13 +299,17 @@ fn accept_replay_source<S: Shelf>(
         Input::Source,
         SOURCE_MAX,
     )?;
-    match accept_term(alloc, source.as_slice()) {
-        Ok(term) => Ok(Inputs { source, term }),
+    match accept_linear(alloc, source.as_slice()) {
+        Ok(term) => Ok(Inputs {
+            prices,
+            source,
+            term,
+        }),
         Err(status) => Err(status),
     }
 }
 
-/// What a replay was given: its source and the log.
+/// What a replay was given: the prices, its source and the log.
 #[derive(Drop)]
 pub(crate) struct ReplayInputs {
     pub(crate) inputs: Inputs,
@@ -289,7 +334,6 @@ pub(crate) fn accept_replay<S: Shelf>(
     shelf: &mut S,
     command: &Command,
 ) -> Result<ReplayInputs, Status>
-    requires { command.now.limit ≡ 0 }
     ensures files { S.files shelf.new ≡ S.files shelf.old }
     ensures keep_faults { S.keep_faults shelf.new ≡ S.keep_faults shelf.old }
     ensures accepted { IfOk result (λ r. Told (S.files shelf.old) (λ files. IsOkAnd (accepted_log (names_of command.now) files) (IsGiven r))) }

@@ -1,17 +1,20 @@
-ghost use Rattle.std.specs.Prelude.{◌≡◌, ◌≤◌, ◌⊎◌, ◌∷◌, [], None, Err, true, IsOkAnd, IfOk, OnOk, OnErr, IsErrOf, string_bytes};
+ghost use Rattle.std.specs.Prelude.{◌≡◌, ◌≤◌, ◌⊎◌, ◌∷◌, ◌++◌, [], Err, IsOkAnd, IfOk, OnOk, OnErr, IsErrOf, length, string_bytes};
 ghost use Rattle.calculus.specs.Form.{IsClosed};
+ghost use Rattle.calculus.specs.Limits.{most_limit as greatest_limit};
 ghost use Rattle.sources.specs.Sources.{IsSourceOf};
-ghost use Rattle.linear_unfold.specs.Linear.{is_linear};
 ghost use Rattle.rho_outside.specs.Causes.{Rose};
-ghost use Rattle.rho_outside.specs.Put.{GrewBy, GrewByPart};
-ghost use Rattle.rho_outside.specs.Kept.{with_files, PartSet};
+ghost use Rattle.rho_outside.specs.Put.{GrewBy};
+ghost use Rattle.rho_outside.specs.Kept.{with_files};
 ghost use Rattle.rho_outside.specs.Told.{Told};
 ghost use Rattle.rho_main.specs.Words.{names_of};
+ghost use Rattle.rho_main.specs.Given.{task_of};
 ghost use Rattle.rho_main.specs.Inputs.{Refusal, accepted};
 ghost use Rattle.rho_main.specs.Refused.{RefusedFor, Says, SaysOf};
-ghost use Rattle.rho_main.specs.Runnable.{IsRunnable};
+ghost use Rattle.rho_main.specs.Runnable.{HasProcess};
 ghost use Rattle.rho_main.specs.Report.{status_of};
-ghost use Rattle.rho_main.specs.Ends.{OnUsage, OnRefusal, OnFileRefusal, OnHalt, OnVerdict, HasEnded, Leaves, LeavesInPart};
+ghost use Rattle.rho_main.specs.Ends.{OnUsage, OnRefusal, OnFileRefusal, OnHalt, OnVerdict, HasEnded, StopsOnTheWay, Leaves, LeavesInPart};
+ghost use Rattle.run_verdict.specs.View.{verdict_of};
+ghost use Rattle.rho_main.specs.Runs.{printed};
 ghost use Rattle.rho_main.specs.Plan.{IsPlan};
 
 use crate::accept::{Inputs, accept};
@@ -19,60 +22,74 @@ use crate::finish::{Halt, keep_both, put_bytes};
 use crate::report::report;
 use crate::status::Status;
 use crate::words::Command;
+use channel_table::ChannelTable;
 use event_log::{Log, LogHeader, write_log};
-use linear_play::{Played, play};
-use linear_rows::stored_rows;
 use name_seed::{EMPTY_ROOT, bytes_digest};
-use price_table::Prices;
 use rho_outside::{Shelf, Sink};
+use row_texts::stored_rows;
 use run_verdict::Verdict;
 use state_writer::write_rows;
 use std::alloc::{AllocError, Global};
+use worker_round::{Played, play};
 
 /// All the bytes that a deploy writes, and how its run ended.
 #[derive(Drop)]
 pub(crate) struct Plan {
     log: Vec<u8>,
     next: Vec<u8>,
-    line: Vec<u8>,
+    /// What is printed, and then the line of the report.
+    bytes: Vec<u8>,
     verdict: Verdict,
+}
+
+/// What is printed: the output of a run that is done, and nothing else.
+fn printed(verdict: Verdict, mut output: Vec<u8>) -> Vec<u8>
+    ensures { result.items ≡ printed (verdict_of verdict) output.items }
+{
+    match verdict {
+        Verdict::Done => {}
+        _ => output.clear(),
+    }
+    output
 }
 
 /// Runs the source from the empty state, and makes all bytes that are to be written.
 fn make_plan(alloc: Global, inputs: &Inputs, limit: u64) -> Result<Plan, AllocError>
-    requires limit { limit ≤ 10485760 }
+    requires limit { limit ≤ greatest_limit inputs.now.prices }
     requires source { IsSourceOf inputs.now.source.items inputs.now.term }
-    requires linear { is_linear inputs.now.term ≡ true }
+    requires short { length inputs.now.source.items ≤ 1048576 }
     requires closed { IsClosed inputs.now.term }
-    ensures { IfOk result (IsPlan limit inputs.now.source.items) }
+    ensures { IfOk result (IsPlan limit (task_of inputs.now)) }
 {
     let source = bytes_digest(inputs.source.as_slice());
-    let prices = Prices::standard();
     let Played {
         verdict,
         cost,
         steps,
         rows,
-    } = play(alloc, &inputs.term, &source, &prices, limit)?;
-    let (root, next) = write_rows(alloc, stored_rows(alloc, rows)?)?;
+        output,
+    } = play::<ChannelTable>(alloc, &inputs.term, &source, &inputs.prices, limit)?;
+    let (root, next) = write_rows(alloc, stored_rows(alloc, rows.as_slice())?)?;
     let count = steps.len() as u32;
     let line = report(alloc, verdict, cost, &root, count)?;
+    let mut bytes = printed(verdict, output);
+    bytes.extend_from_slice(line.as_slice())?;
     let header = LogHeader {
         base: EMPTY_ROOT,
         source,
-        prices: prices.digest(),
+        prices: inputs.prices.digest(),
         limit,
     };
     let log = write_log(alloc, &Log { header, steps })?;
     Ok(Plan {
         log,
         next,
-        line,
+        bytes,
         verdict,
     })
 }
 
-/// Keeps the log and then the next state, and then puts the report.
+/// Keeps the log and then the next state, and then puts what is printed and the report.
 fn write_plan<S: Shelf, O: Sink>(
     alloc: Global,
     command: &Command,
@@ -81,15 +98,15 @@ fn write_plan<S: Shelf, O: Sink>(
     out: &mut O,
 ) -> Result<(), Halt>
     ensures kept { OnOk result (S.files shelf.new ≡ with_files ((string_bytes command.now.log, plan.now.log.items) ∷ (string_bytes command.now.next, plan.now.next.items) ∷ []) (S.files shelf.old)) }
-    ensures part { OnErr result (PartSet ((string_bytes command.now.log, plan.now.log.items) ∷ (string_bytes command.now.next, plan.now.next.items) ∷ []) (S.files shelf.old) (S.files shelf.new)) }
-    ensures put { OnOk result (GrewBy plan.now.line.items (O.written out.old) (O.written out.new)) }
-    ensures put_part { OnErr result (GrewByPart plan.now.line.items (O.written out.old) (O.written out.new)) }
+    ensures put { OnOk result (GrewBy plan.now.bytes.items (O.written out.old) (O.written out.new)) }
+    ensures part { OnErr result (StopsOnTheWay ((string_bytes command.now.log, plan.now.log.items) ∷ (string_bytes command.now.next, plan.now.next.items) ∷ []) plan.now.bytes.items
+        (S.files shelf.old) (S.files shelf.new) (S.keep_faults shelf.old) (S.keep_faults shelf.new) (O.written out.old) (O.written out.new)) }
     ensures cause { IsErrOf result Halt.WriteFault → Rose (S.keep_faults shelf.old) (S.keep_faults shelf.new) ⊎ Rose (O.faults out.old) (O.faults out.new) }
 {
     let log = (command.log.as_str(), plan.log.as_slice());
     let next = (command.next.as_str(), plan.next.as_slice());
     keep_both(alloc, shelf, log, next)?;
-    put_bytes(alloc, out, plan.line.as_slice())
+    put_bytes(alloc, out, plan.bytes.as_slice())
 }
 
 /// The status that a verdict gives.
@@ -114,18 +131,17 @@ pub(crate) fn deploy<S: Shelf, O: Sink>(
     ensures refused { OnFileRefusal result (RefusedFor (S.files shelf.old) (names_of command.now) (S.fetch_faults shelf.old) (S.fetch_faults shelf.new) result) }
     ensures exact { Told (S.files shelf.old) (λ files. (r : Refusal) → accepted (names_of command.now) files ≡ Err r
         → ¬ (Rose (S.fetch_faults shelf.old) (S.fetch_faults shelf.new)) → Says r result) }
-    ensures source_exact { Told (S.files shelf.old) (λ files. IfOk (accepted (names_of command.now) files) (λ source.
-        ¬ (Rose (S.fetch_faults shelf.old) (S.fetch_faults shelf.new)) → SaysOf source result)) }
+    ensures source_exact { Told (S.files shelf.old) (λ files. IfOk (accepted (names_of command.now) files) (λ task.
+        ¬ (Rose (S.fetch_faults shelf.old) (S.fetch_faults shelf.new)) → SaysOf task.source result)) }
     ensures files_stay { OnRefusal result (S.files shelf.new ≡ S.files shelf.old) }
     ensures bytes_stay { OnRefusal result (O.written out.new ≡ O.written out.old) }
     ensures write_fault { result ≡ Status.WriteFault → Rose (S.keep_faults shelf.old) (S.keep_faults shelf.new) ⊎ Rose (O.faults out.old) (O.faults out.new) }
-    ensures write_fault_late { result ≡ Status.WriteFault → Told (S.files shelf.old) (λ files. IsOkAnd (accepted (names_of command.now) files) IsRunnable) }
-    ensures runnable { OnVerdict result (Told (S.files shelf.old) (λ files. IsOkAnd (accepted (names_of command.now) files) IsRunnable)) }
-    ensures complete { Told (S.files shelf.old) (λ files. IfOk (accepted (names_of command.now) files) (λ source. IsRunnable source
+    ensures write_fault_late { result ≡ Status.WriteFault → Told (S.files shelf.old) (λ files. IsOkAnd (accepted (names_of command.now) files) HasProcess) }
+    ensures complete { Told (S.files shelf.old) (λ files. IfOk (accepted (names_of command.now) files) (λ task. HasProcess task
         → ¬ (Rose (S.fetch_faults shelf.old) (S.fetch_faults shelf.new)) → ¬ (Rose (S.keep_faults shelf.old) (S.keep_faults shelf.new))
         → ¬ (Rose (O.faults out.old) (O.faults out.new)) → HasEnded result)) }
     ensures verdict { OnVerdict result (Leaves result (names_of command.now) (S.files shelf.old) (S.files shelf.new) (O.written out.old) (O.written out.new)) }
-    ensures part { OnHalt result (LeavesInPart (names_of command.now) (S.files shelf.old) (S.files shelf.new) (O.written out.old) (O.written out.new)) }
+    ensures part { OnHalt result (LeavesInPart (names_of command.now) (S.files shelf.old) (S.files shelf.new) (S.keep_faults shelf.old) (S.keep_faults shelf.new) (O.written out.old) (O.written out.new)) }
 {
     let inputs = match accept(alloc, shelf, command) {
         Ok(inputs) => inputs,

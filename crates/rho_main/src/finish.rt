@@ -1,7 +1,8 @@
 ghost use Rattle.std.specs.Prelude.{◌≡◌, ◌≤◌, ◌∷◌, [], OnOk, OnErr, IsErrOf};
 ghost use Rattle.rho_outside.specs.Causes.{Rose};
 ghost use Rattle.rho_outside.specs.Put.{GrewBy, GrewByPart};
-ghost use Rattle.rho_outside.specs.Kept.{with_files, PartSet};
+ghost use Rattle.rho_outside.specs.Kept.{with_files};
+ghost use Rattle.rho_main.specs.Ends.{AreSetInPart};
 ghost use Rattle.rho_main.specs.Halts.{halt_of};
 
 use rho_outside::{KeepFault, Shelf, Sink};
@@ -31,7 +32,7 @@ pub(crate) fn keep_file<S: Shelf>(
     bytes: &[u8],
 ) -> Result<(), Halt>
     ensures kept { OnOk result (S.files shelf.new ≡ with_files ((name.now, bytes.now) ∷ []) (S.files shelf.old)) }
-    ensures part { OnErr result (PartSet ((name.now, bytes.now) ∷ []) (S.files shelf.old) (S.files shelf.new)) }
+    ensures part { OnErr result (AreSetInPart ((name.now, bytes.now) ∷ []) (S.files shelf.old) (S.files shelf.new) (S.keep_faults shelf.old) (S.keep_faults shelf.new)) }
     ensures cause { IsErrOf result Halt.WriteFault → Rose (S.keep_faults shelf.old) (S.keep_faults shelf.new) }
     ensures fetch_faults { S.fetch_faults shelf.new ≡ S.fetch_faults shelf.old }
     ensures keep_faults { S.keep_faults shelf.old ≤ S.keep_faults shelf.new }
@@ -47,7 +48,7 @@ pub(crate) fn keep_both<S: Shelf>(
     second: (&str, &[u8]),
 ) -> Result<(), Halt>
     ensures kept { OnOk result (S.files shelf.new ≡ with_files ((first.entry.0.now, first.entry.1.now) ∷ (second.entry.0.now, second.entry.1.now) ∷ []) (S.files shelf.old)) }
-    ensures part { OnErr result (PartSet ((first.entry.0.now, first.entry.1.now) ∷ (second.entry.0.now, second.entry.1.now) ∷ []) (S.files shelf.old) (S.files shelf.new)) }
+    ensures part { OnErr result (AreSetInPart ((first.entry.0.now, first.entry.1.now) ∷ (second.entry.0.now, second.entry.1.now) ∷ []) (S.files shelf.old) (S.files shelf.new) (S.keep_faults shelf.old) (S.keep_faults shelf.new)) }
     ensures cause { IsErrOf result Halt.WriteFault → Rose (S.keep_faults shelf.old) (S.keep_faults shelf.new) }
     ensures fetch_faults { S.fetch_faults shelf.new ≡ S.fetch_faults shelf.old }
     ensures keep_faults { S.keep_faults shelf.old ≤ S.keep_faults shelf.new }

@@ -4,7 +4,6 @@
 pub mod accept;
 pub mod deploy;
 pub mod finish;
-mod prices;
 pub mod replay;
 pub mod report;
 pub mod status;

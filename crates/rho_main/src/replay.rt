@@ -22,7 +22,6 @@ use event_log::MOST_STEPS;
 use linear_rows::stored_rows;
 use log_replay::{ReplayFault, Replayed, replay as replay_log};
 use name_seed::bytes_digest;
-use price_table::Prices;
 use rho_outside::{Shelf, Sink};
 use run_verdict::Verdict;
 use state_writer::write_rows;
@@ -83,7 +82,7 @@ fn make_replay_plan(alloc: Global, inputs: &ReplayInputs) -> Result<ReplayPlan, 
         return Err(Status::NoMemory);
     }
     let source = bytes_digest(inputs.inputs.source.as_slice());
-    let prices = Prices::standard();
+    let prices = inputs.inputs.prices;
     let replayed = match replay_log(alloc, &inputs.inputs.term, &source, &prices, &inputs.log) {
         Ok(replayed) => replayed,
         Err(fault) => return Err(status_of_fault(fault)),
@@ -119,7 +118,6 @@ pub(crate) fn replay<S: Shelf, O: Sink>(
     shelf: &mut S,
     out: &mut O,
 ) -> Status
-    requires { command.now.limit ≡ 0 }
     ensures no_usage { OnUsage result ⊥ }
     ensures refused { OnFileRefusal result (ReplayRefusedFor (S.files shelf.old) (names_of command.now) (S.fetch_faults shelf.old) (S.fetch_faults shelf.new) result) }
     ensures files_stay { OnRefusal result (S.files shelf.new ≡ S.files shelf.old) }

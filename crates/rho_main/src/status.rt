@@ -1,10 +1,11 @@
 ghost use Rattle.std.specs.Prelude.{◌≡◌, IfOk, string_bytes};
 ghost use Rattle.rho_main.specs.Message.{code_of, message_of};
 
-use crate::wording::{log_text, replay_text, source_text};
+use crate::wording::{log_text, price_text, replay_text, source_text};
 use crate::words::Usage;
 use event_log::LogFault;
 use log_replay::ReplayFault;
+use phlo_meter::PriceFault;
 use sources::SourceFault;
 use std::alloc::{AllocError, Global};
 use std::fmt;
@@ -32,12 +33,14 @@ pub enum Status {
     WriteFault,
     /// The source is refused. Want of memory is no such fault.
     Source(SourceFault),
+    /// The price text is refused. Want of memory is no such fault.
+    Prices(PriceFault),
+    /// The limit is 0 or above the greatest one under the prices, `most`.
+    Limit { limit: u64, most: u64 },
     /// The bytes of the log are refused. Want of memory is no such fault.
     Log(LogFault),
     /// The log is refused as that of a run. Want of memory is no such fault.
     Replay(ReplayFault),
-    /// The limit is 0 or above the greatest one, `most`.
-    Limit { limit: u64, most: u64 },
     /// An input has a form that is not built yet.
     Unbuilt { input: Input },
     /// The verdict is Exhausted: the price passed the limit.
@@ -77,7 +80,7 @@ impl Status {
             Status::ReadFault { .. } => 3,
             Status::WriteFault => 4,
             Status::Source(_) => 6,
-            Status::Limit { .. } => 7,
+            Status::Prices(_) | Status::Limit { .. } => 7,
             Status::Log(_) => 8,
             Status::Replay(_) => 9,
             Status::Exhausted => 10,
@@ -107,6 +110,13 @@ impl Status {
                 let fault = source_text(alloc, fault)?;
                 format!(in alloc; "rho: source: {fault}")
             }
+            Status::Prices(fault) => {
+                let fault = price_text(alloc, fault)?;
+                format!(in alloc; "rho: prices: {fault}")
+            }
+            Status::Limit { limit, most } => {
+                format!(in alloc; "rho: prices: Limit limit={limit} most={most}")
+            }
             Status::Log(fault) => {
                 let fault = log_text(alloc, fault)?;
                 format!(in alloc; "rho: log: {fault}")
@@ -114,9 +124,6 @@ impl Status {
             Status::Replay(fault) => {
                 let fault = replay_text(alloc, fault)?;
                 format!(in alloc; "rho: replay: {fault}")
-            }
-            Status::Limit { limit, most } => {
-                format!(in alloc; "rho: prices: Limit limit={limit} most={most}")
             }
             Status::Unbuilt { input } => format!(in alloc; "rho: unbuilt: Unbuilt input={input}"),
             Status::NoMemory => String::from_str(alloc, "rho: memory: NoMemory"),

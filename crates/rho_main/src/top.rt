@@ -5,7 +5,7 @@ ghost use Rattle.rho_main.specs.Words.{names_in, replay_names_in};
 ghost use Rattle.rho_main.specs.Replaying.{NamedReplay, ReplayLeaves, ReplayLeavesInPart, ReplayRefusedFor};
 ghost use Rattle.rho_main.specs.Inputs.{Refusal, accepted};
 ghost use Rattle.rho_main.specs.Refused.{RefusedFor, Says, SaysOf};
-ghost use Rattle.rho_main.specs.Runnable.{IsRunnable};
+ghost use Rattle.rho_main.specs.Runnable.{HasProcess};
 ghost use Rattle.rho_main.specs.Ends.{Named, OnUsage, OnRefusal, OnFileRefusal, OnHalt, OnVerdict, HasEnded, Leaves, LeavesInPart};
 
 use crate::deploy::deploy;
@@ -20,7 +20,8 @@ use std::thread::Threads;
 /// Does what the words of a command line ask, over the files of a shelf and an output.
 ///
 /// Nothing is kept or put before all inputs were accepted and the run has ended. A refusal leaves the files
-/// and the output as they were. Then the log is kept, then the next state, then the report is put.
+/// and the output as they were. Then the log is kept, then the next state, then what the run printed is put
+/// with the report behind it.
 pub fn run<R: Threads + Wait + Sync, S: Shelf, O: Sink, G: Gate + Sync>(
     _rt: &R,
     alloc: Global,
@@ -38,24 +39,22 @@ pub fn run<R: Threads + Wait + Sync, S: Shelf, O: Sink, G: Gate + Sync>(
         (RefusedFor (S.files shelf.old) names (S.fetch_faults shelf.old) (S.fetch_faults shelf.new) result)) }
     ensures exact { Named (map string_bytes words.now) (λ names. Told (S.files shelf.old) (λ files. (r : Refusal) → accepted names files ≡ Err r
         → ¬ (Rose (S.fetch_faults shelf.old) (S.fetch_faults shelf.new)) → Says r result)) }
-    ensures source_exact { Named (map string_bytes words.now) (λ names. Told (S.files shelf.old) (λ files. IfOk (accepted names files) (λ source.
-        ¬ (Rose (S.fetch_faults shelf.old) (S.fetch_faults shelf.new)) → SaysOf source result))) }
+    ensures source_exact { Named (map string_bytes words.now) (λ names. Told (S.files shelf.old) (λ files. IfOk (accepted names files) (λ task.
+        ¬ (Rose (S.fetch_faults shelf.old) (S.fetch_faults shelf.new)) → SaysOf task.source result))) }
     ensures files_stay { OnRefusal result (S.files shelf.new ≡ S.files shelf.old) }
     ensures bytes_stay { OnRefusal result (O.written out.new ≡ O.written out.old) }
 
     // What is left behind.
     ensures write_fault { result ≡ Status.WriteFault → Rose (S.keep_faults shelf.old) (S.keep_faults shelf.new) ⊎ Rose (O.faults out.old) (O.faults out.new) }
     ensures write_fault_late { result ≡ Status.WriteFault → Named (map string_bytes words.now)
-        (λ names. Told (S.files shelf.old) (λ files. IsOkAnd (accepted names files) IsRunnable)) }
-    ensures runnable { Named (map string_bytes words.now) (λ names. OnVerdict result
-        (Told (S.files shelf.old) (λ files. IsOkAnd (accepted names files) IsRunnable))) }
-    ensures complete { Named (map string_bytes words.now) (λ names. Told (S.files shelf.old) (λ files. IfOk (accepted names files) (λ source. IsRunnable source
+        (λ names. Told (S.files shelf.old) (λ files. IsOkAnd (accepted names files) HasProcess)) }
+    ensures complete { Named (map string_bytes words.now) (λ names. Told (S.files shelf.old) (λ files. IfOk (accepted names files) (λ task. HasProcess task
         → ¬ (Rose (S.fetch_faults shelf.old) (S.fetch_faults shelf.new)) → ¬ (Rose (S.keep_faults shelf.old) (S.keep_faults shelf.new))
         → ¬ (Rose (O.faults out.old) (O.faults out.new)) → HasEnded result))) }
     ensures verdict { Named (map string_bytes words.now) (λ names. OnVerdict result
         (Leaves result names (S.files shelf.old) (S.files shelf.new) (O.written out.old) (O.written out.new))) }
     ensures part { Named (map string_bytes words.now) (λ names. OnHalt result
-        (LeavesInPart names (S.files shelf.old) (S.files shelf.new) (O.written out.old) (O.written out.new))) }
+        (LeavesInPart names (S.files shelf.old) (S.files shelf.new) (S.keep_faults shelf.old) (S.keep_faults shelf.new) (O.written out.old) (O.written out.new))) }
 
     // The replay of a log.
     ensures replay_refused { NamedReplay (map string_bytes words.now) (λ names. OnFileRefusal result

@@ -1,9 +1,10 @@
 ghost use Rattle.std.specs.Prelude.{◌≡◌, IfOk, string_bytes};
-ghost use Rattle.rho_main.specs.Message.{digest_text, digests_text, lex_text, log_text, parse_text, replay_text, scope_text, source_text};
+ghost use Rattle.rho_main.specs.Message.{digest_text, digests_text, lex_text, log_text, parse_text, price_text, replay_text, scope_text, source_text};
 
 use calculus::Digest;
 use event_log::LogFault;
 use log_replay::ReplayFault;
+use phlo_meter::PriceFault;
 use rho_lexer::LexFault;
 use rho_parser::ParseFault;
 use scope_check::ScopeFault;
@@ -56,6 +57,22 @@ fn scope_text(alloc: Global, fault: &ScopeFault) -> Result<String, AllocError>
         ScopeFault::UnderNegation { name } => format!(in alloc; "UnderNegation name={name}"),
         ScopeFault::UnknownUri { uri } => format!(in alloc; "UnknownUri uri={uri}"),
         ScopeFault::NoMemory => String::from_str(alloc, "NoMemory"),
+    }
+}
+
+/// The name and the fields of what a price text is refused for.
+pub(crate) fn price_text(alloc: Global, fault: &PriceFault) -> Result<String, AllocError>
+    ensures { IfOk result (λ text. string_bytes text ≡ price_text fault.now) }
+{
+    match fault {
+        PriceFault::NotToml => String::from_str(alloc, "NotToml"),
+        PriceFault::MissingKey { key } => format!(in alloc; "MissingKey key={key}"),
+        PriceFault::NotInteger { key } => format!(in alloc; "NotInteger key={key}"),
+        PriceFault::OutOfRange { key, value } => {
+            format!(in alloc; "OutOfRange key={key} value={value}")
+        }
+        PriceFault::UnknownKey { key } => format!(in alloc; "UnknownKey key={key}"),
+        PriceFault::NoMemory => String::from_str(alloc, "NoMemory"),
     }
 }
 

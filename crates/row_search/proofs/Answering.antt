@@ -1,5 +1,5 @@
 -- What a receiver's search answers, and what the whole search does.
-use Rattle.std.proofs.Common.{◌≡◌, Bool, true, false, List, [], ◌∷◌, map as each, refl, sym, ap, ◌∙◌, subst, inl, inr}
+use Rattle.std.proofs.Common.{◌≡◌, ℕ, Bool, true, false, List, [], ◌∷◌, map as each, refl, sym, ap, ◌∙◌, subst, inl, inr}
 use Rattle.std.specs.Prelude.{◌⊎◌, All, Option, Some, None, is_some, MatchOption, Result, Ok, Err, IfOk}
 use Rattle.std.specs.declared.alloc.AllocError.{AllocError}
 use Rattle.std.specs.declared.alloc.Global.{Global}
@@ -17,8 +17,8 @@ use Rattle.rho_term.specs.Rows.{row_of_op}
 use Rattle.storable_row_laws.specs.Laws.{AreApart}
 use Rattle.row_search.specs.declared.choices.Joined.{Joined}
 use Rattle.row_search.specs.declared.found.Found.{Found}
-use Rattle.row_search.specs.Rows.{is_heard_on, is_sent_on, HasReceivers}
-use Rattle.row_search.specs.Choices.{Fails, Joins}
+use Rattle.row_search.specs.Rows.{is_heard_on, is_sent_on, looked_up, HasReceivers}
+use Rattle.row_search.specs.Choices.{Choice, Fails, Joins}
 use Rattle.row_search.specs.Meetings.{rows_with, Finishes, HearsOrIs, IsFound, IsSendOn, MayMeet, MeetsNone, MeetsNothing}
 use Rattle.row_search.proofs.Known.{all-in, bind_channels, binds-apart, heard-is, sent-datum}
 use Rattle.row_search.proofs.Looping.{in-rows}
@@ -27,6 +27,12 @@ use Rattle.row_search.proofs.Sound.{all-among, all-last, all-leave, chosen_rows,
 use Rattle.row_search.proofs.Complete.{no-choice, receiver-takes, whose}
 use Rattle.row_search.proofs.Distinct.{differs}
 use Rattle.row_search.proofs.Heard.{datum-of, no-datum, none-if, not-heard-none, send-none}
+use Rattle.std.proofs.lemmas.List.Elements.{All-nil, All-cons, All-head, All-tail}
+
+-- the rows that are chosen may be stored
+chosen-storable : (cs : List Choice) → All (λ c. IsStorable c.0) cs → All IsStorable (chosen_rows cs)
+chosen-storable [] h = All-nil IsStorable
+chosen-storable (c ∷ cs) h = All-cons IsStorable c.0 (chosen_rows cs) (All-head (λ (y : Choice). IsStorable y.0) c cs h) (chosen-storable cs (All-tail (λ (y : Choice). IsStorable y.0) c cs h))
 
 module _ (rs : List Row) (o : Row) (id : Digest) (k : Kind) (bs : Vec TermBind Global) (body : Tree) where
   abbrev it : Row
@@ -50,8 +56,8 @@ module _ (rs : List Row) (o : Row) (id : Digest) (k : Kind) (bs : Vec TermBind G
           let b = on-one d.channel bs.items (sym (heard-is d.channel id k bs body) ∙ n) in
           inr (takes-part rs o b.0 bs.items g.chosen b.1 (sent-datum b.0.channel o d e ∙ b.2) g.are)
 
-  some-meets : (j : Joined) (f : Found) → AreApart (bind_channels bs.items) → MayMeet it o → Among it (rows_with rs o) → Joins rs o k bs.items j → Finishes id k body j f → IsFound rs o f
-  some-meets j f a may h g w =
+  some-meets : (j : Joined) (f : Found) → IsStorable it → AreApart (bind_channels bs.items) → MayMeet it o → Among it (rows_with rs o) → Joins rs o k bs.items j → Finishes id k body j f → IsFound rs o f
+  some-meets j f s a may h g w =
       let cs = g.chosen in
       let m = meets-chosen id k bs body cs (data-are k rs o bs.items cs g.are) in
       record {
@@ -59,6 +65,7 @@ module _ (rs : List Row) (o : Row) (id : Digest) (k : Kind) (bs : Vec TermBind G
         sends = chosen_rows cs;
         at_hand = (h, all-among rs o bs.items cs g.are);
         part = in_part j g may;
+        storable = All-cons IsStorable it (chosen_rows cs) s (chosen-storable cs g.is.storable);
         differs = λ t. differs rs o t bs.items cs a g.are;
         meeting = m.meeting;
         meets = m.meets;
@@ -80,7 +87,7 @@ module _ (rs : List Row) (o r : Row) (id : Digest) (k : Kind) (bs : Vec TermBind
   pub lent-some : (x : Option Joined) (j : Joined) (f : Found) → x ≡ Some j → MatchOption x (Fails rs o us) (Joins rs o k us) → MayMeet r o → Among r (rows_with rs o) → Finishes id k body j f → IsFound rs o f
   lent-some x j f n h m a w =
       let g : Joins rs o k us j = subst (λ (y : Option Joined). MatchOption y (Fails rs o us) (Joins rs o k us)) n h in
-      some-meets rs o id k bs body j f (binds-apart r id k bs body e s) (subst (λ (q : Row). MayMeet q o) e m) (subst (λ (q : Row). Among q (rows_with rs o)) e a) (subst (λ (vs : List TermBind). Joins rs o k vs j) l g) w
+      some-meets rs o id k bs body j f (subst IsStorable e s) (binds-apart r id k bs body e s) (subst (λ (q : Row). MayMeet q o) e m) (subst (λ (q : Row). Among q (rows_with rs o)) e a) (subst (λ (vs : List TermBind). Joins rs o k vs j) l g) w
 
 -- a send meets no receiver that is a send
 pub send-meets-none : (rs : List Row) (o r : Row) (id : Digest) (c : Tree) (xs : Vec Tree Global) (q : Bool) → r ≡ row_of_op (op.Produce id c xs q) → MeetsNone rs o r
@@ -91,11 +98,11 @@ pub heard-may : (c : Tree) (r o : Row) → IsSendOn c o → is_heard_on c r ≡ 
 heard-may c r o s e = let d = datum-of c o s in subst (HearsOrIs r o) (sym d.1) (ap (λ (x : Tree). is_heard_on x r) d.2 ∙ e)
 
 -- a send meets nothing where it does with no receiver at hand on its channel
-pub send-meets-nothing : (rs found : List Row) (o : Row) (c : Tree) → IsSendOn c o → HasReceivers rs c found → All (λ r. MeetsNone rs o r) found → MeetsNothing rs o
-send-meets-nothing rs found o c s w a r ds h p = go (whose r rs o h.0)
+pub send-meets-nothing : (rs : List Row) (xs : List (List ℕ)) (o : Row) (c : Tree) → IsSendOn c o → HasReceivers rs c xs → All (λ r. MeetsNone rs o r) (looked_up rs xs) → MeetsNothing rs o
+send-meets-nothing rs xs o c s w a r ds h p = go (whose r rs o h.0)
   where
     each_none : (q : Row) → Among q rs → (v : Bool) → is_heard_on c q ≡ v → MeetsNone rs o q
-    each_none q i true e = all-in (λ u. MeetsNone rs o u) q found a (in-rows q found (w.whole q i e))
+    each_none q i true e = all-in (λ u. MeetsNone rs o u) q (looked_up rs xs) a (in-rows q (looked_up rs xs) (w q i e))
     each_none q i false e = not-heard-none rs c o q s e
 
     go : Among r rs ⊎ (r ≡ o) → met (r ∷ ds) ≡ None

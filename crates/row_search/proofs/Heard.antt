@@ -1,6 +1,6 @@
 -- Which rows a receiver hears, and which rows are receivers.
-use Rattle.std.proofs.Common.{◌≡◌, Bool, true, false, List, [], ◌∷◌, map as each, refl, sym, ap, ◌∙◌, subst, inl, inr}
-use Rattle.std.specs.Prelude.{◌&&◌, ◌||◌, Option, Some, None, is_some, option_and_then}
+use Rattle.std.proofs.Common.{◌≡◌, Bool, true, false, List, [], ◌∷◌, map as each, refl, sym, ap, ◌∙◌, inl, inr}
+use Rattle.std.specs.Prelude.{◌&&◌, ◌||◌, Option, Some, None, is_some}
 use Rattle.calculus.specs.Tree.{Tree, node, receive, send}
 use Rattle.calculus.specs.Shape.{at, held}
 use Rattle.calculus.specs.Congruence.{congruent}
@@ -9,9 +9,9 @@ use Rattle.calculus.specs.Steps.{Datum, Receiver, Meeting, as_datum, as_receiver
 use Rattle.calculus.proofs.Equivalence.{symmetric}
 use Rattle.events.specs.Found.{met, Among}
 use Rattle.row_search.specs.Rows.{is_one_channel, is_heard_on, IsIn}
-use Rattle.row_search.specs.Meetings.{rows_with, IsDatumOn, IsSendOn, MeetsNone}
+use Rattle.row_search.specs.Meetings.{IsDatumOn, IsSendOn, MeetsNone}
 use Rattle.row_search.proofs.Taking.{and_then, tree-channel}
-use Rattle.row_search.proofs.Complete.{AreMet, met-takes, tree-of}
+use Rattle.row_search.proofs.Complete.{met-takes, tree-of}
 
 -- what has no value is none
 pub none-if : {A : Type 0} (x : Option A) → ((y : A) → x ≡ Some y → ⊥) → x ≡ None

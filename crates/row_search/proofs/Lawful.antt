@@ -68,6 +68,7 @@ found_is_at_hand store rows k o f i = record {
   sends = i.sends;
   at_hand = all_to store rows k o (i.receiver ∷ i.sends) i.at_hand;
   part = i.part;
+  storable = i.storable;
   differs = λ t. i.differs (λ a b h g. t a b (to_hand store rows k o a h) (to_hand store rows k o b g));
   meeting = i.meeting;
   meets = i.meets;

@@ -1,6 +1,8 @@
 pub mod Known
 pub mod Taking
+pub mod Looking
 pub mod Looping
+pub mod Walks
 pub mod Apart
 pub mod Sound
 pub mod Complete

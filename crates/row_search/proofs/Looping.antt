@@ -1,11 +1,10 @@
 -- Steps of the loops over rows and binds.
 use Rattle.std.proofs.Common.{◌≡◌, ℕ, ◌+◌, ◌<◌, ◌≤◌, zero, suc, Bool, true, false, cond, List, [], ◌∷◌, ◌++◌, map as each, length, get_or, take, drop, refl, sym, ap, ◌∙◌, subst, arith, append_assoc, append-nil, inl, inr, add-one, drop-cons}
 use Rattle.std.proofs.Math.Seq.{take-suc}
-use Rattle.std.specs.Prelude.{◌||◌, Option, Some, None, is_some, Result, Ok, Err, IfOk}
+use Rattle.std.specs.Prelude.{◌||◌, Option, Some, None, Result, Ok, Err, IfOk}
 use Rattle.std.specs.declared.alloc.AllocError.{AllocError}
 use Rattle.calculus.specs.declared.plain.Kind.{Kind}
 use Rattle.calculus.specs.declared.ids.Digest.{Digest}
-use Rattle.calculus.specs.Tree.{Tree}
 use Rattle.calculus.specs.Matching.{Bindings}
 use Rattle.calculus.specs.Rows.{Row}
 use Rattle.calculus.specs.Steps.{peeks}
@@ -13,10 +12,12 @@ use Rattle.events.specs.Found.{Among}
 use Rattle.rho_term.specs.declared.term.TermBind.{TermBind}
 use Rattle.row_search.specs.declared.choices.Chosen.{Chosen}
 use Rattle.row_search.specs.declared.choices.Joined.{Joined}
-use Rattle.row_search.specs.Rows.{is_one_channel, is_persistent, is_sent_on, IsIn, HasSends}
-use Rattle.row_search.specs.Choices.{Choice, AreChosen, Binds, Chooses, Extends, IsChoice, IsJoined, Picks, PicksOne, bound_by, choice_or, chosen_ids, first_taken, gone_ids, takes}
-use Rattle.row_search.proofs.Known.{bind_channels}
+use Rattle.row_search.specs.Rows.{is_persistent, is_sent_on, IsIn, HasSends, looked_up}
+use Rattle.row_search.proofs.Looking.{looked-up-there}
+use Rattle.row_search.specs.Choices.{Choice, AreChosen, Binds, Chooses, Extends, IsChoice, IsJoined, Picks, PicksOne, bound_by, chosen_ids, first_taken, gone_ids, takes}
 use Rattle.row_search.proofs.Taking.{first-is, first-none, takes-on}
+use Rattle.std.proofs.lemmas.List.Elements.{All-nil, All-cons, All-append}
+use Rattle.calculus.specs.Storing.{IsStorable}
 
 module _ {A : Type 0} (xs : List A) (i : ℕ) (x : A) (h : i < length xs) (e : x ≡ get_or xs i x) where
   pub drop-is : drop i xs ≡ x ∷ drop (i + 1) xs
@@ -49,13 +50,6 @@ take-whole [] (suc i) h = refl
 take-whole (x ∷ xs) zero h = absurd (omega arith)
 take-whole (x ∷ xs) (suc i) h = ap (λ l. x ∷ l) (take-whole xs i (omega arith))
 
--- what is taken of this row is chosen
-pub found-step : (b : TermBind) (rs : List Row) (i : ℕ) (r : Row) (x : Option Chosen) → i < length rs → r ≡ get_or rs i r → Binds r (takes b r) x → is_some x ≡ true → first_taken b rs ≡ first_taken b (drop i rs)
-    → Chooses (first_taken b rs) x
-found-step b rs i r None h e k s g = cc
-found-step b rs i r (Some c) h e k s g =
-    ((r, c.bound.items), g ∙ ap (first_taken b) (drop-is rs i r h e) ∙ ap (λ z. choice_or r z (first_taken b (drop (i + 1) rs))) k.2, (k.0, k.1, refl))
-
 -- the operation is picked on its channel, or nothing
 pub on-pick : (b : TermBind) (rs : List Row) (o : Row) (x : Result (Option Chosen) AllocError) → is_sent_on b.channel o ≡ true → IfOk x (λ y. Binds o (takes b o) y) → IfOk x (λ y. PicksOne rs o b y)
 on-pick b rs o (Err x) e h = tt
@@ -65,20 +59,20 @@ on-pick b rs o (Ok None) e h = subst (λ (v : Bool). (p : Row) → Among p (cond
     only_it p (inl f) = ap (takes b) f ∙ h
     only_it p (inr f) = absurd f
 on-pick b rs o (Ok (Some c)) e h =
-    ((o, c.bound.items), (subst (λ (v : Bool). Among o (cond v (o ∷ []) rs)) (sym e) (inl refl), h.2), (h.0, h.1, refl))
+    ((o, c.bound.items), (subst (λ (v : Bool). Among o (cond v (o ∷ []) rs)) (sym e) (inl refl), h.2), (h.0, h.1, refl, h.3))
 
 -- elsewhere the first of the rows at hand that a bind takes
-pub off-pick : (b : TermBind) (rs some : List Row) (o : Row) (x : Result (Option Chosen) AllocError) → is_sent_on b.channel o ≡ false → HasSends rs b.channel some → IfOk x (λ y. Chooses (first_taken b some) y)
+pub off-pick : (b : TermBind) (rs : List Row) (xs : List (List ℕ)) (o : Row) (x : Result (Option Chosen) AllocError) → is_sent_on b.channel o ≡ false → HasSends rs b.channel xs → IfOk x (λ y. Chooses (first_taken b (looked_up rs xs)) y)
     → IfOk x (λ y. PicksOne rs o b y)
-off-pick b rs some o (Err x) e d h = tt
-off-pick b rs some o (Ok None) e d h = subst (λ (v : Bool). (p : Row) → Among p (cond v (o ∷ []) rs) → takes b p ≡ None) (sym e) (λ p i. go p i (takes b p) refl)
+off-pick b rs xs o (Err x) e d h = tt
+off-pick b rs xs o (Ok None) e d h = subst (λ (v : Bool). (p : Row) → Among p (cond v (o ∷ []) rs) → takes b p ≡ None) (sym e) (λ p i. go p i (takes b p) refl)
   where
-    go : (p : Row) → Among p rs → (xs : Option Bindings) → takes b p ≡ xs → xs ≡ None
+    go : (p : Row) → Among p rs → (us : Option Bindings) → takes b p ≡ us → us ≡ None
     go p i None f = refl
-    go p i (Some xs) f = sym f ∙ first-none b some p h (d.whole p i (takes-on b p xs f))
-off-pick b rs some o (Ok (Some c)) e d h =
-    let t = first-is b some h.0 h.1 in
-    (h.0, (subst (λ (v : Bool). Among h.0.0 (cond v (o ∷ []) rs)) (sym e) (d.within h.0.0 t.0), t.1), h.2)
+    go p i (Some us) f = sym f ∙ first-none b (looked_up rs xs) p h (d p i (takes-on b p us f))
+off-pick b rs xs o (Ok (Some c)) e d h =
+    let t = first-is b (looked_up rs xs) h.0 h.1 in
+    (h.0, (subst (λ (v : Bool). Among h.0.0 (cond v (o ∷ []) rs)) (sym e) (looked-up-there h.0.0 rs xs t.0), t.1), h.2)
 
 chosen-step : (rs : List Row) (o : Row) (bs : List TermBind) (cs : List Choice) (b : TermBind) (c : Choice) → AreChosen rs o bs cs → Picks rs o b c → AreChosen rs o (bs ++ b ∷ []) (cs ++ c ∷ [])
 chosen-step rs o [] [] b c h e = (e, tt)
@@ -118,6 +112,7 @@ joined-step k cs c j i h v e a b x = record {
   gone = ap bytes_of x.gone ∙ map-append (λ (d : Digest). d.0) j.gone.items (cond (v || h.persistent) [] (h.id ∷ [])) ∙ ap (λ l. l ++ bytes_of (cond (v || h.persistent) [] (h.id ∷ []))) a.gone
       ∙ ap (λ l. gone_ids k cs ++ l) (one-gone (v || h.persistent) h.id) ∙ ap (λ d. gone_ids k cs ++ cond (v || h.persistent) [] (d ∷ [])) b.0
       ∙ ap (λ w. gone_ids k cs ++ cond (w || h.persistent) [] (c.0.id ∷ [])) e ∙ ap (λ w. gone_ids k cs ++ cond (peeks k || w) [] (c.0.id ∷ [])) b.1 ∙ sym (gone-snoc k cs c);
+  storable = All-append (λ (y : Choice). IsStorable y.0) cs (c ∷ []) a.storable (All-cons (λ (y : Choice). IsStorable y.0) c [] b.3 (All-nil (λ (y : Choice). IsStorable y.0)));
 }
 
 -- one bind more

@@ -20,6 +20,7 @@ use Rattle.spatial_match.specs.Found.{IsFirst}
 use Rattle.row_search.specs.Rows.{is_persistent, is_sent_on}
 use Rattle.row_search.specs.Choices.{Choice, choice_or, first_taken, takes}
 use Rattle.row_search.proofs.Known.{sent-datum}
+use Rattle.calculus.specs.Storing.{IsStorable}
 
 -- what a bind takes of a send
 send-takes : (b : TermBind) (id : Digest) (c : Tree) (xs : Vec Tree Global) (q : Bool)
@@ -36,8 +37,8 @@ module _ (b : TermBind) (r : Row) (id : Digest) (c : Tree) (xs : Vec Tree Global
   send-none v n h = of_matches ∙ subst (IsFirst (bind_matches (bind_tree b) us)) n h
 
   pub send-some : (v : Option (Vec Tree Global)) (w : Vec Tree Global) → v ≡ Some w → IsFirst (bind_matches (bind_tree b) us) v
-      → (id.0 ≡ r.id) × (q ≡ is_persistent r) × (takes b r ≡ Some w.items)
-  send-some v w n h = (sym (ap (λ (s : Row). s.id) e), sym (ap is_persistent e), of_matches ∙ subst (IsFirst (bind_matches (bind_tree b) us)) n h)
+      → IsStorable r → (id.0 ≡ r.id) × (q ≡ is_persistent r) × (takes b r ≡ Some w.items) × IsStorable r
+  send-some v w n h s = (sym (ap (λ (x : Row). x.id) e), sym (ap is_persistent e), of_matches ∙ subst (IsFirst (bind_matches (bind_tree b) us)) n h, s)
 
 -- a send on another channel is not taken
 pub other-channel : (b : TermBind) (r : Row) (id : Digest) (c : Tree) (xs : Vec Tree Global) (q : Bool) → r ≡ row_of_op (op.Produce id c xs q) → congruent b.channel c ≡ false → takes b r ≡ None

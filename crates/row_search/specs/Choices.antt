@@ -4,6 +4,7 @@ use Rattle.calculus.specs.declared.plain.Kind.{Kind}
 use Rattle.calculus.specs.Matching.{Bindings}
 use Rattle.calculus.specs.Form.{a_bind}
 use Rattle.calculus.specs.Rows.{Row}
+use Rattle.calculus.specs.Storing.{IsStorable}
 use Rattle.calculus.specs.Steps.{as_datum, bindings_of, peeks}
 use Rattle.events.specs.Found.{Among}
 use Rattle.rho_term.specs.declared.term.TermBind.{TermBind}
@@ -72,30 +73,31 @@ gone_ids k (c ∷ cs) = cond (peeks k || is_persistent c.0) (gone_ids k cs) (c.0
 abbrev pub AllBindsReady : List TermBind → Type 0
 AllBindsReady bs = All (λ b. Ready a_bind (bind_tree b)) bs
 
--- what the code keeps of a choice
+-- what the code keeps of a choice, whose row may be stored
 abbrev pub IsChoice : Chosen → Choice → Type 0
-IsChoice h c = (h.id.0 ≡ c.0.id) × (h.persistent ≡ is_persistent c.0) × (h.bound.items ≡ c.1)
+IsChoice h c = (h.id.0 ≡ c.0.id) × (h.persistent ≡ is_persistent c.0) × (h.bound.items ≡ c.1) × IsStorable c.0
 
 -- the choice that a call found, or none
 abbrev pub Chooses : Option Choice → Option Chosen → Type 0
 Chooses c None = c ≡ None
 Chooses c (Some h) = (x : Choice) × (c ≡ Some x) × IsChoice h x
 
--- what the code keeps of choices for binds of a receiver of this kind
+-- what the code keeps of choices for binds of a receiver of this kind, whose rows may be stored
 pub record IsJoined (k : Kind) (cs : List Choice) (j : Joined) : Type 0 where
   pub taken : each (λ d. d.0) j.taken.items ≡ chosen_ids cs
   pub bound : j.bound.items ≡ bound_by cs
   pub gone : each (λ d. d.0) j.gone.items ≡ gone_ids k cs
+  pub storable : All (λ c. IsStorable c.0) cs
 
 -- what a bind takes of what it may take, or that it takes nothing
 abbrev pub PicksOne : List Row → Row → TermBind → Option Chosen → Type 0
 PicksOne rows o b None = PicksNone rows o b
 PicksOne rows o b (Some h) = (x : Choice) × Picks rows o b x × IsChoice h x
 
--- what the code keeps of a row that a bind takes
+-- what the code keeps of a row that a bind takes, which may be stored
 abbrev pub Binds : Row → Option Bindings → Option Chosen → Type 0
 Binds r xs None = xs ≡ None
-Binds r xs (Some h) = (h.id.0 ≡ r.id) × (h.persistent ≡ is_persistent r) × (xs ≡ Some h.bound.items)
+Binds r xs (Some h) = (h.id.0 ≡ r.id) × (h.persistent ≡ is_persistent r) × (xs ≡ Some h.bound.items) × IsStorable r
 
 -- one more choice
 pub record Extends (j : Joined) (h : Chosen) (peeking : Bool) (i : Joined) : Type 0 where

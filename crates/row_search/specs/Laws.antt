@@ -1,6 +1,7 @@
 -- What the search means to events. Each law stands in the contract of a public function that does nothing.
-use Rattle.std.specs.Prelude.{◌≡◌, ℕ, true, false, List, [], ◌∷◌, ◌++◌, map as each, Some, None}
+use Rattle.std.specs.Prelude.{◌≡◌, ℕ, true, false, List, [], ◌∷◌, ◌++◌, map as each, Some, None, All}
 use Rattle.calculus.specs.Rows.{Row, stdout, stdout_ack}
+use Rattle.calculus.specs.Storing.{IsStorable}
 use Rattle.calculus.specs.Steps.{Meeting, differ}
 use Rattle.calculus.specs.Runs.{Deploy, Work, body_work}
 use Rattle.events.specs.Events.{Core, started, after_put, Event, Events, AreFresh}
@@ -25,6 +26,7 @@ pub record MeetsAtHand (store : List Row) (o : Row) (f : Found) : Type 0 where
   pub sends : List Row
   pub at_hand : AreAtHand store o (receiver ∷ sends)
   pub part : Among o (receiver ∷ sends)
+  pub storable : All IsStorable (receiver ∷ sends)
   pub differs : IdsTell (store ++ (stdout ∷ stdout_ack ∷ o ∷ [])) → differ (each (λ d. d.id) sends) ≡ true
   pub meeting : Meeting
   pub meets : met (receiver ∷ sends) ≡ Some meeting

@@ -1,9 +1,10 @@
 -- What a search answers: rows that meet, or that there are none.
-use Rattle.std.specs.Prelude.{◌≡◌, ◌==◌, ◌&&◌, length, true, cond, List, [], ◌∷◌, ◌++◌, map as each, ℕ, Option, Some, None, ⊤}
+use Rattle.std.specs.Prelude.{◌≡◌, ◌==◌, ◌&&◌, length, true, cond, List, [], ◌∷◌, ◌++◌, map as each, Option, Some, None, ⊤, All}
 use Rattle.calculus.specs.declared.plain.Kind.{Kind}
 use Rattle.calculus.specs.declared.ids.Digest.{Digest}
 use Rattle.calculus.specs.Tree.{Tree}
 use Rattle.calculus.specs.Rows.{Row}
+use Rattle.calculus.specs.Storing.{IsStorable}
 use Rattle.calculus.specs.Steps.{Datum, Meeting, as_datum, differ, stays}
 use Rattle.events.specs.Found.{met, is_lasting, leaving_rows, Among}
 use Rattle.row_search.specs.declared.found.Found.{Found}
@@ -27,13 +28,14 @@ IdsTell rs = (a b : Row) → Among a rs → Among b rs → a.id ≡ b.id → a �
 abbrev pub MeetsNothing : List Row → Row → Type 0
 MeetsNothing rows o = (r : Row) (ds : List Row) → AllAmong (r ∷ ds) (rows_with rows o) → Among o (r ∷ ds) → met (r ∷ ds) ≡ None
 
--- Rows at hand meet, the operation among them, and this tells the ids of the receiver, of the sends and of what leaves, what is bound, the receiver's body, and whether
+-- Rows at hand that may be stored meet, the operation among them, and this tells the ids of the receiver, of the sends and of what leaves, what is bound, the receiver's body, and whether
 -- nothing leaves. The sends differ in their ids wherever ids tell rows.
 pub record IsFound (rows : List Row) (o : Row) (f : Found) : Type 0 where
   pub receiver : Row
   pub sends : List Row
   pub at_hand : AllAmong (receiver ∷ sends) (rows_with rows o)
   pub part : Among o (receiver ∷ sends)
+  pub storable : All IsStorable (receiver ∷ sends)
   pub differs : IdsTell (rows_with rows o) → differ (each (λ d. d.id) sends) ≡ true
   pub meeting : Meeting
   pub meets : met (receiver ∷ sends) ≡ Some meeting

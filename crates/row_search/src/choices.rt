@@ -1,9 +1,10 @@
 // A choice of a row for each bind of a receiver.
-ghost use Rattle.std.specs.Prelude.{◌≡◌, IfOk, MatchOption};
+ghost use Rattle.std.specs.Prelude.{◌≡◌, [], ◌∷◌, map, IfOk, MatchOption};
 ghost use Rattle.calculus.specs.Form.{a_bind};
 ghost use Rattle.calculus.specs.Steps.{peeks};
 ghost use Rattle.rho_term.specs.Parts.{bind_tree};
 ghost use Rattle.spatial_match.specs.Given.{Ready};
+ghost use Rattle.row_search.specs.Rows.{looked_up};
 ghost use Rattle.row_search.specs.Choices.{first_taken, takes, AllBindsReady, Binds, Chooses, Extends, Fails, Joins, PicksOne};
 
 use crate::compare::{is_sent_on, same_channel};
@@ -58,13 +59,34 @@ fn take_send(alloc: Global, bind: &TermBind, row: &Row) -> Result<Option<Chosen>
     }
 }
 
-// The first of these rows that a bind takes.
-fn find_send(alloc: Global, bind: &TermBind, rows: &[Row]) -> Result<Option<Chosen>, AllocError>
+// What a bind takes of the row with this id.
+fn take_row<S: RowsAtHand>(
+    alloc: Global,
+    bind: &TermBind,
+    store: &S,
+    id: &Digest,
+) -> Result<Option<Chosen>, AllocError>
     requires { Ready a_bind (bind_tree bind.now) }
-    ensures { IfOk result (λ o. Chooses (first_taken bind.now rows.now) o) }
+    ensures { IfOk result (λ o. Chooses (first_taken bind.now (looked_up (S.rows store.now) (id.now.0 ∷ []))) o) }
 {
-    for row in rows {
-        let found = take_send(alloc, bind, row)?;
+    match store.row(id) {
+        None => Ok(None),
+        Some(row) => take_send(alloc, bind, row),
+    }
+}
+
+// The first of the rows with these ids that a bind takes.
+fn find_send<S: RowsAtHand>(
+    alloc: Global,
+    bind: &TermBind,
+    store: &S,
+    ids: &[Digest],
+) -> Result<Option<Chosen>, AllocError>
+    requires { Ready a_bind (bind_tree bind.now) }
+    ensures { IfOk result (λ o. Chooses (first_taken bind.now (looked_up (S.rows store.now) (map (λ d. d.0) ids.now))) o) }
+{
+    for id in ids {
+        let found = take_row(alloc, bind, store, id)?;
         if found.is_some() {
             return Ok(found);
         }
@@ -86,8 +108,8 @@ fn choose<S: RowsAtHand>(
     if is_sent_on(&bind.channel, op) {
         take_send(alloc, bind, op)
     } else {
-        let rows = store.sends_on(alloc, &bind.channel)?;
-        find_send(alloc, bind, rows)
+        let ids = store.sends_on(alloc, &bind.channel)?;
+        find_send(alloc, bind, store, ids)
     }
 }
 

@@ -1,9 +1,10 @@
 // The search of an operation among the rows at hand.
-ghost use Rattle.std.specs.Prelude.{◌≡◌, IfOk, MatchOption};
+ghost use Rattle.std.specs.Prelude.{◌≡◌, [], ◌∷◌, All, IfOk, MatchOption};
 ghost use Rattle.calculus.specs.Form.{term};
 ghost use Rattle.calculus.specs.Steps.{stays};
 ghost use Rattle.events.specs.Found.{Among};
 ghost use Rattle.spatial_match.specs.Given.{Ready};
+ghost use Rattle.row_search.specs.Rows.{looked_up};
 ghost use Rattle.row_search.specs.Meetings.{rows_with, Finishes, IsFound, IsSendOn, MayMeet, MeetsNone, MeetsNothing};
 
 use crate::choices::{Joined, join};
@@ -56,13 +57,31 @@ fn find_receiver<S: RowsAtHand>(
     ensures { IfOk result (λ o. MatchOption o (MeetsNothing (S.rows store.now) op.now) (IsFound (S.rows store.now) op.now)) }
 {
     let receivers = store.receivers_on(alloc, channel)?;
-    for row in receivers {
-        let found = meet_heard(alloc, row, store, op, channel)?;
+    for id in receivers {
+        let found = meet_row(alloc, id, store, op, channel)?;
         if found.is_some() {
             return Ok(found);
         }
     }
     Ok(None)
+}
+
+// The row with this id, where it meets the operation, which is a send on this channel, and other rows.
+fn meet_row<S: RowsAtHand>(
+    alloc: Global,
+    id: &Digest,
+    store: &S,
+    op: &Row,
+    channel: &Term,
+) -> Result<Option<Found>, AllocError>
+    requires send { IsSendOn channel.now op.now }
+    requires channel { Ready term channel.now }
+    ensures { IfOk result (λ o. MatchOption o (All (MeetsNone (S.rows store.now) op.now) (looked_up (S.rows store.now) (id.now.0 ∷ []))) (IsFound (S.rows store.now) op.now)) }
+{
+    match store.row(id) {
+        None => Ok(None),
+        Some(receiver) => meet_heard(alloc, receiver, store, op, channel),
+    }
 }
 
 // A receiver at hand and the first sends that its binds take, the operation among them, which is a send

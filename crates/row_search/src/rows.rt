@@ -1,46 +1,55 @@
 // Where the rows at hand stand.
-ghost use Rattle.std.specs.Prelude.{List, IfOk};
+ghost use Rattle.std.specs.Prelude.{◌≡◌, List, [], ◌∷◌, true, map, IfOk, IsPermutation};
+ghost use Rattle.std.specs.Option.{option_copied};
 ghost use Rattle.calculus.specs.Form.{term};
 ghost use Rattle.calculus.specs.Rows.{Row};
+ghost use Rattle.calculus.specs.Steps.{differ};
+ghost use Rattle.events.specs.Found.{without};
 ghost use Rattle.spatial_match.specs.Given.{Ready};
-ghost use Rattle.row_search.specs.Rows.{HasReceivers, HasSends};
+ghost use Rattle.row_search.specs.Rows.{row_with, HasReceivers, HasSends};
 
+use calculus::Digest;
 use rho_term::Term;
 use space_row::Row;
 use std::alloc::{AllocError, Global};
 
-/// The rows that an operation may meet, found by their channels.
+/// The rows that an operation may meet, found by their ids, and their ids by channels.
 ///
-/// A table that files rows by channel gives those of one place; what else stands there does no harm.
+/// A table that files ids by channel gives those of one place; what else stands there does no harm, be it
+/// the id of another row or of none.
 pub trait RowsAtHand {
     ghost rows: { Self → List Row };
 
-    /// Rows at hand, all sends on this channel among them. Want of memory is the one error.
-    fn sends_on(&self, alloc: Global, channel: &Term) -> Result<&[Row], AllocError>
-        requires { Ready term channel.now }
-        ensures { IfOk result (λ s. HasSends (rows self.now) channel.now s.now) };
+    /// The row with this id.
+    fn row(&self, id: &Digest) -> Option<&Row>
+        ensures { option_copied result ≡ row_with id.now.0 (rows self.now) };
 
-    /// Rows at hand, all receives with a bind on this channel among them. Want of memory is the one
-    /// error.
-    fn receivers_on(&self, alloc: Global, channel: &Term) -> Result<&[Row], AllocError>
+    /// Ids, those of all sends on this channel among them. Want of memory is the one error.
+    fn sends_on(&self, alloc: Global, channel: &Term) -> Result<&[Digest], AllocError>
         requires { Ready term channel.now }
-        ensures { IfOk result (λ s. HasReceivers (rows self.now) channel.now s.now) };
+        ensures { IfOk result (λ ids. HasSends (rows self.now) channel.now (map (λ d. d.0) ids.now)) };
+
+    /// Ids, those of all receives with a bind on this channel among them. Want of memory is the one error.
+    fn receivers_on(&self, alloc: Global, channel: &Term) -> Result<&[Digest], AllocError>
+        requires { Ready term channel.now }
+        ensures { IfOk result (λ ids. HasReceivers (rows self.now) channel.now (map (λ d. d.0) ids.now)) };
 }
 
-/// Rows in one list, which is walked whole.
-#[derive(Drop)]
-pub struct RowList {
-    pub rows: Vec<Row>,
-}
+/// What a table of rows does beside showing them.
+pub trait Table: RowsAtHand + Drop {
+    /// The table of no rows.
+    fn new(alloc: Global) -> Self
+        ensures { Self.rows result ≡ [] };
 
-impl RowsAtHand for RowList {
-    ghost rows = { λ s. s.rows.items };
+    /// Adds a row, where no two rows have one id then. Want of memory is the one error.
+    fn put(&mut self, alloc: Global, row: Row) -> Result<(), AllocError>
+        ensures { IfOk result (λ _. differ (map (λ r. r.id) (row ∷ Self.rows self.old)) ≡ true → IsPermutation (Self.rows self.new) (row ∷ Self.rows self.old)) };
 
-    fn sends_on(&self, _alloc: Global, _channel: &Term) -> Result<&[Row], AllocError> {
-        Ok(self.rows.as_slice())
-    }
+    /// Takes out the rows with these ids, where no two rows have one id.
+    fn take_out(&mut self, ids: &[Digest])
+        ensures { differ (map (λ r. r.id) (Self.rows self.old)) ≡ true → IsPermutation (Self.rows self.new) (without (map (λ d. d.0) ids.now) (Self.rows self.old)) };
 
-    fn receivers_on(&self, _alloc: Global, _channel: &Term) -> Result<&[Row], AllocError> {
-        Ok(self.rows.as_slice())
-    }
+    /// All rows, in some order. Want of memory is the one error.
+    fn into_rows(self, alloc: Global) -> Result<Vec<Row>, AllocError>
+        ensures { IfOk result (λ v. IsPermutation v.items (Self.rows self)) };
 }

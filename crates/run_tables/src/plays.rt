@@ -3,8 +3,8 @@ ghost use Rattle.calculus.specs.Form.{IsClosed};
 ghost use Rattle.linear_unfold.specs.Linear.{is_linear};
 
 use calculus::Digest;
+use channel_table::ChannelTable;
 use event_log::{Log, LogHeader, LogStep, MOST_STEPS};
-use linear_play::{Played, play};
 use linear_unfold::is_linear;
 use log_replay::{ReplayFault, replay};
 use name_seed::EMPTY_ROOT;
@@ -13,6 +13,7 @@ use rho_term::Term;
 use std::alloc::Global;
 use table_lines::{LineFault, hex_bytes, number};
 use term_code::decode_term;
+use worker_round::{Played, play};
 
 /// The digest of the source.
 const SOURCE: Digest = Digest([7; 32]);
@@ -33,7 +34,8 @@ pub fn play_of(alloc: Global, fields: &str) -> Result<String, LineFault> {
         cost,
         steps,
         rows,
-    } = play(alloc, &term, &SOURCE, &prices, limit)?;
+        output: _,
+    } = play::<ChannelTable>(alloc, &term, &SOURCE, &prices, limit)?;
     let (made, left) = (steps.len(), rows.len());
     let header = LogHeader {
         base: EMPTY_ROOT,

@@ -1,8 +1,6 @@
 use Rattle.std.proofs.Common.{inr, ◌⊎◌, rules}
-use Rattle.std.specs.Result.{IsOkAnd}
-use Rattle.rho_outside.specs.Told.{Told}
-use Rattle.rho_main.specs.Runnable.{IsRunnable}
 use Rattle.rho_main.specs.Words.{names_of}
+use Rattle.rho_main.specs.Given.{task_of}
 use Rattle.rho_main.specs.Inputs.{accepted}
 use Rattle.rho_outside.specs.Causes.{Rose}
 use Rattle.rho_main.specs.Ends.{HasEnded, Leaves, LeavesAll, LeavesSome}
@@ -14,6 +12,7 @@ use Rattle.rho_main.proofs.deploy.deploy.Goals as goal
 pub returns-in-Ok-write_plan-clause-verdict : goal.returns-in-Ok-write_plan-clause-verdict
 returns-in-Ok-write_plan-clause-verdict g c =
     let names = names_of c.args.command.now in
+    let task = task_of c.in-Ok.inputs in
     let old = g.S.Shelf.files c.args.shelf.now in
     let new = g.S.Shelf.files c.write_plan.new.shelf in
     let before = g.O.Sink.written c.args.out.now in
@@ -21,48 +20,44 @@ returns-in-Ok-write_plan-clause-verdict g c =
     let s = c.status_of.result in
     let w = c.in-Ok-write_plan.ensures in
     on_verdict s (Leaves s names old new before after) (λ files h.
-    ok_and (LeavesAll s names old new before after) (accepted names files) c.in-Ok.inputs.source.items (c.in-Ok.ensures.accepted files h)
-    (leaves_all s names _ c.in-Ok-make_plan.plan old (g.S.Shelf.files c.accept.new.shelf) new before after c.in-Ok-make_plan.ensures c.status_of.ensures c.in-Ok.ensures.files w.kept w.put))
+    ok_and (LeavesAll s names old new before after) (accepted names files) task (c.in-Ok.ensures.accepted files h)
+    (leaves_all s names task c.in-Ok-make_plan.plan old (g.S.Shelf.files c.accept.new.shelf) new before after c.in-Ok-make_plan.ensures c.status_of.ensures c.in-Ok.ensures.files w.kept w.put))
 
 pub returns-in-Err-WriteFault-clause-part : goal.returns-in-Err-WriteFault-clause-part
 returns-in-Err-WriteFault-clause-part g c =
     let names = names_of c.args.command.now in
+    let task = task_of c.in-Ok.inputs in
     let old = g.S.Shelf.files c.args.shelf.now in
     let new = g.S.Shelf.files c.write_plan.new.shelf in
+    let faults = g.S.Shelf.keep_faults c.args.shelf.now in
+    let faults_new = g.S.Shelf.keep_faults c.write_plan.new.shelf in
     let before = g.O.Sink.written c.args.out.now in
     let after = g.O.Sink.written c.write_plan.new.out in
-    let w = c.in-Err-WriteFault.ensures in
-    λ files h. inr (ok_and (LeavesSome names old new before after) (accepted names files) c.in-Ok.inputs.source.items (c.in-Ok.ensures.accepted files h)
-    (leaves_some names _ c.in-Ok-make_plan.plan old (g.S.Shelf.files c.accept.new.shelf) new before after c.in-Ok-make_plan.ensures c.in-Ok.ensures.files w.part w.put_part))
+    λ files h. inr (ok_and (LeavesSome names old new faults faults_new before after) (accepted names files) task (c.in-Ok.ensures.accepted files h)
+    (leaves_some names task c.in-Ok-make_plan.plan old (g.S.Shelf.files c.accept.new.shelf) new faults (g.S.Shelf.keep_faults c.accept.new.shelf) faults_new before after c.in-Ok-make_plan.ensures c.in-Ok.ensures.files c.in-Ok.ensures.keep_faults c.in-Err-WriteFault.ensures.part))
 
 pub returns-clause-part : goal.returns-clause-part
 returns-clause-part g c =
     let names = names_of c.args.command.now in
+    let task = task_of c.in-Ok.inputs in
     let old = g.S.Shelf.files c.args.shelf.now in
     let new = g.S.Shelf.files c.write_plan.new.shelf in
+    let faults = g.S.Shelf.keep_faults c.args.shelf.now in
+    let faults_new = g.S.Shelf.keep_faults c.write_plan.new.shelf in
     let before = g.O.Sink.written c.args.out.now in
     let after = g.O.Sink.written c.write_plan.new.out in
-    let w = c.in-Err-NoMemory.ensures in
-    λ files h. inr (ok_and (LeavesSome names old new before after) (accepted names files) c.in-Ok.inputs.source.items (c.in-Ok.ensures.accepted files h)
-    (leaves_some names _ c.in-Ok-make_plan.plan old (g.S.Shelf.files c.accept.new.shelf) new before after c.in-Ok-make_plan.ensures c.in-Ok.ensures.files w.part w.put_part))
-
-pub returns-in-Ok-write_plan-clause-runnable : goal.returns-in-Ok-write_plan-clause-runnable
-returns-in-Ok-write_plan-clause-runnable g c =
-    let names = names_of c.args.command.now in
-    let s = c.status_of.result in
-    let i = c.in-Ok.inputs in
-    let old = g.S.Shelf.files c.args.shelf.now in
-    on_verdict s (Told old (λ files. IsOkAnd (accepted names files) IsRunnable)) (λ files h. ok_and IsRunnable (accepted names files) i.source.items (c.in-Ok.ensures.accepted files h) (i.term, (c.in-Ok.ensures.term, c.in-Ok.ensures.linear)))
+    λ files h. inr (ok_and (LeavesSome names old new faults faults_new before after) (accepted names files) task (c.in-Ok.ensures.accepted files h)
+    (leaves_some names task c.in-Ok-make_plan.plan old (g.S.Shelf.files c.accept.new.shelf) new faults (g.S.Shelf.keep_faults c.accept.new.shelf) faults_new before after c.in-Ok-make_plan.ensures c.in-Ok.ensures.files c.in-Ok.ensures.keep_faults c.in-Err-NoMemory.ensures.part))
 
 pub returns-in-Ok-write_plan-clause-source_exact : goal.returns-in-Ok-write_plan-clause-source_exact
 returns-in-Ok-write_plan-clause-source_exact g c =
     let i = c.in-Ok.inputs in
-    λ files h. late_free (names_of c.args.command.now) files _ _ i.source.items c.status_of.result (c.in-Ok.ensures.accepted files h) (run_free i.source.items i.term c.in-Ok.ensures.term c.in-Ok.ensures.linear)
+    λ files h. late_free (names_of c.args.command.now) files _ _ (task_of i) c.status_of.result (c.in-Ok.ensures.accepted files h) (run_free i.source.items i.term c.in-Ok.ensures.term)
 
 pub returns-in-Err-WriteFault-clause-source_exact : goal.returns-in-Err-WriteFault-clause-source_exact
 returns-in-Err-WriteFault-clause-source_exact g c =
     let i = c.in-Ok.inputs in
-    λ files h. late_free (names_of c.args.command.now) files _ _ i.source.items WriteFault (c.in-Ok.ensures.accepted files h) (run_free i.source.items i.term c.in-Ok.ensures.term c.in-Ok.ensures.linear)
+    λ files h. late_free (names_of c.args.command.now) files _ _ (task_of i) WriteFault (c.in-Ok.ensures.accepted files h) (run_free i.source.items i.term c.in-Ok.ensures.term)
 
 pub returns-in-Err-clause-complete : goal.returns-in-Err-clause-complete
 returns-in-Err-clause-complete g c = λ files h. early_end (names_of c.args.command.now) (g.S.Shelf.files c.args.shelf.now) _ _ c.in-Err.status _ _ c.in-Err.ensures.refused files h
@@ -70,4 +65,4 @@ returns-in-Err-clause-complete g c = λ files h. early_end (names_of c.args.comm
 pub returns-in-Err-WriteFault-clause-complete : goal.returns-in-Err-WriteFault-clause-complete
 returns-in-Err-WriteFault-clause-complete g c =
     let w : Rose (g.S.Shelf.keep_faults c.args.shelf.now) (g.S.Shelf.keep_faults c.write_plan.new.shelf) ⊎ Rose (g.O.Sink.faults c.args.out.now) (g.O.Sink.faults c.write_plan.new.out) = search rules in
-    λ files h. whole_end (names_of c.args.command.now) files _ (λ source u n k o. write_end (HasEnded WriteFault) _ _ w k o)
+    λ files h. whole_end (names_of c.args.command.now) files _ (λ task u n k o. write_end (HasEnded WriteFault) _ _ w k o)

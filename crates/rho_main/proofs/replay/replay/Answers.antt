@@ -1,4 +1,4 @@
-use Rattle.std.proofs.Common.{◌≡◌, inr}
+use Rattle.std.proofs.Common.{inr}
 use Rattle.rho_main.specs.Words.{names_of}
 use Rattle.rho_main.specs.Replaying.{ReplayLeaves}
 use Rattle.rho_main.proofs.Leaving.{on_verdict}

@@ -23,4 +23,4 @@ returns-in-Some c =
     let p = c.in-Produce in
     let e = as-row c.args.row.now _ _ c.op.ensures.is p.is in
     send-some c.args.bind.now c.args.row.now p.id p.channel p.args p.persistent e (sym c.same_channel.ensures ∙ c.if-not-same_channel.false) c.deref.result.now c.deref.ensures.value
-    c.in_ok-match_bind-in-Produce.field-0 c.in-Some.bound c.in-Some.is c.in_ok-match_bind-in-Produce.ensures
+    c.in_ok-match_bind-in-Produce.field-0 c.in-Some.bound c.in-Some.is c.in_ok-match_bind-in-Produce.ensures c.op.ensures.storable

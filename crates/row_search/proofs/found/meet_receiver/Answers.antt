@@ -1,7 +1,7 @@
 use Rattle.std.proofs.Common.{sym, subst}
 use Rattle.row_search.specs.Choices.{AllBindsReady}
 use Rattle.row_search.proofs.Known.{as-row, binds-ready}
-use Rattle.row_search.proofs.Answering.{lent-none, lent-some, send-meets-none}
+use Rattle.row_search.proofs.Answering.{lent-none, lent-some}
 use Rattle.row_search.proofs.found.meet_receiver.Goals as goal
 
 pub join-requires : goal.join-requires

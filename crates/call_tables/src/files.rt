@@ -1,0 +1,70 @@
+use rho_outside::{MemShelf, Shelf};
+use sha2::{Digest as _, Sha256};
+use std::alloc::Global;
+use std::str;
+use table_lines::{LineFault, unescape};
+
+/// The most bytes of a file that are shown.
+const MOST: u64 = 1_000_000;
+
+/// The most bytes that are shown one by one. Of more the digest is shown.
+const FEW: usize = 600;
+
+/// Files in memory.
+#[derive(Drop)]
+pub struct Files {
+    pub shelf: MemShelf,
+}
+
+impl Files {
+    pub fn new(alloc: Global) -> Files {
+        Files {
+            shelf: MemShelf::new(alloc),
+        }
+    }
+
+    /// Keeps a file: its name, `=` and its text with escapes.
+    pub fn set(&mut self, alloc: Global, part: &str) -> Result<(), LineFault> {
+        let (name, text) = part.split_once('=').ok_or(LineFault::Field)?;
+        let bytes = unescape(alloc, text)?;
+        match self.shelf.keep(alloc, name, bytes.as_slice()) {
+            Ok(()) => Ok(()),
+            Err(_) => Err(LineFault::NoMemory),
+        }
+    }
+
+    /// The bytes of a file, or that there is none.
+    pub fn told(&mut self, alloc: Global, name: &str) -> Result<String, LineFault> {
+        match self.shelf.fetch(alloc, name, MOST) {
+            Ok(bytes) => told_digits(alloc, bytes.as_slice()),
+            Err(_) => Ok(String::from_str(alloc, "no file")?),
+        }
+    }
+}
+
+/// Bytes as hexadecimal digits; where there are many, their number and their digest.
+fn told_digits(alloc: Global, bytes: &[u8]) -> Result<String, LineFault> {
+    if bytes.len() > FEW {
+        return told_digest(alloc, bytes);
+    }
+    Ok(hex::encode(alloc, bytes)?)
+}
+
+fn told_digest(alloc: Global, bytes: &[u8]) -> Result<String, LineFault> {
+    let mut hasher = Sha256::new();
+    hasher.update(bytes);
+    let digest = hasher.finalize();
+    let digits = hex::encode(alloc, &digest)?;
+    Ok(format!(in alloc; "{} bytes, {digits}", bytes.len())?)
+}
+
+/// Bytes as a text in quotes; where there are many, their number and their digest.
+pub fn told_bytes(alloc: Global, bytes: &[u8]) -> Result<String, LineFault> {
+    if bytes.len() > FEW {
+        return told_digest(alloc, bytes);
+    }
+    let Ok(text) = str::from_utf8(bytes) else {
+        return Err(LineFault::Field);
+    };
+    Ok(format!(in alloc; "{text:?}")?)
+}

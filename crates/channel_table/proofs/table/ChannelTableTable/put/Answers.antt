@@ -1,0 +1,57 @@
+use Rattle.std.proofs.Common.{◌≡◌, ℕ, List, ◌∷◌, cond, true, map, sym, ◌∙◌, ap, subst}
+use Rattle.std.specs.Prelude.{IsPermutation}
+use Rattle.std.specs.List.{AllByRecursion}
+use Rattle.calculus.specs.Rows.{Row}
+use Rattle.calculus.specs.Steps.{differ, is_one_of}
+use Rattle.row_search.specs.Rows.{IsIn}
+use Rattle.channel_table.specs.Groups.{is_send, HasId}
+use Rattle.channel_table.specs.Tables.{rows_in, IsFiled}
+use Rattle.channel_table.specs.declared.table.Filed.{Filed}
+use Rattle.channel_table.proofs.Changing.{all-put, all-still-filed, differ-first, new-filed, rows-put}
+use Rattle.channel_table.proofs.Filing.{under-ids}
+use Rattle.channel_table.proofs.table.ChannelTableTable.put.Goals as goal
+
+pub invariant_of-self : goal.invariant_of-self
+invariant_of-self c =
+    let i = c.self.inside in
+    let t = c.self.invariant in
+    record { ordered = t.ordered; filed = all-still-filed i.sends.entries i.receivers.entries c.file_id.new.sends.entries c.file_id.new.receivers.entries i.rows.entries t.filed c.file_id.ensures.sends c.file_id.ensures.receivers }
+
+pub invariant_of-self-in_err-insert : goal.invariant_of-self-in_err-insert
+invariant_of-self-in_err-insert c =
+    let i = c.self.inside in
+    let t = c.self.invariant in
+    let sends = c.file_id.new.sends.entries in
+    let receivers = c.file_id.new.receivers.entries in
+    record {
+      ordered = c.insert.ensures.ordered;
+      filed = subst (AllByRecursion (IsFiled sends receivers)) (sym c.in_err-insert.ensures.err) (all-still-filed i.sends.entries i.receivers.entries sends receivers i.rows.entries t.filed c.file_id.ensures.sends c.file_id.ensures.receivers);
+    }
+
+pub invariant_of-self-2 : goal.invariant_of-self-2
+invariant_of-self-2 c =
+    let i = c.self.inside in
+    let t = c.self.invariant in
+    let sends = c.file_id.new.sends.entries in
+    let receivers = c.file_id.new.receivers.entries in
+    let x = c.id-id.result.0 in
+    let f : Filed = record { row = c.args.row; keys = c.in_ok-keys.keys } in
+    let there : (k : List ℕ) → IsIn k f.keys.items → HasId (cond (is_send f.row) sends receivers) k x =
+    λ k m. subst (λ b. HasId (cond b sends receivers) k x) c.is_send-send.ensures.is (c.in_ok-file_id.ensures.there k (subst (λ (l : List (List ℕ)). IsIn k l) (sym c.as_slice.ensures.value) m)) in
+    record {
+      ordered = c.insert.ensures.ordered;
+      filed = subst (AllByRecursion (IsFiled sends receivers)) (sym c.in_ok-insert.ensures.entries)
+          (all-put (IsFiled sends receivers) i.rows.entries x f (all-still-filed i.sends.entries i.receivers.entries sends receivers i.rows.entries t.filed c.file_id.ensures.sends c.file_id.ensures.receivers)
+          (new-filed sends receivers x f c.id-id.ensures c.is_send-send.ensures.storable c.in_ok-keys.ensures there));
+    }
+
+pub returns : goal.returns
+returns c =
+    let i = c.self.inside in
+    let t = c.self.invariant in
+    let es = i.rows.entries in
+    let x = c.id-id.result.0 in
+    let f : Filed = record { row = c.args.row; keys = c.in_ok-keys.keys } in
+    λ d. let new = differ-first c.args.row.id (map (λ (r : Row). r.id) (rows_in es)) (subst (λ (rs : List Row). differ (map (λ r. r.id) (c.args.row ∷ rs)) ≡ true) (sym c.self.view_is) d) in
+    let put = rows-put es x f (under-ids i.sends.entries i.receivers.entries es t.filed) (ap (λ (z : List ℕ). is_one_of z (map (λ (r : Row). r.id) (rows_in es))) c.id-id.ensures ∙ new) in
+    subst (λ (rs : List Row). IsPermutation (rows_in c.insert.new.self.entries) (c.args.row ∷ rs)) c.self.view_is (subst (λ (fs : List (List ℕ × Filed)). IsPermutation (rows_in fs) (c.args.row ∷ rows_in es)) (sym c.in_ok-insert.ensures.entries) put)
