@@ -1,0 +1,196 @@
+-- Codes of the rows of a key, one row after another and in another order.
+use Rattle.std.proofs.Common.{◌≡◌, ℕ, zero, suc, ◌<◌, ◌+◌, Bool, true, false, cond, List, [], ◌∷◌, ◌++◌, length, map as each, take, drop, get_or, refl, ap, sym, ◌∙◌, subst, arith, append-nil, inl, inr, ⊎_elim}
+use Rattle.std.specs.Prelude.{◌⊎◌, IsPermutation, All}
+use Rattle.std.specs.Str.{bytes_eq}
+use Rattle.std.proofs.Math.Seq.{drop-cons}
+use Rattle.std.proofs.lemmas.List.{take_more}
+use Rattle.std.proofs.lemmas.List.Elements.{All-head, All-tail, All-cons}
+use Rattle.list_laws.specs.Exchanges.{Exchanges, nothing, under, neighbours, then}
+use Rattle.list_laws.proofs.Permutations.{exchanges, permuted, keep, join, unmoved, exchange}
+use Rattle.calculus.specs.Order.{sorted, up_to, IsAscending, IsBelowFirst}
+use Rattle.calculus.specs.Rows.{Row, row_code}
+use Rattle.calculus.specs.Root.{key}
+use Rattle.calculus.proofs.Ordered.{up_to_total, up_to_both, up_to_trans}
+use Rattle.states.proofs.Groups.{same, equal, sorted-moved}
+use Rattle.term_encoder.proofs.Codes.{sorted-ascending}
+use Rattle.radix_root.specs.Leaves.{Leaves, digest_at, group_digest, codes_at, Keeps, groups_of, changed}
+use Rattle.checkpoint.specs.declared.groups.KeyedRow.{KeyedRow}
+use Rattle.checkpoint.specs.declared.groups.Groups.{Groups}
+use Rattle.checkpoint.specs.Groups.{row_of, Holds, IsKeyed}
+
+pub sorted-none : sorted [] ≡ []
+unfolding sorted
+sorted-none = refl
+
+pub codes-push : (rows : List Row) (r : Row) (k : List ℕ) → codes_at (rows ++ r ∷ []) k ≡ codes_at rows k ++ cond (bytes_eq k (key r)) (row_code r ∷ []) []
+codes-push [] r k = refl
+codes-push (q ∷ qs) r k = go (bytes_eq k (key q)) (codes-push qs r k)
+  where
+    go : (b : Bool) → codes_at (qs ++ r ∷ []) k ≡ codes_at qs k ++ cond (bytes_eq k (key r)) (row_code r ∷ []) []
+        → cond b (row_code q ∷ codes_at (qs ++ r ∷ []) k) (codes_at (qs ++ r ∷ []) k) ≡ cond b (row_code q ∷ codes_at qs k) (codes_at qs k) ++ cond (bytes_eq k (key r)) (row_code r ∷ []) []
+    go true e = ap (λ cs. row_code q ∷ cs) e
+    go false e = e
+
+-- no row of another key comes
+pub codes-other : (rows : List Row) (r : Row) (k : List ℕ) → bytes_eq k (key r) ≡ false → codes_at (rows ++ r ∷ []) k ≡ codes_at rows k
+codes-other rows r k e = codes-push rows r k ∙ ap (λ b. codes_at rows k ++ cond b (row_code r ∷ []) []) e ∙ append-nil (codes_at rows k)
+
+pub codes-same : (rows : List Row) (r : Row) (k : List ℕ) → key r ≡ k → codes_at (rows ++ r ∷ []) k ≡ codes_at rows k ++ row_code r ∷ []
+codes-same rows r k e = codes-push rows r k ∙ ap (λ b. codes_at rows k ++ cond b (row_code r ∷ []) []) (equal k (key r) (sym e))
+
+-- one more row of the group beside the tree
+pub open-push : (tree : Leaves) (k0 : List ℕ) (rows : List Row) (r : Row) → key r ≡ k0
+    → Keeps tree (λ k. cond (bytes_eq k k0) [] (groups_of rows k)) → Keeps tree (λ k. cond (bytes_eq k k0) [] (groups_of (rows ++ r ∷ []) k))
+open-push tree k0 rows r e h k = go (bytes_eq k k0) refl (h k)
+  where
+    go : (b : Bool) → bytes_eq k k0 ≡ b → digest_at tree k ≡ group_digest k (cond b [] (groups_of rows k)) → digest_at tree k ≡ group_digest k (cond b [] (groups_of (rows ++ r ∷ []) k))
+    go true q g = g
+    go false q g = g ∙ ap (λ cs. group_digest k (sorted cs)) (sym (codes-other rows r k (ap (bytes_eq k) e ∙ q)))
+
+-- a tree of all rows, beside a group that has none
+pub open-new : (tree : Leaves) (k0 : List ℕ) (rows : List Row) → codes_at rows k0 ≡ [] → Keeps tree (groups_of rows) → Keeps tree (λ k. cond (bytes_eq k k0) [] (groups_of rows k))
+open-new tree k0 rows n h k = go (bytes_eq k k0) refl
+  where
+    go : (b : Bool) → bytes_eq k k0 ≡ b → digest_at tree k ≡ group_digest k (cond b [] (groups_of rows k))
+    go true q = h k ∙ ap (group_digest k) (ap (λ l. sorted (codes_at rows l)) (same k k0 q) ∙ ap sorted n ∙ sorted-none)
+    go false q = h k
+
+-- the group beside the tree is put into it
+pub closed : (tree after : Leaves) (k0 : List ℕ) (rows : List Row) (before cs : List (List ℕ)) → before ≡ codes_at rows k0 → IsPermutation before cs → IsAscending cs
+    → Keeps tree (λ k. cond (bytes_eq k k0) [] (groups_of rows k)) → ((f : List ℕ → List (List ℕ)) → Keeps tree f → Keeps after (changed f k0 cs)) → Keeps after (groups_of rows)
+closed tree after k0 rows before cs e p up h c k = go (bytes_eq k k0) refl (c _ h k)
+  where
+    whole : cs ≡ sorted (codes_at rows k0)
+    whole = sym (sorted-ascending cs up) ∙ sym (sorted-moved p) ∙ ap sorted e
+
+    go : (b : Bool) → bytes_eq k k0 ≡ b → digest_at after k ≡ group_digest k (cond b cs (cond b [] (groups_of rows k))) → digest_at after k ≡ group_digest k (groups_of rows k)
+    go true q g = g ∙ ap (group_digest k) (whole ∙ ap (λ l. sorted (codes_at rows l)) (sym (same k k0 q)))
+    go false q g = g
+
+pair-moved : (k : List ℕ) (b d : Bool) (x y : List ℕ) (zs : List (List ℕ)) → IsPermutation (cond b (x ∷ cond d (y ∷ zs) zs) (cond d (y ∷ zs) zs)) (cond d (y ∷ cond b (x ∷ zs) zs) (cond b (x ∷ zs) zs))
+pair-moved k true true x y zs = exchange x y zs
+pair-moved k true false x y zs = unmoved (x ∷ zs)
+pair-moved k false true x y zs = unmoved (y ∷ zs)
+pair-moved k false false x y zs = unmoved zs
+
+-- rows in another order have the same codes of each key, in another order
+pub codes-moved : {rows others : List Row} (k : List ℕ) → IsPermutation rows others → IsPermutation (codes_at rows k) (codes_at others k)
+codes-moved k p = go (exchanges p)
+  where
+    more : (b : Bool) (x : List ℕ) {xs ys : List (List ℕ)} → IsPermutation xs ys → IsPermutation (cond b (x ∷ xs) xs) (cond b (x ∷ ys) ys)
+    more true x m = keep x m
+    more false x m = m
+
+    go : {rows others : List Row} → Exchanges rows others → IsPermutation (codes_at rows k) (codes_at others k)
+    go nothing = unmoved []
+    go (under r e) = more (bytes_eq k (key r)) (row_code r) (go e)
+    go (neighbours r q zs) = pair-moved k (bytes_eq k (key r)) (bytes_eq k (key q)) (row_code r) (row_code q) (codes_at zs k)
+    go (then e f) = join (go e) (go f)
+
+-- and the same groups
+pub groups-moved : {rows others : List Row} (tree : Leaves) → IsPermutation rows others → Keeps tree (groups_of others) → Keeps tree (groups_of rows)
+groups-moved tree p h k = h k ∙ ap (group_digest k) (sym (sorted-moved (codes-moved k p)))
+
+pub up_to-self : (x : List ℕ) → up_to x x ≡ true
+up_to-self x = go (up_to x x) refl
+  where
+    go : (b : Bool) → up_to x x ≡ b → b ≡ true
+    go true e = refl
+    go false e = sym e ∙ up_to_total x x e
+
+-- each key that has rows is no greater than this
+abbrev pub IsAtLeast : List ℕ → List Row → Type 0
+IsAtLeast low rows = (k : List ℕ) → (codes_at rows k ≡ []) ⊎ (up_to k low ≡ true)
+
+pub at-least-push : (low : List ℕ) (rows : List Row) (r : Row) → IsAtLeast low rows → ((k : List ℕ) → codes_at rows k ≡ []) ⊎ (up_to low (key r) ≡ true) → IsAtLeast (key r) (rows ++ r ∷ [])
+at-least-push low rows r h u k = go (bytes_eq k (key r)) refl
+  where
+    old : ((k : List ℕ) → codes_at rows k ≡ []) ⊎ (up_to low (key r) ≡ true) → (codes_at rows k ≡ []) ⊎ (up_to k low ≡ true) → (codes_at rows k ≡ []) ⊎ (up_to k (key r) ≡ true)
+    old (inl n) g = inl (n k)
+    old (inr l) (inl n) = inl n
+    old (inr l) (inr g) = inr (up_to_trans k low (key r) g l)
+
+    next : (bytes_eq k (key r) ≡ false) → (codes_at rows k ≡ []) ⊎ (up_to k (key r) ≡ true) → (codes_at (rows ++ r ∷ []) k ≡ []) ⊎ (up_to k (key r) ≡ true)
+    next q (inl n) = inl (codes-other rows r k q ∙ n)
+    next q (inr g) = inr g
+
+    go : (b : Bool) → bytes_eq k (key r) ≡ b → (codes_at (rows ++ r ∷ []) k ≡ []) ⊎ (up_to k (key r) ≡ true)
+    go true q = inr (subst (λ z. up_to k z ≡ true) (same k (key r) q) (up_to-self k))
+    go false q = next q (old u (h k))
+
+-- a key that is no less than the last one is that, or has no rows
+pub fresh-or-last : (low x : List ℕ) (rows : List Row) → IsAtLeast low rows → ((k : List ℕ) → codes_at rows k ≡ []) ⊎ (up_to low x ≡ true) → (x ≡ low) ⊎ (codes_at rows x ≡ [])
+fresh-or-last low x rows h (inl n) = inr (n x)
+fresh-or-last low x rows h (inr l) = go (h x)
+  where
+    go : (codes_at rows x ≡ []) ⊎ (up_to x low ≡ true) → (x ≡ low) ⊎ (codes_at rows x ≡ [])
+    go (inl n) = inr n
+    go (inr g) = inl (up_to_both x low g l)
+
+pub map-push : {A B : Type 0} (f : A → B) (xs : List A) (x : A) → each f (xs ++ x ∷ []) ≡ each f xs ++ f x ∷ []
+map-push f [] x = refl
+map-push f (y ∷ ys) x = ap (λ zs. f y ∷ zs) (map-push f ys x)
+
+-- the codes of the last group with that of one more row
+pub codes-added : {V : Type 0} (code : V → List ℕ) (old new : List V) (v : V) (rows : List Row) (r : Row) (k0 : List ℕ)
+    → new ≡ old ++ v ∷ [] → code v ≡ row_code r → each code old ≡ codes_at rows k0 → key r ≡ k0 → each code new ≡ codes_at (rows ++ r ∷ []) k0
+codes-added code old new v rows r k0 e f g h = ap (each code) e ∙ map-push code old v ∙ ap (λ cs. cs ++ code v ∷ []) g ∙ ap (λ c. codes_at rows k0 ++ c ∷ []) f ∙ sym (codes-same rows r k0 h)
+
+-- nothing was added
+pub none-held : (gs : Groups) → gs.tree ≡ [] → gs.codes.items ≡ [] → Holds gs []
+none-held gs e f = record {
+  codes = ap (each (λ c. c.items)) f;
+  tree = λ k. ap (λ t. digest_at t k) e ∙ ap (group_digest k) (go k (bytes_eq k gs.key.0));
+}
+  where
+    go : (k : List ℕ) (b : Bool) → [] ≡ cond b [] (groups_of [] k)
+    go k true = refl
+    go k false = sym sorted-none
+
+-- keyed rows were added and others are left, which stand in the order of their keys
+pub record Going (gs : Groups) (done todo : List KeyedRow) : Type 0 where
+  pub holds : Holds gs (each row_of done)
+  pub least : IsAtLeast gs.key.0 (each row_of done)
+  pub next : ((k : List ℕ) → codes_at (each row_of done) k ≡ []) ⊎ IsBelowFirst gs.key.0 (each (λ k. k.key.0) todo)
+  pub rest : IsAscending (each (λ k. k.key.0) todo)
+  pub keyed : All IsKeyed todo
+
+-- the next one is added
+pub go-on : (gs hs : Groups) (done todo : List KeyedRow) (x : KeyedRow) → Going gs done (x ∷ todo) → hs.key.0 ≡ x.key.0
+    → ((rows : List Row) → Holds gs rows → (x.key.0 ≡ gs.key.0) ⊎ (codes_at rows x.key.0 ≡ []) → Holds hs (rows ++ row_of x ∷ [])) → Going hs (done ++ x ∷ []) todo
+go-on gs hs done todo x g e add = record {
+  holds = subst (Holds hs) rows (add (each row_of done) g.holds (fresh-or-last gs.key.0 x.key.0 (each row_of done) g.least g.next));
+  least = subst (λ l. IsAtLeast l (each row_of (done ++ x ∷ []))) (sym (e ∙ own)) (subst (IsAtLeast (key (row_of x))) rows
+      (at-least-push gs.key.0 (each row_of done) (row_of x) g.least (up g.next)));
+  next = inr (subst (λ l. IsBelowFirst l (each (λ k. k.key.0) todo)) (sym e) g.rest.0);
+  rest = g.rest.1;
+  keyed = All-tail IsKeyed x todo g.keyed;
+}
+  where
+    own : x.key.0 ≡ key (row_of x)
+    own = All-head IsKeyed x todo g.keyed
+
+    rows : each row_of done ++ row_of x ∷ [] ≡ each row_of (done ++ x ∷ [])
+    rows = sym (map-push row_of done x)
+
+    up : ((k : List ℕ) → codes_at (each row_of done) k ≡ []) ⊎ (up_to gs.key.0 x.key.0 ≡ true) → ((k : List ℕ) → codes_at (each row_of done) k ≡ []) ⊎ (up_to gs.key.0 (key (row_of x)) ≡ true)
+    up (inl n) = inl n
+    up (inr l) = inr (subst (λ z. up_to gs.key.0 z ≡ true) own l)
+
+pub taken-more : {A : Type 0} (xs : List A) (i : ℕ) (x : A) → i < length xs → x ≡ get_or xs i x → take (i + 1) xs ≡ take i xs ++ x ∷ []
+taken-more xs i x l e = take_more xs i x l ∙ ap (λ y. take i xs ++ y ∷ []) (sym e)
+
+pub dropped-more : {A : Type 0} (xs : List A) (i : ℕ) (x : A) → i < length xs → x ≡ get_or xs i x → drop i xs ≡ x ∷ drop (i + 1) xs
+dropped-more xs i x l e =
+    let s : suc i ≡ i + 1 = omega arith in
+    drop-cons xs i x l ∙ ap (λ y. y ∷ drop (suc i) xs) (sym e) ∙ ap (λ n. x ∷ drop n xs) s
+
+-- what holds of each holds in another order
+pub all-moved : {A : Type 0} (P : A → Type 0) {xs ys : List A} → IsPermutation xs ys → All P xs → All P ys
+all-moved P p = go (exchanges p)
+  where
+    go : {xs ys : List _} → Exchanges xs ys → All P xs → All P ys
+    go nothing h = h
+    go (under {xs} {ys} x e) h = All-cons P x ys (All-head P x xs h) (go e (All-tail P x xs h))
+    go (neighbours x y zs) h = let t = All-tail P x (y ∷ zs) h in All-cons P y (x ∷ zs) (All-head P y zs t) (All-cons P x zs (All-head P x (y ∷ zs) h) (All-tail P y zs t))
+    go (then e f) h = go f (go e h)

@@ -1,0 +1,9 @@
+pub mod Written
+pub mod Sorting
+pub mod Adding
+pub mod Nothing
+pub mod Ordering
+pub mod Placing
+pub mod Ids
+pub mod Misplaced
+pub mod Beginning

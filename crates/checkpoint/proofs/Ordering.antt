@@ -1,0 +1,21 @@
+-- Rows in the order of their codes.
+use Rattle.std.proofs.Common.{◌≡◌, ℕ, suc, List, [], ◌∷◌, ◌++◌, length, map as each, refl, ap, sym, ◌∙◌}
+use Rattle.calculus.specs.Bytes.{be64, joined}
+use Rattle.calculus.specs.Root.{root}
+use Rattle.calculus.specs.Rows.{Row, row_code}
+use Rattle.term_encoder.proofs.Codes.{sorted-ascending, length-map}
+use Rattle.states.specs.States.{state_text}
+use Rattle.checkpoint.specs.Kept.{AreKept, AreInOrder}
+use Rattle.checkpoint.specs.Texts.{text_with}
+
+-- the text of so many rows of this root and these codes
+abbrev text_from : List ℕ → ℕ → List (List ℕ) → List ℕ
+text_from d n cs = 82 ∷ 72 ∷ 79 ∷ 83 ∷ 84 ∷ 65 ∷ 84 ∷ 69 ∷ 1 ∷ (d ++ (be64 n ++ joined cs))
+
+-- the text of rows in the order of a state has their codes as they stand
+pub text-of-order : (rows : List Row) → AreInOrder rows → text_with (root rows) (each row_code rows) ≡ state_text rows
+text-of-order rows h =
+    ap (λ n. text_from (root rows) n (each row_code rows)) (length-map row_code rows) ∙ ap (text_from (root rows) (length rows)) (sym (sorted-ascending (each row_code rows) h.ascending))
+
+pub text-in-order : (rows : List Row) → AreKept rows → text_with (root rows) (each row_code rows) ≡ state_text rows
+text-in-order rows h = text-of-order rows h.order

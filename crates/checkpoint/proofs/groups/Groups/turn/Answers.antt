@@ -1,0 +1,18 @@
+use Rattle.std.proofs.Common.{◌≡◌, true, false, sym, ◌∙◌, ap, map, ⊎_elim}
+use Rattle.states.proofs.Groups.{same, equal}
+use Rattle.checkpoint.proofs.Adding.{open-new}
+use Rattle.checkpoint.proofs.groups.Groups.turn.Goals as goal
+
+pub returns-then-are_equal-clause-key : goal.returns-then-are_equal-clause-key
+returns-then-are_equal-clause-key c = sym (same _ _ (sym c.are_equal.ensures ∙ c.if-are_equal.true))
+
+pub returns-clause-holds : goal.returns-clause-holds
+returns-clause-holds c = λ rows h p.
+    let n = ⊎_elim (λ e. absurd (apart (sym (equal _ _ e) ∙ sym c.are_equal.ensures ∙ c.if-are_equal.false))) (λ n. n) p in
+    record {
+      codes = ap (map (λ v. v.items)) c.in_ok-close.ensures.codes ∙ sym n;
+      tree = open-new c.close.new.self.tree c.args.key.now.0 rows n (c.in_ok-close.ensures.tree rows h);
+    }
+  where
+    apart : true ≡ false → ⊥
+    apart e = cc

@@ -1,0 +1,14 @@
+use Rattle.std.proofs.Common.{List, sym, ap, subst, map}
+use Rattle.radix_root.specs.Leaves.{Keeps, groups_of}
+use Rattle.checkpoint.specs.declared.groups.KeyedRow.{KeyedRow}
+use Rattle.checkpoint.specs.Groups.{row_of, AreByKey}
+use Rattle.checkpoint.proofs.Adding.{groups-moved}
+use Rattle.checkpoint.proofs.groups.tree_of.Goals as goal
+
+pub grouped-requires : goal.grouped-requires
+grouped-requires c = subst AreByKey (sym c.as_slice.ensures.value) c.in_ok-keyed.ensures.order
+
+pub returns : goal.returns
+returns c =
+    let tree = c.in_ok-tree.tree in
+    groups-moved tree c.in_ok-keyed.ensures.rows (subst (λ (ks : List KeyedRow). Keeps tree (groups_of (map row_of ks))) c.as_slice.ensures.value c.in_ok-tree.ensures)

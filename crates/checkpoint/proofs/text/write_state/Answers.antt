@@ -1,0 +1,14 @@
+use Rattle.std.proofs.Common.{◌≡◌, ℕ, List, ◌∷◌, ◌++◌, length, map, sym, ◌∙◌, ap, subst}
+use Rattle.calculus.specs.Bytes.{be64, joined}
+use Rattle.calculus.specs.Order.{sorted}
+use Rattle.calculus.specs.Root.{root}
+use Rattle.calculus.specs.Rows.{Row, row_code}
+use Rattle.states.specs.States.{state_text}
+use Rattle.checkpoint.specs.Texts.{text_with}
+use Rattle.checkpoint.proofs.Ordering.{text-in-order}
+use Rattle.checkpoint.proofs.text.write_state.Goals as goal
+
+pub returns : goal.returns
+returns c =
+    c.in_ok-text.ensures ∙ ap (λ (d : List ℕ). text_with d (map row_code c.rows.result.now)) c.root.ensures ∙ ap (λ (rs : List Row). text_with (root c.args.checkpoint.now) (map row_code rs)) c.rows.ensures.is
+    ∙ text-in-order c.args.checkpoint.now c.rows.ensures.kept

@@ -1,0 +1,121 @@
+// The tree of the groups of rows.
+ghost use Rattle.std.specs.Prelude.{◌≡◌, ◌⊎◌, ◌++◌, ◌∷◌, [], List, map, All, IfOk, OnOk, IsPermutation};
+ghost use Rattle.std.specs.Str.{bytes_eq};
+ghost use Rattle.calculus.specs.Rows.{Row as AnyRow};
+ghost use Rattle.radix_root.specs.Leaves.{codes_at, groups_of, Keeps};
+ghost use Rattle.checkpoint.specs.Groups.{row_of, AreByKey, Holds, IsKeyed};
+
+use calculus::Digest;
+use radix_root::RadixTree;
+use space_row::{Row, row_code, row_key};
+use std::alloc::{AllocError, Global};
+
+// A row with the key of its group.
+#[derive(Drop)]
+pub(crate) struct KeyedRow<'a> {
+    pub(crate) key: Digest,
+    pub(crate) row: &'a Row,
+}
+
+// Groups of rows, one after another: the tree of all but the last of them, and the key and the codes of
+// the last.
+#[derive(Drop)]
+pub(crate) struct Groups {
+    pub(crate) tree: RadixTree,
+    pub(crate) key: Digest,
+    pub(crate) codes: Vec<Vec<u8>>,
+}
+
+impl Groups {
+    // Adds a row of the last group, or of a group that has no rows so far.
+    fn add(&mut self, alloc: Global, keyed: &KeyedRow<'_>) -> Result<(), AllocError>
+        requires { IsKeyed keyed.now }
+        ensures key { OnOk result (self.new.key.0 ≡ keyed.now.key.0) }
+        ensures holds { OnOk result ((rows : List AnyRow) → Holds self.old rows → (keyed.now.key.0 ≡ self.old.key.0) ⊎ (codes_at rows keyed.now.key.0 ≡ []) → Holds self.new (rows ++ row_of keyed.now ∷ [])) }
+    {
+        self.turn(alloc, &keyed.key)?;
+        let code = row_code(alloc, keyed.row)?;
+        self.codes.push(code)?;
+        Ok(())
+    }
+
+    // Makes the group of a key the last one, where that has no rows so far or is the last one.
+    fn turn(&mut self, alloc: Global, key: &Digest) -> Result<(), AllocError>
+        ensures key { OnOk result (self.new.key.0 ≡ key.now.0) }
+        ensures holds { OnOk result ((rows : List AnyRow) → Holds self.old rows → (key.now.0 ≡ self.old.key.0) ⊎ (codes_at rows key.now.0 ≡ []) → Holds self.new rows) }
+    {
+        if are_equal(key, &self.key) {
+            return Ok(());
+        }
+        self.close(alloc)?;
+        self.key = *key;
+        Ok(())
+    }
+
+    // Puts the last group into the tree.
+    fn close(&mut self, alloc: Global) -> Result<(), AllocError>
+        ensures tree { OnOk result ((rows : List AnyRow) → Holds self.old rows → Keeps self.new.tree (groups_of rows)) }
+        ensures codes { OnOk result (self.new.codes.items ≡ []) }
+    {
+        self.codes.sort_by(|a, b| a.cmp(b))?;
+        self.tree.change(alloc, &self.key, self.codes.as_slice())?;
+        self.codes.clear();
+        Ok(())
+    }
+}
+
+// Whether two keys are equal.
+fn are_equal(a: &Digest, b: &Digest) -> bool
+    ensures { result ≡ bytes_eq a.now.0 b.now.0 }
+{
+    *a == *b
+}
+
+// Each of these rows with the key of its group.
+fn keyed_rows<'a>(alloc: Global, rows: &'a [Row]) -> Result<Vec<KeyedRow<'a>>, AllocError>
+    ensures rows { IfOk result (λ v. map row_of v.items ≡ rows.now) }
+    ensures keyed { IfOk result (λ v. All IsKeyed v.items) }
+{
+    let mut keyed = Vec::new(alloc);
+    for row in rows {
+        let key = row_key(alloc, row)?;
+        keyed.push(KeyedRow { key, row })?;
+    }
+    Ok(keyed)
+}
+
+// These rows in the order of the keys of their groups.
+fn rows_by_key<'a>(alloc: Global, rows: &'a [Row]) -> Result<Vec<KeyedRow<'a>>, AllocError>
+    ensures rows { IfOk result (λ v. IsPermutation rows.now (map row_of v.items)) }
+    ensures order { IfOk result (λ v. AreByKey v.items) }
+{
+    let mut keyed = keyed_rows(alloc, rows)?;
+    keyed.sort_by(|a, b| a.key.0.cmp(&b.key.0))?;
+    Ok(keyed)
+}
+
+/// The tree of the groups of these rows. Want of memory is the one error.
+pub(crate) fn tree_of(alloc: Global, rows: &[Row]) -> Result<RadixTree, AllocError>
+    ensures { IfOk result (λ t. Keeps t (groups_of rows.now)) }
+{
+    let keyed = rows_by_key(alloc, rows)?;
+    let tree = grouped(alloc, keyed.as_slice())?;
+    Ok(tree)
+}
+
+// The tree of the groups of rows that stand in the order of their keys.
+fn grouped(alloc: Global, keyed: &[KeyedRow<'_>]) -> Result<RadixTree, AllocError>
+    requires { AreByKey keyed.now }
+    ensures { IfOk result (λ t. Keeps t (groups_of (map row_of keyed.now))) }
+{
+    let mut groups = Groups {
+        tree: RadixTree::new(alloc),
+        key: Digest([0; 32]),
+        codes: Vec::new(alloc),
+    };
+    for row in keyed {
+        groups.add(alloc, row)?;
+    }
+    groups.close(alloc)?;
+    Ok(groups.tree)
+}

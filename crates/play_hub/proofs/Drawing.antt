@@ -1,0 +1,165 @@
+-- What a worker shows of an entry is what a draw asks for.
+use Rattle.std.proofs.Common.{◌≡◌, ◌<◌, ℕ, zero, suc, ◌+◌, Bool, true, false, ◌&&◌, ◌||◌, List, [], ◌∷◌, ◌++◌, map as each, refl, sym, ap, subst, ◌∙◌, arith, inl, inr, eqb, eqb-true, eq-eqb, Some, None}
+use Rattle.std.specs.Prelude.{◌⊎◌, Option, is_some}
+use Rattle.std.specs.List.{list_any}
+use Rattle.list_laws.proofs.Members.{Member, member-split, member-left, member-right}
+use Rattle.calculus.specs.Log.{Step}
+use Rattle.calculus.specs.Rows.{Row}
+use Rattle.calculus.specs.Runs.{Deploy}
+use Rattle.events.specs.Found.{Among, AreAtHand}
+use Rattle.events.proofs.Making.{among, member}
+use Rattle.group_locks.specs.Counts.{one_if, count, Each}
+use Rattle.run_entries.specs.Entries.{Making, steps_of}
+use Rattle.run_entries.specs.Allowed.{AreAmong, IdsTell, rows_at_hand}
+use Rattle.shard_rows.specs.Shards.{stands_in}
+use Rattle.shard_rows.specs.Hands.{hears, shows, rows_of_all, is_in_hand}
+use Rattle.shard_rows.specs.Laws.{IsShownBy}
+use Rattle.shard_rows.proofs.Standing.{any-true, any-one}
+use Rattle.shard_rows.proofs.Holding.{beside, at-hand, of-hand}
+use Rattle.play_scene.specs.Plays.{entries_of}
+use Rattle.play_scene.specs.Pulled.{seen_at}
+use Rattle.play_scene.proofs.Carrying.{Now, now_of, carried}
+use Rattle.play_hub.specs.Values.{entry_of, hub_meaning}
+use Rattle.play_hub.specs.Endings.{play_of}
+use Rattle.play_hub.specs.Drawing.{IsInHand, DrawsAreTold, DrawsCarry}
+
+-- rows at hand among some are at hand among more
+hand-more : (rows more : List Row) (o : Row) → AreAmong rows more → (qs : List Row) → AreAtHand rows o qs → AreAtHand more o qs
+hand-more rows more o a qs h = at-hand more o qs (λ z m. go z (of-hand rows o qs h z m))
+  where
+    go : (z : Row) → Member z rows ⊎ Member z (beside o) → Member z (more ++ beside o)
+    go z (inl k) = member-left z more (beside o) (member z more (a z (among z rows k)))
+    go z (inr k) = member-right z more (beside o) k
+
+tell-fewer : (rows more : List Row) (o : Row) → AreAmong rows more → IdsTell (rows_at_hand more o) → IdsTell (rows_at_hand rows o)
+tell-fewer rows more o a t q r b c e = t q r (go q b) (go r c) e
+  where
+    go : (z : Row) → Among z (rows_at_hand rows o) → Among z (rows_at_hand more o)
+    go z i = (hand-more rows more o a (z ∷ []) (i, tt)).0
+
+-- what is so of some rows is so of the same in another order
+shown-same : (deploy : Deploy) (rows others : List Row) (made : List Step) (o : Row) (x : Option Making) → AreAmong rows others → AreAmong others rows → IsShownBy deploy rows made o x → IsShownBy deploy others made o x
+shown-same deploy rows others made o None a b n = λ r sends hand part d. n r sends (hand-more others rows o b (r ∷ sends) hand) part d
+shown-same deploy rows others made o (Some m) a b k = (
+  k.0,
+  record {
+    receiver = k.1.receiver;
+    sends = k.1.sends;
+    at_hand = hand-more rows others o a (k.1.receiver ∷ k.1.sends) k.1.at_hand;
+    part = k.1.part;
+    differs = λ t. k.1.differs (tell-fewer rows others o a t);
+    found = k.1.found;
+    meets = k.1.meets;
+    step = k.1.step;
+    gone = k.1.gone;
+    line = k.1.line;
+    room = k.1.room;
+    work = k.1.work;
+    offers = k.1.offers;
+    price = k.1.price;
+    fault = k.1.fault;
+  },
+)
+
+-- fewer rows show fewer shards
+shows-fewer : (rows more : List Row) (o : Row) (k : ℕ) → AreAmong rows more → shows rows o k ≡ true → shows more o k ≡ true
+shows-fewer rows more o k a e = go (stands_in k o) refl e
+  where
+    heard : Row → Bool
+    heard r = hears r o && stands_in k r
+
+    go : (b : Bool) → stands_in k o ≡ b → b || list_any (λ r. hears r o && stands_in k r) rows ≡ true → b || list_any (λ r. hears r o && stands_in k r) more ≡ true
+    go true d f = refl
+    go false d f = let r = any-one (λ r. hears r o && stands_in k r) rows f in any-true (λ r. hears r o && stands_in k r) more r.0 (member r.0 more (a r.0 (among r.0 rows r.1))) r.2
+
+module _ {X : Type 0} (rows : X → List Row) (in_hand : ℕ → Option X) where
+  abbrev seen : List (ℕ × X) → List (ℕ × List Row)
+  seen before = each (seen_at rows) before
+
+  -- the shard of a number that is in hand
+  at : (before : List (ℕ × X)) → Each (λ k y. in_hand k ≡ Some y) before → (k : ℕ) → 0 < count k before
+      → (y : X) × (in_hand k ≡ Some y) × (is_in_hand (seen before) k ≡ true) × ((r : Row) → Member r (rows y) → Member r (rows_of_all (seen before)))
+  at [] e k lt = absurd (omega (arith, lt))
+  at (p ∷ ps) e k lt = go (eqb p.0 k) refl lt (at ps e.1 k)
+    where
+      or-true : (b : Bool) → b || true ≡ true
+      or-true true = refl
+      or-true false = refl
+
+      go : (b : Bool) → eqb p.0 k ≡ b → 0 < one_if b + count k ps
+          → (0 < count k ps → (y : X) × (in_hand k ≡ Some y) × (is_in_hand (seen ps) k ≡ true) × ((r : Row) → Member r (rows y) → Member r (rows_of_all (seen ps))))
+          → (y : X) × (in_hand k ≡ Some y) × (eqb k p.0 || is_in_hand (seen ps) k ≡ true) × ((r : Row) → Member r (rows y) → Member r (rows p.1 ++ rows_of_all (seen ps)))
+      go true d l next = (
+        p.1,
+        ap in_hand (sym (eqb-true p.0 k d)) ∙ e.0,
+        ap (λ b. b || is_in_hand (seen ps) k) (eq-eqb k p.0 (sym (eqb-true p.0 k d))),
+        λ r m. member-left r (rows p.1) (rows_of_all (seen ps)) m,
+      )
+      go false d l next =
+          let n = next (omega (arith, l)) in
+          (n.0, n.1, ap (λ b. eqb k p.0 || b) n.2 ∙ or-true (eqb k p.0), λ r m. member-right r (rows p.1) (rows_of_all (seen ps)) (n.3 r m))
+
+  -- a row of these shards is in hand
+  there : (before : List (ℕ × X)) → Each (λ k y. in_hand k ≡ Some y) before → (r : Row) → Member r (rows_of_all (seen before)) → IsInHand rows in_hand r
+  there [] e r m = absurd m
+  there (p ∷ ps) e r m = go (member-split r (rows p.1) (rows_of_all (seen ps)) m) (there ps e.1 r)
+    where
+      go : Member r (rows p.1) ⊎ Member r (rows_of_all (seen ps)) → (Member r (rows_of_all (seen ps)) → IsInHand rows in_hand r) → IsInHand rows in_hand r
+      go (inl k) next = (p.0, p.1, e.0, among r (rows p.1) k)
+      go (inr k) next = next k
+
+module _ {X : Type 0} (rows : X → List Row) where
+  pub draws_are_told : DrawsAreTold rows
+  draws_are_told deploy source in_hand since held all took e c s = (
+    now.before,
+    now.follows,
+    record {
+      held = λ k h. found k (s.held k (shows-fewer (rows_of_all shards) all o k back h));
+      touches = λ k h. s.touches k (shows-fewer (rows_of_all shards) all o k back h);
+      shown = shown-same deploy all (rows_of_all shards) (steps_of (entries_of (play_of took))) o (entry_of e).entry.making to back s.shown;
+      cheap = s.cheap;
+    },
+  )
+    where
+      o : Row
+      o = (entry_of e).entry.operation
+
+      now : Now (hub_meaning deploy source rows) in_hand since held
+      now = now_of (hub_meaning deploy source rows) in_hand since held c.0
+
+      shards : List (ℕ × List Row)
+      shards = each (seen_at rows) now.before
+
+      -- a shard in hand is one of those
+      counted : (k : ℕ) (x : X) → in_hand k ≡ Some x → (y : X) × (in_hand k ≡ Some y) × (is_in_hand shards k ≡ true) × ((r : Row) → Member r (rows y) → Member r (rows_of_all shards))
+      counted k x i = go (count k held) refl
+        where
+          go : (n : ℕ) → count k held ≡ n → (y : X) × (in_hand k ≡ Some y) × (is_in_hand shards k ≡ true) × ((r : Row) → Member r (rows y) → Member r (rows_of_all shards))
+          go zero z = absurd (clash (sym (c.1 k z) ∙ i))
+            where
+              clash : None ≡ Some x → ⊥
+              clash f = cc f
+          go (suc n) z = at rows in_hand now.before now.are k (now.there k (omega (arith, z))).2
+
+      found : (k : ℕ) → is_some (in_hand k) ≡ true → is_in_hand shards k ≡ true
+      found k h = go (in_hand k) refl h
+        where
+          go : (x : Option X) → in_hand k ≡ x → is_some x ≡ true → is_in_hand shards k ≡ true
+          go None d f = cc f
+          go (Some x) d f = (counted k x d).2
+
+      back : AreAmong (rows_of_all shards) all
+      back r m = (s.are r).1 (there rows in_hand now.before now.are r (member r (rows_of_all shards) m))
+
+      to : AreAmong all (rows_of_all shards)
+      to r m = go ((s.are r).0 m)
+        where
+          go : IsInHand rows in_hand r → Among r (rows_of_all shards)
+          go h =
+              let n = counted h.0 h.1 h.2 in
+              let both : Some n.0 ≡ Some h.1 = sym n.1 ∙ h.2 in
+              let same : n.0 ≡ h.1 = cc both in
+              among r (rows_of_all shards) (n.3 r (subst (λ y. Member r (rows y)) (sym same) (member r (rows h.1) h.3)))
+
+  pub draws_carry : DrawsCarry rows
+  draws_carry deploy source old new since held e c h = carried (hub_meaning deploy source rows) old new e since held h.here h.absent c

@@ -1,0 +1,12 @@
+pub mod Logs
+pub mod Drawing
+pub mod Reaching
+pub mod Waiting
+pub mod Owning
+pub mod Telling
+pub mod Emptied
+pub mod Ending
+pub mod Pulled
+pub mod Carrying
+pub mod Sums
+pub mod ClosedRows

@@ -1,0 +1,8 @@
+use Rattle.replay_hub.proofs.Bits.{bits, low}
+use Rattle.replay_hub.proofs.scene.ReplaySceneScene.touches.Goals as goal
+
+pub returns-clause-bits : goal.returns-clause-bits
+returns-clause-bits g c k lt = bits c.args.entry.now.shards k lt
+
+pub returns-clause-low : goal.returns-clause-low
+returns-clause-low g c k e = low c.args.entry.now.shards k e

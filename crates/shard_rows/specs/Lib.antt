@@ -1,0 +1,4 @@
+pub mod Shards
+pub mod Hands
+pub mod Laws
+pub mod Examples
