@@ -5,6 +5,8 @@ use Rattle.std.specs.List.{AllByRecursion}
 use Rattle.std.specs.List.Sorted.{IsStrictlySortedBy}
 use Rattle.std.specs.Map.{remove_entry, keys_of}
 use Rattle.std.specs.Str.{bytes_eq}
+use Rattle.std.specs.declared.alloc.Global.{Global}
+use Rattle.std.specs.declared.vec.Vec.{Vec}
 use Rattle.std.specs.BTreeMap.{insert_entry}
 use Rattle.std.specs.Ordering.{nat_cmp, is_eq, match_ordering}
 use Rattle.std.specs.Cmp.Lexicographic.{slice_cmp}
@@ -15,7 +17,7 @@ use Rattle.std.proofs.lemmas.Map.Lookups.{exact_bytes}
 use Rattle.std.proofs.lemmas.Map.Text.{is_eq-slice_cmp}
 use Rattle.list_laws.proofs.Permutations.{unmoved, keep, join, exchange}
 use Rattle.calculus.specs.declared.ids.Digest.{Digest}
-use Rattle.calculus.specs.Tree.{Tree}
+use Rattle.calculus.specs.Code.{code}
 use Rattle.calculus.specs.Rows.{Row, channels}
 use Rattle.calculus.specs.Steps.{is_one_of, differ}
 use Rattle.calculus.specs.Storing.{IsStorable}
@@ -23,8 +25,8 @@ use Rattle.events.specs.Found.{Among, without}
 use Rattle.events.proofs.Counts.{same_bytes, bytes_same}
 use Rattle.row_search.specs.Rows.{row_with, IsIn}
 use Rattle.channel_table.specs.declared.table.Filed.{Filed}
-use Rattle.channel_table.specs.Groups.{channel_key, is_send, is_key, HasId}
-use Rattle.channel_table.specs.Tables.{Index, IsFiled, rows_in}
+use Rattle.channel_table.specs.Groups.{is_send, is_key, Index, HasId}
+use Rattle.channel_table.specs.Tables.{IsFiled, rows_in}
 use Rattle.channel_table.proofs.Filing.{AreUnderIds}
 use Rattle.channel_table.proofs.Grouping.{is_key-Decides}
 
@@ -87,22 +89,22 @@ rows-removed x (e ∷ es) s u = go (is_key x e.0) refl (rows-removed x es (sorte
 
 module _ {S : Type 0} (sends receivers sends' receivers' : Index S) where
   -- what is filed stays filed where its id stays in its groups
-  pub still-filed : (e : List ℕ × Filed) → IsFiled sends receivers e → ((k : List ℕ) → HasId sends k e.1.row.id → HasId sends' k e.1.row.id) → ((k : List ℕ) → HasId receivers k e.1.row.id → HasId receivers' k e.1.row.id)
+  pub still-filed : (e : List ℕ × Filed) → IsFiled sends receivers e → ((k : Vec ℕ Global) → HasId sends k.items e.1.row.id → HasId sends' k.items e.1.row.id) → ((k : Vec ℕ Global) → HasId receivers k.items e.1.row.id → HasId receivers' k.items e.1.row.id)
       → IsFiled sends' receivers' e
-  still-filed e f s r = record { id = f.id; storable = f.storable; keys = f.keys; found = λ c i. go (is_send e.1.row) (channel_key c) (f.found c i) }
+  still-filed e f s r = record { id = f.id; storable = f.storable; keys = f.keys; found = λ k i. go (is_send e.1.row) k (f.found k i) }
     where
-      go : (b : Bool) (k : List ℕ) → HasId (cond b sends receivers) k e.1.row.id → HasId (cond b sends' receivers') k e.1.row.id
+      go : (b : Bool) (k : Vec ℕ Global) → HasId (cond b sends receivers) k.items e.1.row.id → HasId (cond b sends' receivers') k.items e.1.row.id
       go true k h = s k h
       go false k h = r k h
 
   pub all-still-filed : (es : List (List ℕ × Filed)) → AllByRecursion (IsFiled sends receivers) es
-      → ((k x : List ℕ) → HasId sends k x → HasId sends' k x) → ((k x : List ℕ) → HasId receivers k x → HasId receivers' k x) → AllByRecursion (IsFiled sends' receivers') es
+      → ((k : Vec ℕ Global) (x : List ℕ) → HasId sends k.items x → HasId sends' k.items x) → ((k : Vec ℕ Global) (x : List ℕ) → HasId receivers k.items x → HasId receivers' k.items x) → AllByRecursion (IsFiled sends' receivers') es
   all-still-filed [] h s r = tt
   all-still-filed (e ∷ es) h s r = (still-filed e h.0 (λ k. s k e.1.row.id) (λ k. r k e.1.row.id), all-still-filed es h.1 s r)
 
   -- without the row with an id the others are filed, whose ids stay in their groups
   pub others-filed : (x : List ℕ) (es : List (List ℕ × Filed)) → IsStrictlySortedBy by_id (keys_of es) → AllByRecursion (IsFiled sends receivers) es
-      → ((k y : List ℕ) → y ≢ x → HasId sends k y → HasId sends' k y) → ((k y : List ℕ) → y ≢ x → HasId receivers k y → HasId receivers' k y) → AllByRecursion (IsFiled sends' receivers') (remove_entry (is_key x) es)
+      → ((k : Vec ℕ Global) (y : List ℕ) → y ≢ x → HasId sends k.items y → HasId sends' k.items y) → ((k : Vec ℕ Global) (y : List ℕ) → y ≢ x → HasId receivers k.items y → HasId receivers' k.items y) → AllByRecursion (IsFiled sends' receivers') (remove_entry (is_key x) es)
   others-filed x [] o h s r = tt
   others-filed x (e ∷ es) o h s r = go (is_key x e.0) refl (others-filed x es (sorted_tail by_id e.0 (keys_of es) o) h.1 s r)
     where
@@ -212,17 +214,12 @@ pub each-each : {A B C : Type 0} (f : B → C) (g : A → B) (xs : List A) → e
 each-each f g [] = refl
 each-each f g (x ∷ xs) = ap (λ l. f (g x) ∷ l) (each-each f g xs)
 
--- a row with the keys of its channels, in whose groups its id is
-pub new-filed : {S : Type 0} (sends receivers : Index S) (x : List ℕ) (f : Filed) → x ≡ f.row.id → IsStorable f.row → f.keys.items ≡ each channel_key (channels f.row.part)
-    → ((k : List ℕ) → IsIn k f.keys.items → HasId (cond (is_send f.row) sends receivers) k x) → IsFiled sends receivers (x, f)
+-- a row with the codes of its channels, in whose groups its id is
+pub new-filed : {S : Type 0} (sends receivers : Index S) (x : List ℕ) (f : Filed) → x ≡ f.row.id → IsStorable f.row → each (λ k. k.items) f.keys.items ≡ each code (channels f.row.part)
+    → ((k : Vec ℕ Global) → IsIn k f.keys.items → HasId (cond (is_send f.row) sends receivers) k.items x) → IsFiled sends receivers (x, f)
 new-filed sends receivers x f e s k h = record {
   id = e;
   storable = s;
   keys = k;
-  found = λ c i. subst (λ z. HasId (cond (is_send f.row) sends receivers) (channel_key c) z) e (h (channel_key c) (subst (λ l. IsIn (channel_key c) l) (sym k) (in-each c (channels f.row.part) i)));
+  found = λ q i. subst (λ z. HasId (cond (is_send f.row) sends receivers) q.items z) e (h q i);
 }
-  where
-    in-each : (c : Tree) (cs : List Tree) → IsIn c cs → IsIn (channel_key c) (each channel_key cs)
-    in-each c [] i = i
-    in-each c (d ∷ ds) (inl e) = inl (ap channel_key e)
-    in-each c (d ∷ ds) (inr i) = inr (in-each c ds i)

@@ -4,10 +4,12 @@ use Rattle.std.specs.Prelude.{Option, Some, None, is_some, option_map}
 use Rattle.std.specs.List.{AllByRecursion}
 use Rattle.std.specs.Map.{lookup}
 use Rattle.std.specs.Str.{bytes_eq}
+use Rattle.std.specs.declared.alloc.Global.{Global}
+use Rattle.std.specs.declared.vec.Vec.{Vec}
 use Rattle.std.proofs.lemmas.Map.Text.{is_eq-slice_cmp}
 use Rattle.list_laws.proofs.Members.{Every}
-use Rattle.sha2.specs.Sha256.{sha256}
 use Rattle.calculus.specs.Tree.{Tree, node, receive}
+use Rattle.calculus.specs.Code.{code}
 use Rattle.calculus.specs.Congruence.{congruent}
 use Rattle.calculus.specs.Form.{term}
 use Rattle.calculus.specs.Rows.{Row, channels}
@@ -20,8 +22,8 @@ use Rattle.spatial_match.specs.Given.{Ready}
 use Rattle.storable_row_laws.proofs.Channels.{IsClosedShort, channels-closed, part-length}
 use Rattle.row_search.specs.Rows.{is_one_channel, row_with, with_row, looked_up, HasSends, HasReceivers, IsIn}
 use Rattle.channel_table.specs.declared.table.Filed.{Filed}
-use Rattle.channel_table.specs.Groups.{channel_key, is_send, is_key, group, HasId}
-use Rattle.channel_table.specs.Tables.{Index, IsFiled, IsTable, rows_in}
+use Rattle.channel_table.specs.Groups.{is_send, is_key, Index, group, HasId}
+use Rattle.channel_table.specs.Tables.{IsFiled, IsTable, rows_in}
 
 -- a row with one of these ids is looked up
 pub looked-up-found : (rows : List Row) (r : Row) (xs : List (List ℕ)) → row_with r.id rows ≡ Some r → is_one_of r.id xs ≡ true → Among r (looked_up rows xs)
@@ -63,14 +65,21 @@ row-at (e ∷ es) h x = go (is_key x e.0) (bytes_eq x e.1.row.id) (is_eq-slice_c
 row-channels : (r : Row) → IsStorable r → Every IsClosedShort (channels r.part)
 row-channels r s = channels-closed r.part s.closed.1.0 (omega (arith, s.short, part-length r s.active s.closed.1.0))
 
--- a channel that is congruent to one of these has its key
-congruent-key : (c : Tree) (ds : List Tree) → Ready term c → Every IsClosedShort ds → is_one_channel c ds ≡ true → (d : Tree) × IsIn d ds × (channel_key c ≡ channel_key d)
-congruent-key c [] r h e = cc e
-congruent-key c (d ∷ ds) r h e = go (congruent c d) refl e (congruent-key c ds r h.1)
+-- a channel that is congruent to one of these has its code
+congruent-code : (c : Tree) (ds : List Tree) → Ready term c → Every IsClosedShort ds → is_one_channel c ds ≡ true → (d : Tree) × IsIn d ds × (code c ≡ code d)
+congruent-code c [] r h e = cc e
+congruent-code c (d ∷ ds) r h e = go (congruent c d) refl e (congruent-code c ds r h.1)
   where
-    go : (b : Bool) → congruent c d ≡ b → b || is_one_channel c ds ≡ true → (is_one_channel c ds ≡ true → (u : Tree) × IsIn u ds × (channel_key c ≡ channel_key u)) → (u : Tree) × IsIn u (d ∷ ds) × (channel_key c ≡ channel_key u)
-    go true i g next = (d, inl refl, ap sha256 ((code_is_congruence c d r.closed h.0.0 r.short h.0.1).1 i))
+    go : (b : Bool) → congruent c d ≡ b → b || is_one_channel c ds ≡ true → (is_one_channel c ds ≡ true → (u : Tree) × IsIn u ds × (code c ≡ code u)) → (u : Tree) × IsIn u (d ∷ ds) × (code c ≡ code u)
+    go true i g next = (d, inl refl, (code_is_congruence c d r.closed h.0.0 r.short h.0.1).1 i)
     go false i g next = let n = next g in (n.0, inr n.1, n.2)
+
+-- among the codes of these channels is that of one of them
+in-keys : (ks : List (Vec ℕ Global)) (cs : List Tree) → each (λ k. k.items) ks ≡ each code cs → (u : Tree) → IsIn u cs → (k : Vec ℕ Global) × IsIn k ks × (k.items ≡ code u)
+in-keys ks [] e u i = absurd i
+in-keys [] (c ∷ cs) e u i = cc e
+in-keys (k ∷ ks) (c ∷ cs) e u (inl i) = let same : k.items ≡ code c = cc e in (k, inl refl, same ∙ ap code (sym i))
+in-keys (k ∷ ks) (c ∷ cs) e u (inr i) = let n = in-keys ks cs (cc e) u i in (n.0, inr n.1, n.2)
 
 and-both : (a b : Bool) → a && b ≡ true → (a ≡ true) × (b ≡ true)
 and-both true b e = (refl, e)
@@ -84,25 +93,26 @@ module _ {S : Type 0} (rows : List (List ℕ × Filed)) (sends receivers : Index
   entry-of (e ∷ es) h r (inr a) = entry-of es h.1 r a
 
   -- the id of a row with a channel is in the channel's group
-  in-group : (c : Tree) → Ready term c → (r : Row) → Among r (rows_in rows) → is_one_channel c (channels r.part) ≡ true → HasId (cond (is_send r) sends receivers) (channel_key c) r.id
+  in-group : (c : Tree) → Ready term c → (r : Row) → Among r (rows_in rows) → is_one_channel c (channels r.part) ≡ true → HasId (cond (is_send r) sends receivers) (code c) r.id
   in-group c k r a h =
       let e = entry-of rows t.filed r a in
-      let P : Row → Type 0 = λ q. is_one_channel c (channels q.part) ≡ true → HasId (cond (is_send q) sends receivers) (channel_key c) q.id in
+      let P : Row → Type 0 = λ q. is_one_channel c (channels q.part) ≡ true → HasId (cond (is_send q) sends receivers) (code c) q.id in
       subst P e.2
-      (λ g. let d = congruent-key c (channels e.0.1.row.part) k (row-channels e.0.1.row e.1.storable) g in
-      subst (λ z. HasId (cond (is_send e.0.1.row) sends receivers) z e.0.1.row.id) (sym d.2) (e.1.found d.0 d.1))
+      (λ g. let d = congruent-code c (channels e.0.1.row.part) k (row-channels e.0.1.row e.1.storable) g in
+      let q = in-keys e.0.1.keys.items (channels e.0.1.row.part) e.1.keys d.0 d.1 in
+      subst (λ z. HasId (cond (is_send e.0.1.row) sends receivers) z e.0.1.row.id) (q.2 ∙ sym d.2) (e.1.found q.0 q.1))
       h
 
-  pub sends-found : (c : Tree) → Ready term c → HasSends (rows_in rows) c (each (λ d. d.0) (group sends (channel_key c)))
+  pub sends-found : (c : Tree) → Ready term c → HasSends (rows_in rows) c (each (λ d. d.0) (group sends (code c)))
   sends-found c k r a h =
       let s = and-both (is_some (as_datum r.part)) (is_one_channel c (channels r.part)) h in
-      looked-up-found (rows_in rows) r (each (λ d. d.0) (group sends (channel_key c))) (tells r a) (subst (λ b. HasId (cond b sends receivers) (channel_key c) r.id) s.0 (in-group c k r a s.1))
+      looked-up-found (rows_in rows) r (each (λ d. d.0) (group sends (code c))) (tells r a) (subst (λ b. HasId (cond b sends receivers) (code c) r.id) s.0 (in-group c k r a s.1))
 
-  pub receivers-found : (c : Tree) → Ready term c → HasReceivers (rows_in rows) c (each (λ d. d.0) (group receivers (channel_key c)))
+  pub receivers-found : (c : Tree) → Ready term c → HasReceivers (rows_in rows) c (each (λ d. d.0) (group receivers (code c)))
   receivers-found c k r a h =
       let s = and-both (is_some (as_receiver r.part)) (is_one_channel c (channels r.part)) h in
-      looked-up-found (rows_in rows) r (each (λ d. d.0) (group receivers (channel_key c))) (tells r a)
-      (subst (λ b. HasId (cond b sends receivers) (channel_key c) r.id) (no-datum r.part s.0) (in-group c k r a s.1))
+      looked-up-found (rows_in rows) r (each (λ d. d.0) (group receivers (code c))) (tells r a)
+      (subst (λ b. HasId (cond b sends receivers) (code c) r.id) (no-datum r.part s.0) (in-group c k r a s.1))
     where
       no-datum : (u : Tree) → is_some (as_receiver u) ≡ true → is_some (as_datum u) ≡ false
       no-datum (node (receive p) ts) e = refl

@@ -1,5 +1,7 @@
 // Ids in groups, each found by its key.
 ghost use Rattle.std.specs.Prelude.{◌≡◌, ◌≢◌, ℕ, List, [], true, false, cond, IfOk, OnOk};
+ghost use Rattle.std.specs.declared.alloc.Global.{Global};
+ghost use Rattle.std.specs.declared.vec.Vec.{Vec};
 ghost use Rattle.row_search.specs.Rows.{IsIn};
 ghost use Rattle.channel_table.specs.Groups.{group, HasId};
 
@@ -14,7 +16,7 @@ pub(crate) type Groups = BTreeMap<Key, IndexSet<Digest>>;
 
 /// The ids of the group with this key.
 pub(crate) fn ids_of<'a>(groups: &'a Groups, key: &Key) -> &'a [Digest]
-    ensures { result.now ≡ group groups.now.entries key.now }
+    ensures { result.now ≡ group groups.now.entries key.now.items }
 {
     match groups.get(key) {
         Some(ids) => ids.as_slice(),
@@ -25,9 +27,9 @@ pub(crate) fn ids_of<'a>(groups: &'a Groups, key: &Key) -> &'a [Digest]
 // Adds an id to the group with this key, and answers whether there is one. Want of memory is the one
 // error.
 fn add_to_group(groups: &mut Groups, key: &Key, id: Digest) -> Result<bool, AllocError>
-    ensures there { IfOk result (λ there. there ≡ true → HasId groups.new.entries key.now id.0) }
-    ensures none { IfOk result (λ there. there ≡ false → (groups.new.entries ≡ groups.old.entries) × (group groups.old.entries key.now ≡ [])) }
-    ensures kept { (k x : List ℕ) → HasId groups.old.entries k x → HasId groups.new.entries k x }
+    ensures there { IfOk result (λ there. there ≡ true → HasId groups.new.entries key.now.items id.0) }
+    ensures none { IfOk result (λ there. there ≡ false → (groups.new.entries ≡ groups.old.entries) × (group groups.old.entries key.now.items ≡ [])) }
+    ensures kept { (k : Vec ℕ Global) (x : List ℕ) → HasId groups.old.entries k.items x → HasId groups.new.entries k.items x }
 {
     match groups.get_mut(key) {
         Some(ids) => {
@@ -40,9 +42,9 @@ fn add_to_group(groups: &mut Groups, key: &Key, id: Digest) -> Result<bool, Allo
 
 // Makes a group of this one id, where there is none with the key. Want of memory is the one error.
 fn add_group(alloc: Global, groups: &mut Groups, key: Key, id: Digest) -> Result<(), AllocError>
-    requires { group groups.old.entries key ≡ [] }
-    ensures there { OnOk result (HasId groups.new.entries key id.0) }
-    ensures kept { (k x : List ℕ) → HasId groups.old.entries k x → HasId groups.new.entries k x }
+    requires { group groups.old.entries key.items ≡ [] }
+    ensures there { OnOk result (HasId groups.new.entries key.items id.0) }
+    ensures kept { (k : Vec ℕ Global) (x : List ℕ) → HasId groups.old.entries k.items x → HasId groups.new.entries k.items x }
 {
     let mut ids = IndexSet::new(alloc);
     ids.insert(id)?;
@@ -52,19 +54,19 @@ fn add_group(alloc: Global, groups: &mut Groups, key: Key, id: Digest) -> Result
 
 // Adds an id to the group with this key. Want of memory is the one error.
 fn add_id(alloc: Global, groups: &mut Groups, key: &Key, id: Digest) -> Result<(), AllocError>
-    ensures there { OnOk result (HasId groups.new.entries key.now id.0) }
-    ensures kept { (k x : List ℕ) → HasId groups.old.entries k x → HasId groups.new.entries k x }
+    ensures there { OnOk result (HasId groups.new.entries key.now.items id.0) }
+    ensures kept { (k : Vec ℕ Global) (x : List ℕ) → HasId groups.old.entries k.items x → HasId groups.new.entries k.items x }
 {
     if add_to_group(groups, key, id)? {
         return Ok(());
     }
-    add_group(alloc, groups, *key, id)
+    add_group(alloc, groups, key.as_slice().to_vec(alloc)?, id)
 }
 
 // Adds an id to the groups with these keys. Want of memory is the one error.
 fn add_ids(alloc: Global, groups: &mut Groups, keys: &[Key], id: Digest) -> Result<(), AllocError>
-    ensures there { OnOk result ((k : List ℕ) → IsIn k keys.now → HasId groups.new.entries k id.0) }
-    ensures kept { (k x : List ℕ) → HasId groups.old.entries k x → HasId groups.new.entries k x }
+    ensures there { OnOk result ((k : Vec ℕ Global) → IsIn k keys.now → HasId groups.new.entries k.items id.0) }
+    ensures kept { (k : Vec ℕ Global) (x : List ℕ) → HasId groups.old.entries k.items x → HasId groups.new.entries k.items x }
 {
     for key in keys {
         add_id(alloc, groups, key, id)?;
@@ -82,9 +84,9 @@ pub(crate) fn file_id(
     keys: &[Key],
     id: Digest,
 ) -> Result<(), AllocError>
-    ensures there { OnOk result ((k : List ℕ) → IsIn k keys.now → HasId (cond send sends.new.entries receivers.new.entries) k id.0) }
-    ensures sends { (k x : List ℕ) → HasId sends.old.entries k x → HasId sends.new.entries k x }
-    ensures receivers { (k x : List ℕ) → HasId receivers.old.entries k x → HasId receivers.new.entries k x }
+    ensures there { OnOk result ((k : Vec ℕ Global) → IsIn k keys.now → HasId (cond send sends.new.entries receivers.new.entries) k.items id.0) }
+    ensures sends { (k : Vec ℕ Global) (x : List ℕ) → HasId sends.old.entries k.items x → HasId sends.new.entries k.items x }
+    ensures receivers { (k : Vec ℕ Global) (x : List ℕ) → HasId receivers.old.entries k.items x → HasId receivers.new.entries k.items x }
 {
     if send {
         add_ids(alloc, sends, keys, id)
@@ -95,8 +97,8 @@ pub(crate) fn file_id(
 
 // Takes an id out of the group with this key, and answers whether that group is left empty.
 fn drop_id(groups: &mut Groups, key: &Key, id: &Digest) -> bool
-    ensures kept { (k x : List ℕ) → x ≢ id.now.0 → HasId groups.old.entries k x → HasId groups.new.entries k x }
-    ensures empty { result ≡ true → group groups.new.entries key.now ≡ [] }
+    ensures kept { (k : Vec ℕ Global) (x : List ℕ) → x ≢ id.now.0 → HasId groups.old.entries k.items x → HasId groups.new.entries k.items x }
+    ensures empty { result ≡ true → group groups.new.entries key.now.items ≡ [] }
 {
     match groups.get_mut(key) {
         Some(ids) => {
@@ -109,7 +111,7 @@ fn drop_id(groups: &mut Groups, key: &Key, id: &Digest) -> bool
 
 // Takes an id out of the group with this key, and the group where nothing else is in it.
 fn remove_id(groups: &mut Groups, key: &Key, id: &Digest)
-    ensures { (k x : List ℕ) → x ≢ id.now.0 → HasId groups.old.entries k x → HasId groups.new.entries k x }
+    ensures { (k : Vec ℕ Global) (x : List ℕ) → x ≢ id.now.0 → HasId groups.old.entries k.items x → HasId groups.new.entries k.items x }
 {
     if drop_id(groups, key, id) {
         groups.remove(key);
@@ -118,7 +120,7 @@ fn remove_id(groups: &mut Groups, key: &Key, id: &Digest)
 
 /// Takes an id out of the groups with these keys.
 pub(crate) fn remove_ids(groups: &mut Groups, keys: &[Key], id: &Digest)
-    ensures { (k x : List ℕ) → x ≢ id.now.0 → HasId groups.old.entries k x → HasId groups.new.entries k x }
+    ensures { (k : Vec ℕ Global) (x : List ℕ) → x ≢ id.now.0 → HasId groups.old.entries k.items x → HasId groups.new.entries k.items x }
 {
     for key in keys {
         remove_id(groups, key, id);

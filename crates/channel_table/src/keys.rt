@@ -1,25 +1,17 @@
 // Under which keys a row is filed.
 ghost use Rattle.std.specs.Prelude.{◌≡◌, [], ◌∷◌, map, IfOk};
+ghost use Rattle.calculus.specs.Code.{code};
 ghost use Rattle.calculus.specs.Rows.{channels};
 ghost use Rattle.calculus.specs.Storing.{IsStorable};
-ghost use Rattle.channel_table.specs.Groups.{channel_key, is_send};
+ghost use Rattle.channel_table.specs.Groups.{is_send};
 
 use rho_term::{Op, Term, TermBind};
-use sha2::{Digest as _, Sha256};
 use space_row::Row;
 use std::alloc::{AllocError, Global};
 use term_encoder::encode_term;
 
-/// What a channel is filed by: the SHA-256 digest of its code.
-pub(crate) type Key = [u8; 32];
-
-/// The key of a channel. Want of memory is the one error.
-pub(crate) fn channel_key(alloc: Global, channel: &Term) -> Result<Key, AllocError>
-    ensures { IfOk result (λ key. key ≡ channel_key channel.now) }
-{
-    let code = encode_term(alloc, channel)?;
-    Ok(Sha256::digest(code.as_slice()))
-}
+/// What a channel is filed by: its code.
+pub(crate) type Key = Vec<u8>;
 
 /// Whether a row is a send.
 pub(crate) fn is_send(row: &Row) -> bool
@@ -34,7 +26,7 @@ pub(crate) fn is_send(row: &Row) -> bool
 
 /// The keys of a row's channels. Want of memory is the one error.
 pub(crate) fn row_keys(alloc: Global, row: &Row) -> Result<Vec<Key>, AllocError>
-    ensures { IfOk result (λ keys. keys.items ≡ map channel_key (channels row.now.part)) }
+    ensures { IfOk result (λ keys. map (λ k. k.items) keys.items ≡ map code (channels row.now.part)) }
 {
     match row.op() {
         Op::Produce { channel, .. } => one_key(alloc, channel),
@@ -44,20 +36,20 @@ pub(crate) fn row_keys(alloc: Global, row: &Row) -> Result<Vec<Key>, AllocError>
 
 // The key of this one channel.
 fn one_key(alloc: Global, channel: &Term) -> Result<Vec<Key>, AllocError>
-    ensures { IfOk result (λ keys. keys.items ≡ channel_key channel.now ∷ []) }
+    ensures { IfOk result (λ keys. map (λ k. k.items) keys.items ≡ code channel.now ∷ []) }
 {
     let mut keys = Vec::new(alloc);
-    keys.push(channel_key(alloc, channel)?)?;
+    keys.push(encode_term(alloc, channel)?)?;
     Ok(keys)
 }
 
 // The keys of the channels of binds.
 fn bind_keys(alloc: Global, binds: &Vec<TermBind>) -> Result<Vec<Key>, AllocError>
-    ensures { IfOk result (λ keys. keys.items ≡ map (λ b. channel_key b.channel) binds.now.items) }
+    ensures { IfOk result (λ keys. map (λ k. k.items) keys.items ≡ map (λ b. code b.channel) binds.now.items) }
 {
     let mut keys = Vec::new(alloc);
     for bind in binds {
-        keys.push(channel_key(alloc, &bind.channel)?)?;
+        keys.push(encode_term(alloc, &bind.channel)?)?;
     }
     Ok(keys)
 }

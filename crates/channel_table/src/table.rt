@@ -4,7 +4,7 @@ ghost use Rattle.calculus.specs.Steps.{differ};
 ghost use Rattle.events.specs.Found.{without};
 
 use crate::groups::{Groups, file_id, ids_of, remove_ids};
-use crate::keys::{Key, channel_key, is_send, row_keys};
+use crate::keys::{Key, is_send, row_keys};
 use calculus::Digest;
 use rho_term::Term;
 use row_search::{RowsAtHand, Table};
@@ -12,8 +12,9 @@ use space_row::Row;
 use std::alloc::{AllocError, Global};
 use std::collections::BTreeMap;
 use std::marker::Model;
+use term_encoder::encode_term;
 
-/// A row with the keys of its channels.
+/// A row with the keys of its channels, which are their codes.
 #[derive(Drop)]
 pub(crate) struct Filed {
     pub row: Row,
@@ -58,12 +59,12 @@ impl RowsAtHand for ChannelTable {
     }
 
     fn sends_on(&self, alloc: Global, channel: &Term) -> Result<&[Digest], AllocError> {
-        let key = channel_key(alloc, channel)?;
+        let key = encode_term(alloc, channel)?;
         Ok(ids_of(&self.sends, &key))
     }
 
     fn receivers_on(&self, alloc: Global, channel: &Term) -> Result<&[Digest], AllocError> {
-        let key = channel_key(alloc, channel)?;
+        let key = encode_term(alloc, channel)?;
         Ok(ids_of(&self.receivers, &key))
     }
 }

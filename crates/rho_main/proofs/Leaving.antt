@@ -5,14 +5,14 @@ use Rattle.calculus.specs.Log.{log_text}
 use Rattle.rho_outside.specs.FileMap.{FileMap}
 use Rattle.rho_outside.specs.Put.{GrewBy}
 use Rattle.rho_outside.specs.Kept.{with_files}
-use Rattle.rho_main.specs.Words.{Names}
+use Rattle.command_words.specs.Commands.{RunRequest}
 use Rattle.rho_main.specs.Report.{status_of}
 use Rattle.rho_main.specs.Ends.{OnVerdict, LeavesAll, LeavesSome, StopsOnTheWay, header_of, entries_of, bytes_of}
 use Rattle.rho_main.specs.Inputs.{Task}
 use Rattle.rho_main.specs.Plan.{IsPlan}
 use Rattle.rho_main.specs.declared.deploy.Plan.{Plan}
 use Rattle.rho_main.specs.declared.status.Status.{Status}
-use Rattle.rho_main.specs.declared.status.Status.TheVariants.{Done, Usage, ReadFault, WriteFault, Source, Prices, Limit, Log, Replay, Unbuilt, Exhausted, Faulted, NoMemory, TooLarge}
+use Rattle.rho_main.specs.declared.status.Status.TheVariants.{Done, Usage, ReadFault, WriteFault, Source, Prices, Limit, Log, Replay, Unbuilt, UnbuiltVerb, Exhausted, Faulted, NoMemory, TooLarge}
 
 -- what holds anyhow holds where a run ended with a verdict
 pub on_verdict : (s : Status) (P : Type 0) → P → OnVerdict s P
@@ -28,6 +28,7 @@ on_verdict (Limit n m) P p = tt
 on_verdict (Log f) P p = tt
 on_verdict (Replay f) P p = tt
 on_verdict (Unbuilt i) P p = tt
+on_verdict (UnbuiltVerb v) P p = tt
 on_verdict NoMemory P p = tt
 on_verdict (TooLarge i n m) P p = tt
 
@@ -36,32 +37,32 @@ pub ok_and : {A E : Type 0} (P : A → Type 0) (r : Result A E) (x : A) → r �
 ok_and P r x e p = let Q = λ (s : Result _ _). IsOkAnd s P in subst Q (sym e) p
 
 -- the entries of a plan, as they are kept
-abbrev planned : Names → Plan → List (List ℕ × List ℕ)
+abbrev planned : RunRequest → Plan → List (List ℕ × List ℕ)
 planned names p = (names.log, p.log.items) ∷ (names.next, p.next.items) ∷ []
 
 -- they are those of what is left
-same-entries : (names : Names) (task : Task) (p : Plan) (plan : IsPlan names.limit task p) → planned names p ≡ entries_of names task plan.left
-same-entries names task p plan =
+same-entries : (names : RunRequest) (limit : ℕ) (task : Task) (p : Plan) (plan : IsPlan limit task p) → planned names p ≡ entries_of names limit task plan.left
+same-entries names limit task p plan =
     ap (λ (l : List ℕ). (names.log, l) ∷ (names.next, p.next.items) ∷ []) plan.log
-    ∙ ap (λ (n : List ℕ). (names.log, log_text (header_of names.limit task) plan.left.steps) ∷ (names.next, n) ∷ []) plan.next
+    ∙ ap (λ (n : List ℕ). (names.log, log_text (header_of limit task) plan.left.steps) ∷ (names.next, n) ∷ []) plan.next
 
 -- a plan that was written is all that a deploy leaves
-pub leaves_all : (s : Status) (names : Names) (task : Task) (p : Plan) (old mid new : Option FileMap) (before after : Option (List ℕ))
-    → IsPlan names.limit task p → s ≡ status_of p.verdict → mid ≡ old
+pub leaves_all : (s : Status) (names : RunRequest) (limit : ℕ) (task : Task) (p : Plan) (old mid new : Option FileMap) (before after : Option (List ℕ))
+    → IsPlan limit task p → s ≡ status_of p.verdict → mid ≡ old
     → new ≡ with_files ((names.log, p.log.items) ∷ (names.next, p.next.items) ∷ []) mid → GrewBy p.bytes.items before after
-    → LeavesAll s names old new before after task
-leaves_all s names task p old mid new before after plan e same kept put =
-    let files : new ≡ with_files (entries_of names task plan.left) old = kept ∙ (ap (λ es. with_files es mid) (same-entries names task p plan) ∙ ap (with_files (entries_of names task plan.left)) same) in
+    → LeavesAll s names limit old new before after task
+leaves_all s names limit task p old mid new before after plan e same kept put =
+    let files : new ≡ with_files (entries_of names limit task plan.left) old = kept ∙ (ap (λ es. with_files es mid) (same-entries names limit task p plan) ∙ ap (with_files (entries_of names limit task plan.left)) same) in
     (plan.left, (record { run = plan.run; verdict = e ∙ ap status_of plan.verdict }, (files, subst (λ (l : List ℕ). GrewBy l before after) plan.bytes put)))
 
 -- a plan that was written in part is some of what a deploy leaves
-pub leaves_some : (names : Names) (task : Task) (p : Plan) (old mid new : Option FileMap) (faults_old faults_mid faults_new : ℕ) (before after : Option (List ℕ))
-    → IsPlan names.limit task p → mid ≡ old → faults_mid ≡ faults_old
+pub leaves_some : (names : RunRequest) (limit : ℕ) (task : Task) (p : Plan) (old mid new : Option FileMap) (faults_old faults_mid faults_new : ℕ) (before after : Option (List ℕ))
+    → IsPlan limit task p → mid ≡ old → faults_mid ≡ faults_old
     → StopsOnTheWay ((names.log, p.log.items) ∷ (names.next, p.next.items) ∷ []) p.bytes.items mid new faults_mid faults_new before after
-    → LeavesSome names old new faults_old faults_new before after task
-leaves_some names task p old mid new f g h before after plan same count stops =
+    → LeavesSome names limit old new faults_old faults_new before after task
+leaves_some names limit task p old mid new f g h before after plan same count stops =
     let F = λ (es : List (List ℕ × List ℕ)) (bytes : List ℕ) (m : Option FileMap) (k : ℕ). StopsOnTheWay es bytes m new k h before after in
-    let entries = entries_of names task plan.left in
+    let entries = entries_of names limit task plan.left in
     let all : F entries (bytes_of plan.left) old f =
-    subst (F entries (bytes_of plan.left) old) count (subst (λ m. F entries (bytes_of plan.left) m g) same (subst (λ b. F entries b mid g) plan.bytes (subst (λ es. F es p.bytes.items mid g) (same-entries names task p plan) stops))) in
+    subst (F entries (bytes_of plan.left) old) count (subst (λ m. F entries (bytes_of plan.left) m g) same (subst (λ b. F entries b mid g) plan.bytes (subst (λ es. F es p.bytes.items mid g) (same-entries names limit task p plan) stops))) in
     (plan.left, (plan.run, all))

@@ -1,10 +1,6 @@
-pub mod ReadingWords
 pub mod Leaving
 pub mod Sourcing
 pub mod Running
 pub mod Pricing
-pub mod ReadingNumbers
-pub mod ReadingReplays
-pub mod Verbs
 pub mod Listing
 pub mod Replays

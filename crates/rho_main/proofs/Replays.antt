@@ -42,7 +42,7 @@ use Rattle.states.proofs.Computed.{state_examples}
 use Rattle.sha2.specs.Sha256.{sha256}
 use Rattle.rho_outside.specs.FileMap.{FileMap}
 use Rattle.rho_outside.specs.Told.{Told}
-use Rattle.rho_main.specs.Words.{Names}
+use Rattle.command_words.specs.Commands.{RunRequest}
 use Rattle.rho_main.specs.Runnable.{IsUnbuilt}
 use Rattle.rho_main.specs.Refused.{IsFaultOf, SourceCause}
 use Rattle.rho_main.specs.Replaying.{accepted_source, accepted_log, ReplayCause, ReplayLeft, ReplayRefusedFor, IsReplayRefused, IsOutcomeLeft, IsLeftByReplay, IsLogOf, ReplayLeavesAll, ReplayLeavesSome}
@@ -64,6 +64,7 @@ pub also_cause : (source : List ℕ) (s : Status) → SourceCause source s → R
 also_cause source (status.Source f) c = c
 also_cause source status.NoMemory c = tt
 also_cause source (status.Unbuilt i) c = absurd c
+also_cause source (status.UnbuiltVerb v) c = absurd c
 also_cause source status.Done c = absurd c
 also_cause source (status.Usage u) c = absurd c
 also_cause source (status.ReadFault i) c = absurd c
@@ -77,12 +78,13 @@ also_cause source status.Faulted c = absurd c
 also_cause source (status.TooLarge i n m) c = absurd c
 
 -- what stands against the source of a replay
-pub source_refused : (told : Option FileMap) (names : Names) (before now : ℕ) (task : Task) (s : Status) → ReplayCause task.source s
+pub source_refused : (told : Option FileMap) (names : RunRequest) (before now : ℕ) (task : Task) (s : Status) → ReplayCause task.source s
     → Told told (λ files. accepted_source names files ≡ Ok task) → ReplayRefusedFor told names before now s
 source_refused told names before now task (status.Source f) c a = λ files e. ok_and (λ (t : Task). IsFaultOf f t.source) (accepted_source names files) task (a files e) c
 source_refused told names before now task (status.Unbuilt i) c a =
     subst (λ (x : Input). ReplayRefusedFor told names before now (status.Unbuilt x)) (sym c.0) (λ files e. ok_and (λ (t : Task). IsUnbuilt t.source) (accepted_source names files) task (a files e) c.1)
 source_refused told names before now task status.NoMemory c a = tt
+source_refused told names before now task (status.UnbuiltVerb v) c a = absurd c
 source_refused told names before now task status.Done c a = absurd c
 source_refused told names before now task (status.Usage u) c a = absurd c
 source_refused told names before now task (status.ReadFault i) c a = absurd c
@@ -209,7 +211,7 @@ given-left r inputs p plan i s =
           subst (λ (k : Task). IsOutcomeLeft k.prices r.inputs.term (sha256 k.source) (header_of r.log.header) plan.left) (sym i.task) (plan.answer f);
     }
 
-module _ (told : Option FileMap) (names : Names) (r : ReplayInputs) (spelt : IsSourceOf r.inputs.source.items r.inputs.term) (accepted : Told told (λ files. IsOkAnd (accepted_log names files) (IsGiven r))) where
+module _ (told : Option FileMap) (names : RunRequest) (r : ReplayInputs) (spelt : IsSourceOf r.inputs.source.items r.inputs.term) (accepted : Told told (λ files. IsOkAnd (accepted_log names files) (IsGiven r))) where
   -- the status of a log that is refused
   pub stop_refused : (before now : ℕ) (s : Status) → IsReplayStop r s → OnFileRefusal s (ReplayRefusedFor told names before now s)
   stop_refused before now (status.Replay f) b = λ files e. ok_more (IsGiven r) (IsReplayRefused f) (accepted_log names files) (λ inputs i. given-refused r inputs f i spelt b) (accepted files e)
@@ -223,6 +225,7 @@ module _ (told : Option FileMap) (names : Names) (r : ReplayInputs) (spelt : IsS
   stop_refused before now (status.Prices f) b = absurd b
   stop_refused before now (status.Limit n m) b = absurd b
   stop_refused before now (status.Unbuilt i) b = absurd b
+  stop_refused before now (status.UnbuiltVerb v) b = absurd b
   stop_refused before now status.Exhausted b = absurd b
   stop_refused before now status.Faulted b = absurd b
   stop_refused before now (status.TooLarge i n m) b = absurd b

@@ -1,5 +1,6 @@
 -- What stands against a source, and the status that says it.
 use Rattle.std.proofs.Common.{◌≡◌, ◌∙◌, ℕ, List, Result, Ok, Err, Option, Some, None, IfSome, ◌⊎◌, inl, inr, refl, sym, ap, subst}
+use Rattle.std.specs.Prelude.{IsErrAnd, IfErr}
 use Rattle.std.specs.Result.{IsOkAnd, IfOk}
 use Rattle.calculus.specs.Tree.{Tree}
 use Rattle.calculus.specs.Outcome.{Prices as PriceTable}
@@ -10,7 +11,7 @@ use Rattle.sources.specs.Sources as sources
 use Rattle.sources.specs.Sources.{IsSourceOf, IsRefused}
 use Rattle.sources.specs.declared.fault.SourceFault.{SourceFault}
 use Rattle.sources.proofs.Answering.{one_refusal, not_both}
-use Rattle.rho_main.specs.Words.{Names}
+use Rattle.command_words.specs.Commands.{RunRequest}
 use Rattle.rho_main.specs.Inputs.{Refusal, missing, too_large, unbuilt, bad_limit, Task, with_prices, name_of, size_limit, within, given, ◌>>=◌, only, empty_state, priced, in_range, accepted_state, accepted_prices, accepted_limit, accepted}
 use Rattle.rho_main.specs.Runnable.{HasProcess}
 use Rattle.rho_main.specs.Ends.{HasEnded}
@@ -19,6 +20,15 @@ use Rattle.rho_main.specs.declared.status.Input.{Input}
 use Rattle.rho_main.specs.declared.status.Input.TheVariants.{State, Prices, Source, Log}
 use Rattle.rho_main.specs.declared.status.Status.{Status}
 use Rattle.rho_main.specs.declared.status.Status.TheVariants as status
+
+-- what holds of a status holds of a result that ends with it
+pub ends_with : {A : Type 0} (P : Status → Type 0) (r : Result A Status) (s : Status) → IsErrAnd r (λ y. y ≡ s) → P s → IfErr r P
+ends_with P (Ok x) s e p = tt
+ends_with P (Err y) s e p = subst P (sym e) p
+
+-- with one fact more
+pub with_fact : {P Q : Type 0} → P → (P → Q) → Q
+with_fact p f = f p
 
 -- nothing stands against a source, so each status says all that does
 pub free_says : (source : List ℕ) (s : Status) → IsFree source → SaysOf source s
@@ -55,13 +65,13 @@ with_ok prices (Ok source) task h = (source, refl)
 with_ok prices (Err e) task h = absurd cc
 
 -- a file that is given is there
-given_there : (names : Names) (files : FileMap) (input : Input) (bytes : List ℕ) → given names files input ≡ Ok bytes → files (name_of names input) ≡ None → ⊥
+given_there : (names : RunRequest) (files : FileMap) (input : Input) (bytes : List ℕ) → given names files input ≡ Ok bytes → files (name_of names input) ≡ None → ⊥
 given_there names files input bytes h e =
     let g : given names files input ≡ Err (missing input) = ap (within input (size_limit input)) e in
     let no : Err (missing input) ≡ Ok bytes = sym g ∙ h in cc
 
 -- where prices are accepted, so was the state before them
-module _ (names : Names) (files : FileMap) where
+module _ (names : RunRequest) (files : FileMap) where
   state-there : (prices : PriceTable) → accepted_prices names files ≡ Ok prices → files (name_of names State) ≡ None → ⊥
   state-there prices h e =
       let c = bind_ok (accepted_state names files) (λ state. given names files Prices >>= priced) prices h in
@@ -75,19 +85,19 @@ module _ (names : Names) (files : FileMap) where
       given_there names files Prices d.0 d.1.0 e
 
 -- where files are accepted each that a deploy reads is there
-there : (names : Names) (files : FileMap) (input : Input) (task : Task) → Reaches (Some files) names input → accepted names files ≡ Ok task → files (name_of names input) ≡ None → ⊥
-there names files Source task reached h e =
-    let a = bind_ok (accepted_limit names files) (λ prices. with_prices prices (given names files Source)) task h in
+there : (names : RunRequest) (limit : ℕ) (files : FileMap) (input : Input) (task : Task) → Reaches (Some files) names limit input → accepted names limit files ≡ Ok task → files (name_of names input) ≡ None → ⊥
+there names limit files Source task reached h e =
+    let a = bind_ok (accepted_limit names limit files) (λ prices. with_prices prices (given names files Source)) task h in
     let b = with_ok a.0 (given names files Source) task a.1.1 in
     given_there names files Source b.0 b.1 e
-there names files Prices task reached h e =
-    let a = bind_ok (accepted_limit names files) (λ prices. with_prices prices (given names files Source)) task h in
-    let b = bind_ok (accepted_prices names files) (in_range names.limit) a.0 a.1.0 in
+there names limit files Prices task reached h e =
+    let a = bind_ok (accepted_limit names limit files) (λ prices. with_prices prices (given names files Source)) task h in
+    let b = bind_ok (accepted_prices names files) (in_range limit) a.0 a.1.0 in
     prices-there names files b.0 b.1.0 e
-there names files Log task reached h e = absurd reached
-there names files State task reached h e =
-    let a = bind_ok (accepted_limit names files) (λ prices. with_prices prices (given names files Source)) task h in
-    let b = bind_ok (accepted_prices names files) (in_range names.limit) a.0 a.1.0 in
+there names limit files Log task reached h e = absurd reached
+there names limit files State task reached h e =
+    let a = bind_ok (accepted_limit names limit files) (λ prices. with_prices prices (given names files Source)) task h in
+    let b = bind_ok (accepted_prices names files) (in_range limit) a.0 a.1.0 in
     state-there names files b.0 b.1.0 e
 
 ok_err : {A : Type 0} (r : Result A Refusal) (x : A) (e : Refusal) → r ≡ Ok x → r ≡ Err e → ⊥
@@ -97,22 +107,23 @@ ok_err r x e h k = cc
 ok_holds : {A : Type 0} (P : A → Type 0) (r : Result A Refusal) (x : A) → r ≡ Ok x → IsOkAnd r P → P x
 ok_holds P r x h k = let Q = λ (s : Result _ Refusal). IsOkAnd s P in subst Q h k
 
-late_missing : (names : Names) (files : FileMap) (before now : ℕ) (task : Task) (input : Input) → Reaches (Some files) names input → accepted names files ≡ Ok task → ¬ (Rose before now)
+late_missing : (names : RunRequest) (limit : ℕ) (files : FileMap) (before now : ℕ) (task : Task) (input : Input) → Reaches (Some files) names limit input → accepted names limit files ≡ Ok task → ¬ (Rose before now)
     → Rose before now ⊎ Lacks (Some files) (name_of names input) → ⊥
-late_missing names files before now task input reached h n (inl r) = n r
-late_missing names files before now task input reached h n (inr l) = there names files input task reached h l
+late_missing names limit files before now task input reached h n (inl r) = n r
+late_missing names limit files before now task input reached h n (inr l) = there names limit files input task reached h l
 
-module _ (names : Names) (files : FileMap) (before now : ℕ) (task : Task) where
+module _ (names : RunRequest) (limit : ℕ) (files : FileMap) (before now : ℕ) (task : Task) where
   -- where files are accepted and no fetch failed, a refusal of a deploy is one of the source
-  pub late_cause : (s : Status) → accepted names files ≡ Ok task → ¬ (Rose before now) → RefusedFor (Some files) names before now s → SourceCause task.source s
-  late_cause (status.ReadFault input) h n r = absurd (late_missing names files before now task input r.1 h n r.0)
-  late_cause (status.TooLarge input seen max) h n r = let e : accepted names files ≡ Err (too_large input) = r.1.1.1 files refl in absurd (ok_err (accepted names files) task (too_large input) h e)
-  late_cause (status.Unbuilt input) h n r = absurd (ok_err (accepted names files) task (unbuilt input) h (r files refl))
-  late_cause (status.Source f) h n r = ok_holds (λ (t : Task). IsFaultOf f t.source) (accepted names files) task h (r files refl)
-  late_cause (status.Prices f) h n r = let k = r files refl in absurd (ok_err (accepted names files) task k.0 h k.1.1)
-  late_cause (status.Limit limit most) h n r = absurd (ok_err (accepted names files) task (bad_limit most) h (r.1 files refl))
+  pub late_cause : (s : Status) → accepted names limit files ≡ Ok task → ¬ (Rose before now) → RefusedFor (Some files) names limit before now s → SourceCause task.source s
+  late_cause (status.ReadFault input) h n r = absurd (late_missing names limit files before now task input r.1 h n r.0)
+  late_cause (status.TooLarge input seen max) h n r = let e : accepted names limit files ≡ Err (too_large input) = r.1.1.1 files refl in absurd (ok_err (accepted names limit files) task (too_large input) h e)
+  late_cause (status.Unbuilt input) h n r = absurd (ok_err (accepted names limit files) task (unbuilt input) h (r files refl))
+  late_cause (status.Source f) h n r = ok_holds (λ (t : Task). IsFaultOf f t.source) (accepted names limit files) task h (r files refl)
+  late_cause (status.Prices f) h n r = let k = r files refl in absurd (ok_err (accepted names limit files) task k.0 h k.1.1)
+  late_cause (status.Limit m most) h n r = absurd (ok_err (accepted names limit files) task (bad_limit most) h (r.1 files refl))
   late_cause status.NoMemory h n r = tt
   late_cause (status.Usage u) h n r = absurd r
+  late_cause (status.UnbuiltVerb v) h n r = absurd r
   late_cause (status.Log f) h n r = absurd r
   late_cause (status.Replay f) h n r = absurd r
   late_cause status.WriteFault h n r = absurd r
@@ -127,6 +138,7 @@ cause_says source status.NoMemory c = memory_says source
 cause_says source (status.ReadFault i) c = absurd c
 cause_says source (status.TooLarge i n m) c = absurd c
 cause_says source (status.Unbuilt i) c = absurd c
+cause_says source (status.UnbuiltVerb v) c = absurd c
 cause_says source (status.Prices f) c = absurd c
 cause_says source (status.Limit n m) c = absurd c
 cause_says source (status.Usage u) c = absurd c
@@ -144,6 +156,7 @@ cause_ends source status.NoMemory free c = tt
 cause_ends source (status.ReadFault i) free c = absurd c
 cause_ends source (status.TooLarge i n m) free c = absurd c
 cause_ends source (status.Unbuilt i) free c = absurd c
+cause_ends source (status.UnbuiltVerb v) free c = absurd c
 cause_ends source (status.Prices f) free c = absurd c
 cause_ends source (status.Limit n m) free c = absurd c
 cause_ends source (status.Usage u) free c = absurd c
@@ -159,31 +172,31 @@ if_ok P (Ok x) h = h x refl
 if_ok P (Err e) h = tt
 
 -- where files are accepted and no fetch failed, a refusal says what stands against the source
-pub late : (names : Names) (told : Option FileMap) (before now : ℕ) (s : Status) → RefusedFor told names before now s
-    → (files : FileMap) → told ≡ Some files → IfOk (accepted names files) (λ task. ¬ (Rose before now) → SaysOf task.source s)
-late names told before now s r files e =
-    let q : RefusedFor (Some files) names before now s = subst (λ t. RefusedFor t names before now s) e r in
-    if_ok (λ task. ¬ (Rose before now) → SaysOf task.source s) (accepted names files) (λ task h n. cause_says task.source s (late_cause names files before now task s h n q))
+pub late : (names : RunRequest) (limit : ℕ) (told : Option FileMap) (before now : ℕ) (s : Status) → RefusedFor told names limit before now s
+    → (files : FileMap) → told ≡ Some files → IfOk (accepted names limit files) (λ task. ¬ (Rose before now) → SaysOf task.source s)
+late names limit told before now s r files e =
+    let q : RefusedFor (Some files) names limit before now s = subst (λ t. RefusedFor t names limit before now s) e r in
+    if_ok (λ task. ¬ (Rose before now) → SaysOf task.source s) (accepted names limit files) (λ task h n. cause_says task.source s (late_cause names limit files before now task s h n q))
 
 -- where they are accepted and the source is free, each status does
-pub late_free : (names : Names) (files : FileMap) (before now : ℕ) (given : Task) (s : Status) → accepted names files ≡ Ok given → IsFree given.source
-    → IfOk (accepted names files) (λ task. ¬ (Rose before now) → SaysOf task.source s)
-late_free names files before now given s e f =
+pub late_free : (names : RunRequest) (limit : ℕ) (files : FileMap) (before now : ℕ) (given : Task) (s : Status) → accepted names limit files ≡ Ok given → IsFree given.source
+    → IfOk (accepted names limit files) (λ task. ¬ (Rose before now) → SaysOf task.source s)
+late_free names limit files before now given s e f =
     let P = λ (task : Task). ¬ (Rose before now) → SaysOf task.source s in
     let Q = λ (r : Result _ Refusal). IfOk r P in
     subst Q (sym e) (λ n. free_says given.source s f)
 
 -- where files are accepted, the source spells a process and no fetch failed, a deploy refuses nothing but want of memory, whatever else failed
-pub early_end : (names : Names) (told : Option FileMap) (before now : ℕ) (s : Status) (P Q : Type 0) → RefusedFor told names before now s
-    → (files : FileMap) → told ≡ Some files → IfOk (accepted names files) (λ task. HasProcess task → ¬ (Rose before now) → P → Q → HasEnded s)
-early_end names told before now s P Q r files e =
-    let q : RefusedFor (Some files) names before now s = subst (λ t. RefusedFor t names before now s) e r in
-    if_ok (λ task. HasProcess task → ¬ (Rose before now) → P → Q → HasEnded s) (accepted names files)
-    (λ task h u n p x. cause_ends task.source s (run_free task.source u.0 u.1) (late_cause names files before now task s h n q))
+pub early_end : (names : RunRequest) (limit : ℕ) (told : Option FileMap) (before now : ℕ) (s : Status) (P Q : Type 0) → RefusedFor told names limit before now s
+    → (files : FileMap) → told ≡ Some files → IfOk (accepted names limit files) (λ task. HasProcess task → ¬ (Rose before now) → P → Q → HasEnded s)
+early_end names limit told before now s P Q r files e =
+    let q : RefusedFor (Some files) names limit before now s = subst (λ t. RefusedFor t names limit before now s) e r in
+    if_ok (λ task. HasProcess task → ¬ (Rose before now) → P → Q → HasEnded s) (accepted names limit files)
+    (λ task h u n p x. cause_ends task.source s (run_free task.source u.0 u.1) (late_cause names limit files before now task s h n q))
 
 -- a result that holds of any task
-pub whole_end : (names : Names) (files : FileMap) (P : Task → Type 0) → ((task : Task) → P task) → IfOk (accepted names files) P
-whole_end names files P p = if_ok P (accepted names files) (λ task e. p task)
+pub whole_end : (names : RunRequest) (limit : ℕ) (files : FileMap) (P : Task → Type 0) → ((task : Task) → P task) → IfOk (accepted names limit files) P
+whole_end names limit files P p = if_ok P (accepted names limit files) (λ task e. p task)
 
 -- a failed keep or put is none where neither count rose
 pub write_end : (P A B : Type 0) → A ⊎ B → ¬ A → ¬ B → P

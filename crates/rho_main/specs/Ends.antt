@@ -1,5 +1,5 @@
 -- How a deploy ends, and what it leaves.
-use Rattle.std.specs.Prelude.{◌≡◌, ◌⊎◌, ℕ, List, [], ◌∷◌, ◌++◌, replicate, IsOkAnd, IfSome, Option, ⊤}
+use Rattle.std.specs.Prelude.{◌≡◌, ◌⊎◌, ℕ, List, [], ◌∷◌, ◌++◌, replicate, IsOkAnd, Option, ⊤}
 use Rattle.sha2.specs.Sha256.{sha256}
 use Rattle.calculus.specs.Limits.{price_digest}
 use Rattle.calculus.specs.Log.{Header, log_text}
@@ -8,23 +8,32 @@ use Rattle.rho_outside.specs.FileMap.{FileMap}
 use Rattle.rho_outside.specs.Put.{GrewBy, GrewByPart}
 use Rattle.rho_outside.specs.Told.{Told}
 use Rattle.rho_outside.specs.Kept.{with_files, PrefixSet, PartSet}
-use Rattle.rho_main.specs.Words.{Names, names_in}
+use Rattle.command_words.specs.Commands.{RunRequest}
+use Rattle.command_words.specs.declared.command.Verb.{Verb}
+use Rattle.command_words.specs.declared.usage.Usage.{Usage as Fault}
 use Rattle.rho_main.specs.Inputs.{Task, accepted}
 use Rattle.rho_main.specs.Report.{report_line, status_of}
 use Rattle.rho_main.specs.Runs.{Left, IsLeftBySource}
 use Rattle.rho_main.specs.declared.status.Status.{Status}
-use Rattle.rho_main.specs.declared.status.Status.TheVariants.{Done, Usage, ReadFault, WriteFault, Source, Prices, Limit, Log, Replay, Unbuilt, Exhausted, Faulted, NoMemory, TooLarge}
+use Rattle.rho_main.specs.declared.status.Status.TheVariants.{Done, Usage, ReadFault, WriteFault, Source, Prices, Limit, Log, Replay, Unbuilt, UnbuiltVerb, Exhausted, Faulted, NoMemory, TooLarge}
 
--- where the words are those of a deploy, this holds of what they give
-abbrev pub Named : List (List ℕ) → (Names → Type 0) → Type 0
-Named words P = IfSome (names_in words) P
-
--- the words were refused
-abbrev pub OnUsage : Status → Type 0 → Type 0
-OnUsage (Usage u) P = P
+-- the words were refused for this
+abbrev pub OnUsage : Status → (Fault → Type 0) → Type 0
+OnUsage (Usage u) P = P u
 OnUsage _ P = ⊤
 
--- the words, a file, the prices, the limit, the source or the log was refused
+-- a status says that words are refused, or that memory is wanted
+abbrev pub SaysUsage : Status → Type 0
+SaysUsage (Usage u) = ⊤
+SaysUsage NoMemory = ⊤
+SaysUsage _ = ⊥
+
+-- the words ask for a verb that is not built yet
+abbrev pub OnUnbuiltVerb : Status → (Verb → Type 0) → Type 0
+OnUnbuiltVerb (UnbuiltVerb verb) P = P verb
+OnUnbuiltVerb _ P = ⊤
+
+-- the words, the verb, a file, the prices, the limit, the source or the log was refused
 abbrev pub OnRefusal : Status → Type 0 → Type 0
 OnRefusal (Usage u) P = P
 OnRefusal (ReadFault i) P = P
@@ -34,10 +43,11 @@ OnRefusal (Limit n m) P = P
 OnRefusal (Log f) P = P
 OnRefusal (Replay f) P = P
 OnRefusal (Unbuilt i) P = P
+OnRefusal (UnbuiltVerb verb) P = P
 OnRefusal (TooLarge i n m) P = P
 OnRefusal _ P = ⊤
 
--- a file, the prices, the limit, the source or the log was refused
+-- the verb, a file, the prices, the limit, the source or the log was refused
 abbrev pub OnFileRefusal : Status → Type 0 → Type 0
 OnFileRefusal (Usage u) P = ⊤
 OnFileRefusal status P = OnRefusal status P
@@ -68,8 +78,8 @@ abbrev pub header_of : ℕ → Task → Header
 header_of limit task = record { base = replicate 32 0; source = sha256 task.source; prices = price_digest task.prices; limit = limit }
 
 -- the files that are kept, in this order
-abbrev pub entries_of : Names → Task → Left → List (List ℕ × List ℕ)
-entries_of names task left = (names.log, log_text (header_of names.limit task) left.steps) ∷ (names.next, left.next) ∷ []
+abbrev pub entries_of : RunRequest → ℕ → Task → Left → List (List ℕ × List ℕ)
+entries_of names limit task left = (names.log, log_text (header_of limit task) left.steps) ∷ (names.next, left.next) ∷ []
 
 -- the bytes that are put, in one piece: what is printed, and then the line of the report
 abbrev pub bytes_of : Left → List ℕ
@@ -81,9 +91,9 @@ pub record IsLeftBy (limit : ℕ) (task : Task) (status : Status) (left : Left) 
   pub verdict : status ≡ status_of left.report.verdict
 
 -- the files and bytes are those that a deploy of this task leaves which ended with this status: all entries were set, and all bytes were put
-abbrev pub LeavesAll : Status → Names → Option FileMap → Option FileMap → Option (List ℕ) → Option (List ℕ) → Task → Type 0
-LeavesAll status names old new before after task = (left : Left)
-    × (IsLeftBy names.limit task status left × ((new ≡ with_files (entries_of names task left) old) × GrewBy (bytes_of left) before after))
+abbrev pub LeavesAll : Status → RunRequest → ℕ → Option FileMap → Option FileMap → Option (List ℕ) → Option (List ℕ) → Task → Type 0
+LeavesAll status names limit old new before after task = (left : Left)
+    × (IsLeftBy limit task status left × ((new ≡ with_files (entries_of names limit task left) old) × GrewBy (bytes_of left) before after))
 
 -- some of these entries were set, from the counts of failed keeps before and after: the first so many of them, and where a keep failed maybe something under the name of the next one
 pub record AreSetInPart (entries : List (List ℕ × List ℕ)) (old new : Option FileMap) (faults_before faults_after : ℕ) : Type 0 where
@@ -97,15 +107,15 @@ StopsOnTheWay entries bytes old new faults_before faults_after before after =
     ⊎ ((new ≡ with_files entries old) × GrewByPart bytes before after)
 
 -- the files and bytes are those that a deploy of this task leaves which stopped on its way
-abbrev pub LeavesSome : Names → Option FileMap → Option FileMap → ℕ → ℕ → Option (List ℕ) → Option (List ℕ) → Task → Type 0
-LeavesSome names old new faults_before faults_after before after task = (left : Left)
-    × (IsLeftBySource task names.limit left × StopsOnTheWay (entries_of names task left) (bytes_of left) old new faults_before faults_after before after)
+abbrev pub LeavesSome : RunRequest → ℕ → Option FileMap → Option FileMap → ℕ → ℕ → Option (List ℕ) → Option (List ℕ) → Task → Type 0
+LeavesSome names limit old new faults_before faults_after before after task = (left : Left)
+    × (IsLeftBySource task limit left × StopsOnTheWay (entries_of names limit task left) (bytes_of left) old new faults_before faults_after before after)
 
 -- where files are told, they are accepted, and what is left is all that a deploy leaves
-abbrev pub Leaves : Status → Names → Option FileMap → Option FileMap → Option (List ℕ) → Option (List ℕ) → Type 0
-Leaves status names old new before after = Told old (λ files. IsOkAnd (accepted names files) (LeavesAll status names old new before after))
+abbrev pub Leaves : Status → RunRequest → ℕ → Option FileMap → Option FileMap → Option (List ℕ) → Option (List ℕ) → Type 0
+Leaves status names limit old new before after = Told old (λ files. IsOkAnd (accepted names limit files) (LeavesAll status names limit old new before after))
 
 -- where files are told, all is as it was, or they are accepted and some of what a deploy leaves is there
-abbrev pub LeavesInPart : Names → Option FileMap → Option FileMap → ℕ → ℕ → Option (List ℕ) → Option (List ℕ) → Type 0
-LeavesInPart names old new faults_before faults_after before after = Told old (λ files.
-    ((new ≡ old) × (after ≡ before)) ⊎ IsOkAnd (accepted names files) (LeavesSome names old new faults_before faults_after before after))
+abbrev pub LeavesInPart : RunRequest → ℕ → Option FileMap → Option FileMap → ℕ → ℕ → Option (List ℕ) → Option (List ℕ) → Type 0
+LeavesInPart names limit old new faults_before faults_after before after = Told old (λ files.
+    ((new ≡ old) × (after ≡ before)) ⊎ IsOkAnd (accepted names limit files) (LeavesSome names limit old new faults_before faults_after before after))

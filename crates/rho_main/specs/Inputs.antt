@@ -8,7 +8,7 @@ use Rattle.phlo_meter.specs.PriceTable.{prices_of}
 use Rattle.rho_outside.specs.FileMap.{FileMap}
 use Rattle.rho_main.specs.declared.status.Input.{Input}
 use Rattle.rho_main.specs.declared.status.Input.TheVariants.{State, Prices, Source, Log}
-use Rattle.rho_main.specs.Words.{Names}
+use Rattle.command_words.specs.Commands.{RunRequest}
 
 -- the greatest number of bytes of an input
 abbrev pub size_limit : Input → ℕ
@@ -18,10 +18,10 @@ size_limit Source = 1048576
 size_limit Log = 1073741824
 
 -- the name of an input's file
-abbrev pub name_of : Names → Input → List ℕ
+abbrev pub name_of : RunRequest → Input → List ℕ
 name_of names State = names.state
 name_of names Prices = names.prices
-name_of names Source = names.source
+name_of names Source = names.file
 name_of names Log = names.log
 
 -- why files are refused: one is missing, is too large or has a form that is not built yet, the price text gives no prices, or the limit is out of range, the greatest one being this
@@ -44,7 +44,7 @@ within input max None = Err (missing input)
 within input max (Some bytes) = if nat_le (length bytes) max then Ok bytes else Err (too_large input)
 
 -- an input's bytes
-abbrev pub given : Names → FileMap → Input → Result (List ℕ) Refusal
+abbrev pub given : RunRequest → FileMap → Input → Result (List ℕ) Refusal
 given names files input = within input (size_limit input) (files (name_of names input))
 
 -- bytes that are these
@@ -79,17 +79,17 @@ with_prices prices (Ok source) = Ok (record { prices = prices; source = source }
 with_prices prices (Err r) = Err r
 
 -- the state's bytes, or the first refusal
-abbrev pub accepted_state : Names → FileMap → Result (List ℕ) Refusal
+abbrev pub accepted_state : RunRequest → FileMap → Result (List ℕ) Refusal
 accepted_state names files = given names files State >>= only State empty_state
 
 -- the state and then the prices
-abbrev pub accepted_prices : Names → FileMap → Result PriceTable Refusal
+abbrev pub accepted_prices : RunRequest → FileMap → Result PriceTable Refusal
 accepted_prices names files = accepted_state names files >>= (λ state. given names files Prices >>= priced)
 
 -- these and then the limit
-abbrev pub accepted_limit : Names → FileMap → Result PriceTable Refusal
-accepted_limit names files = accepted_prices names files >>= in_range names.limit
+abbrev pub accepted_limit : RunRequest → ℕ → FileMap → Result PriceTable Refusal
+accepted_limit names limit files = accepted_prices names files >>= in_range limit
 
 -- these and then the source's bytes
-abbrev pub accepted : Names → FileMap → Result Task Refusal
-accepted names files = accepted_limit names files >>= (λ prices. with_prices prices (given names files Source))
+abbrev pub accepted : RunRequest → ℕ → FileMap → Result Task Refusal
+accepted names limit files = accepted_limit names limit files >>= (λ prices. with_prices prices (given names files Source))

@@ -6,6 +6,7 @@ pub mod Runnable
 pub mod Refused
 pub mod Report
 pub mod Ends
+pub mod Genesis
 pub mod Halts
 pub mod Plan
 pub mod Replaying

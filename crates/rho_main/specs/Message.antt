@@ -4,6 +4,10 @@ use Rattle.std.specs.List.{join_by}
 use Rattle.std.specs.Fmt.{signed_decimal}
 use Rattle.hex.specs.Hex.{encode_lower}
 use Rattle.calculus.specs.declared.ids.Digest.{Digest}
+use Rattle.command_words.specs.declared.command.Verb.{Verb}
+use Rattle.command_words.specs.declared.command.Verb.TheVariants as verb
+use Rattle.command_words.specs.declared.usage.Usage.{Usage}
+use Rattle.command_words.specs.declared.usage.Usage.TheVariants as usage
 use Rattle.event_log.specs.declared.fault.LogFault.{LogFault}
 use Rattle.event_log.specs.declared.fault.LogFault.TheVariants as logged
 use Rattle.log_replay.specs.declared.fault.ReplayFault.{ReplayFault}
@@ -18,8 +22,6 @@ use Rattle.scope_check.specs.declared.fault.ScopeFault.{ScopeFault}
 use Rattle.scope_check.specs.declared.fault.ScopeFault.TheVariants as scopes
 use Rattle.sources.specs.declared.fault.SourceFault.{SourceFault}
 use Rattle.sources.specs.declared.fault.SourceFault.TheVariants as source
-use Rattle.rho_main.specs.declared.words.Usage.{Usage}
-use Rattle.rho_main.specs.declared.words.Usage.TheVariants as usage
 use Rattle.rho_main.specs.declared.status.Input.{Input}
 use Rattle.rho_main.specs.declared.status.Input.TheVariants as input
 use Rattle.rho_main.specs.declared.status.Status.{Status}
@@ -41,6 +43,7 @@ code_of status.Faulted = 11
 code_of status.NoMemory = 12
 code_of (status.TooLarge i n m) = 13
 code_of (status.Unbuilt i) = 20
+code_of (status.UnbuiltVerb v) = 20
 
 -- how an input is named in messages
 abbrev pub input_name : Input → List ℕ
@@ -49,10 +52,23 @@ input_name input.Prices = codes "prices"
 input_name input.Source = codes "source"
 input_name input.Log = codes "log"
 
--- how a refusal of the words is named in messages
-abbrev pub usage_name : Usage → List ℕ
-usage_name usage.BadWords = codes "BadWords"
-usage_name usage.NoMemory = codes "NoMemory"
+-- how a verb is named in messages, as in the words
+abbrev pub verb_name : Verb → List ℕ
+verb_name verb.Genesis = codes "genesis"
+verb_name verb.Deploy = codes "deploy"
+verb_name verb.Replay = codes "replay"
+verb_name verb.Inspect = codes "inspect"
+verb_name verb.Workload = codes "workload"
+
+-- the name and the field of what the words are refused for
+abbrev pub usage_text : Usage → List ℕ
+usage_text usage.BadWords = codes "BadWords"
+usage_text (usage.UnknownVerb name) = codes "UnknownVerb verb=" ++ string_bytes name
+usage_text (usage.Missing what) = codes "Missing what=" ++ string_bytes what
+usage_text (usage.Surplus what) = codes "Surplus what=" ++ string_bytes what
+usage_text (usage.BadNumber what) = codes "BadNumber what=" ++ string_bytes what
+usage_text usage.SameFile = codes "SameFile"
+usage_text usage.NoMemory = codes "NoMemory"
 
 -- the name and the fields of a fault of the lexer
 abbrev pub lex_text : LexFault → List ℕ
@@ -124,7 +140,7 @@ replay_text replayed.NoMemory = codes "NoMemory"
 -- the line that is written for a status, without its end: the group, the name and each field
 abbrev pub message_of : Status → List ℕ
 message_of status.Done = []
-message_of (status.Usage u) = codes "rho: usage: " ++ usage_name u
+message_of (status.Usage u) = codes "rho: usage: " ++ usage_text u
 message_of (status.ReadFault i) = codes "rho: read: ReadFault input=" ++ input_name i
 message_of status.WriteFault = codes "rho: write: WriteFault"
 message_of (status.Source f) = codes "rho: source: " ++ source_text f
@@ -133,6 +149,7 @@ message_of (status.Limit n m) = codes "rho: prices: Limit limit=" ++ (decimal n 
 message_of (status.Log f) = codes "rho: log: " ++ log_text f
 message_of (status.Replay f) = codes "rho: replay: " ++ replay_text f
 message_of (status.Unbuilt i) = codes "rho: unbuilt: Unbuilt input=" ++ input_name i
+message_of (status.UnbuiltVerb v) = codes "rho: unbuilt: UnbuiltVerb verb=" ++ verb_name v
 message_of status.Exhausted = []
 message_of status.Faulted = []
 message_of status.NoMemory = codes "rho: memory: NoMemory"

@@ -9,7 +9,7 @@ use Rattle.sources.specs.declared.fault.SourceFault.{SourceFault}
 use Rattle.rho_outside.specs.FileMap.{FileMap, Lacks, GivesAtLeast}
 use Rattle.rho_outside.specs.Causes.{Rose}
 use Rattle.rho_outside.specs.Told.{Told}
-use Rattle.rho_main.specs.Words.{Names}
+use Rattle.command_words.specs.Commands.{RunRequest}
 use Rattle.rho_main.specs.Inputs.{Refusal, missing, too_large, unbuilt, bad_prices, bad_limit, priced, name_of, size_limit, accepted_state, accepted_limit, accepted}
 use Rattle.rho_main.specs.declared.status.Input.{Input}
 use Rattle.rho_main.specs.declared.status.Input.TheVariants.{State, Prices, Source, Log}
@@ -17,11 +17,11 @@ use Rattle.rho_main.specs.declared.status.Status.{Status}
 use Rattle.rho_main.specs.declared.status.Status.TheVariants as status
 
 -- each told input before this one was accepted; a deploy reads no log
-abbrev pub Reaches : Option FileMap → Names → Input → Type 0
-Reaches told names State = ⊤
-Reaches told names Prices = Told told (λ files. IsOk (accepted_state names files))
-Reaches told names Source = Told told (λ files. IsOk (accepted_limit names files))
-Reaches told names Log = ⊥
+abbrev pub Reaches : Option FileMap → RunRequest → ℕ → Input → Type 0
+Reaches told names limit State = ⊤
+Reaches told names limit Prices = Told told (λ files. IsOk (accepted_state names files))
+Reaches told names limit Source = Told told (λ files. IsOk (accepted_limit names limit files))
+Reaches told names limit Log = ⊥
 
 -- why one input gave no bytes, from the counts of failed fetches before and after
 abbrev pub InputCause : Option FileMap → List ℕ → ℕ → Input → ℕ → ℕ → Status → Type 0
@@ -60,16 +60,16 @@ SourceCause source (status.Source f) = IsFaultOf f source
 SourceCause source status.NoMemory = ⊤
 SourceCause source _ = ⊥
 
--- why a deploy refuses its files, from the counts of failed fetches before and after
-abbrev pub RefusedFor : Option FileMap → Names → ℕ → ℕ → Status → Type 0
-RefusedFor told names before now (status.ReadFault input) = (Rose before now ⊎ Lacks told (name_of names input)) × Reaches told names input
-RefusedFor told names before now (status.TooLarge input seen max) = (max ≡ size_limit input) × ((max < seen) × (GivesAtLeast told (name_of names input) seen × Told told (λ files. accepted names files ≡ Err (too_large input))))
-RefusedFor told names before now (status.Unbuilt input) = Told told (λ files. accepted names files ≡ Err (unbuilt input))
-RefusedFor told names before now (status.Prices f) = Told told (λ files. (r : Refusal) × (IsPriceFault f r × (accepted names files ≡ Err r)))
-RefusedFor told names before now (status.Limit limit most) = (limit ≡ names.limit) × Told told (λ files. accepted names files ≡ Err (bad_limit most))
-RefusedFor told names before now (status.Source f) = Told told (λ files. IsOkAnd (accepted names files) (λ task. IsFaultOf f task.source))
-RefusedFor told names before now status.NoMemory = ⊤
-RefusedFor told names before now _ = ⊥
+-- why a deploy with this limit refuses its files, from the counts of failed fetches before and after
+abbrev pub RefusedFor : Option FileMap → RunRequest → ℕ → ℕ → ℕ → Status → Type 0
+RefusedFor told names limit before now (status.ReadFault input) = (Rose before now ⊎ Lacks told (name_of names input)) × Reaches told names limit input
+RefusedFor told names limit before now (status.TooLarge input seen max) = (max ≡ size_limit input) × ((max < seen) × (GivesAtLeast told (name_of names input) seen × Told told (λ files. accepted names limit files ≡ Err (too_large input))))
+RefusedFor told names limit before now (status.Unbuilt input) = Told told (λ files. accepted names limit files ≡ Err (unbuilt input))
+RefusedFor told names limit before now (status.Prices f) = Told told (λ files. (r : Refusal) × (IsPriceFault f r × (accepted names limit files ≡ Err r)))
+RefusedFor told names limit before now (status.Limit n most) = (n ≡ limit) × Told told (λ files. accepted names limit files ≡ Err (bad_limit most))
+RefusedFor told names limit before now (status.Source f) = Told told (λ files. IsOkAnd (accepted names limit files) (λ task. IsFaultOf f task.source))
+RefusedFor told names limit before now status.NoMemory = ⊤
+RefusedFor told names limit before now _ = ⊥
 
 -- a status says this refusal; want of memory may stand in its place
 abbrev pub Says : Refusal → Status → Type 0

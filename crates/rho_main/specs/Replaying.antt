@@ -1,5 +1,5 @@
 -- What a replay makes of the files that it is given, when it refuses them, and what it leaves.
-use Rattle.std.specs.Prelude.{◌≡◌, ◌≢◌, ◌⊎◌, ℕ, ◌<◌, List, [], ◌∷◌, length, Result, Ok, Err, IsOk, IsOkAnd, IfSome, Option, Some, None, ⊤}
+use Rattle.std.specs.Prelude.{◌≡◌, ◌≢◌, ◌⊎◌, ℕ, ◌<◌, List, [], ◌∷◌, length, Result, Ok, Err, IsOk, IsOkAnd, Option, Some, None, ⊤}
 use Rattle.sha2.specs.Sha256.{sha256}
 use Rattle.calculus.specs.Tree.{Tree}
 use Rattle.calculus.specs.Log.{Header, Step}
@@ -20,7 +20,7 @@ use Rattle.rho_outside.specs.Causes.{Rose}
 use Rattle.rho_outside.specs.Told.{Told}
 use Rattle.rho_outside.specs.Put.{GrewBy, GrewByPart}
 use Rattle.rho_outside.specs.Kept.{with_files, PartSet}
-use Rattle.rho_main.specs.Words.{Names, replay_names_in}
+use Rattle.command_words.specs.Commands.{RunRequest}
 use Rattle.rho_main.specs.Inputs.{Refusal, unbuilt, too_large, ◌>>=◌, given, with_prices, Task, name_of, size_limit, accepted_state, accepted_prices, empty_state}
 use Rattle.rho_main.specs.Runnable.{IsRunnable, IsUnbuilt}
 use Rattle.rho_main.specs.Refused.{IsFaultOf, IsPriceFault}
@@ -30,27 +30,23 @@ use Rattle.rho_main.specs.declared.status.Input.TheVariants.{State, Prices, Sour
 use Rattle.rho_main.specs.declared.status.Status.{Status}
 use Rattle.rho_main.specs.declared.status.Status.TheVariants as status
 
--- where the words are those of a replay, this holds of what they give
-abbrev pub NamedReplay : List (List ℕ) → (Names → Type 0) → Type 0
-NamedReplay words P = IfSome (replay_names_in words) P
-
 -- the state, the prices and the source's bytes, or the first refusal
-abbrev pub accepted_source : Names → FileMap → Result Task Refusal
+abbrev pub accepted_source : RunRequest → FileMap → Result Task Refusal
 accepted_source names files = accepted_prices names files >>= (λ prices. with_prices prices (given names files Source))
 
 -- these and then the log's bytes: what is to be run, and the bytes of the log
-abbrev pub accepted_log : Names → FileMap → Result (Task × List ℕ) Refusal
+abbrev pub accepted_log : RunRequest → FileMap → Result (Task × List ℕ) Refusal
 accepted_log names files = accepted_source names files >>= (λ task. given names files Log >>= (λ log. Ok (task, log)))
 
 -- each told input before this one was accepted
-abbrev pub ReplayReaches : Option FileMap → Names → Input → Type 0
+abbrev pub ReplayReaches : Option FileMap → RunRequest → Input → Type 0
 ReplayReaches told names State = ⊤
 ReplayReaches told names Prices = Told told (λ files. IsOk (accepted_state names files))
 ReplayReaches told names Source = Told told (λ files. IsOk (accepted_prices names files))
 ReplayReaches told names Log = Told told (λ files. IsOkAnd (accepted_source names files) (λ task. IsRunnable task.source))
 
 -- this is the first refusal of the files
-abbrev pub IsRefusal : Names → FileMap → Refusal → Type 0
+abbrev pub IsRefusal : RunRequest → FileMap → Refusal → Type 0
 IsRefusal names files r = (accepted_source names files ≡ Err r) ⊎ (IsOkAnd (accepted_source names files) (λ task. IsRunnable task.source) × (accepted_log names files ≡ Err r))
 
 -- a source and a log: the log has this header and these steps
@@ -81,7 +77,7 @@ abbrev pub IsLogFault : LogFault → Task × List ℕ → Type 0
 IsLogFault f inputs = IsRunnable inputs.0.source × (log_of inputs.1 ≡ Err f)
 
 -- why a replay refuses its files, from the counts of failed fetches before and after
-abbrev pub ReplayRefusedFor : Option FileMap → Names → ℕ → ℕ → Status → Type 0
+abbrev pub ReplayRefusedFor : Option FileMap → RunRequest → ℕ → ℕ → Status → Type 0
 ReplayRefusedFor told names before now (status.ReadFault input) = (Rose before now ⊎ Lacks told (name_of names input)) × ReplayReaches told names input
 ReplayRefusedFor told names before now (status.TooLarge input seen max) = (max ≡ size_limit input) × ((max < seen) × (GivesAtLeast told (name_of names input) seen × Told told (λ files. IsRefusal names files (too_large input))))
 ReplayRefusedFor told names before now (status.Unbuilt Source) = Told told (λ files. IsOkAnd (accepted_source names files) (λ task. IsUnbuilt task.source))
@@ -130,20 +126,20 @@ pub record IsReplayedBy (s : Status) (inputs : Task × List ℕ) (left : ReplayL
   pub steps : left.report.steps ≡ length left.steps
 
 -- the files and bytes are those that a replay leaves which ended with this status
-abbrev pub ReplayLeavesAll : Status → Names → Option FileMap → Option FileMap → Option (List ℕ) → Option (List ℕ) → Task × List ℕ → Type 0
+abbrev pub ReplayLeavesAll : Status → RunRequest → Option FileMap → Option FileMap → Option (List ℕ) → Option (List ℕ) → Task × List ℕ → Type 0
 ReplayLeavesAll s names old new before after inputs = (left : ReplayLeft)
     × (IsReplayedBy s inputs left × ((new ≡ with_files ((names.next, left.next) ∷ []) old) × GrewBy (report_line left.report) before after))
 
 -- the files and bytes are those that a replay leaves which stopped on its way
-abbrev pub ReplayLeavesSome : Names → Option FileMap → Option FileMap → Option (List ℕ) → Option (List ℕ) → Task × List ℕ → Type 0
+abbrev pub ReplayLeavesSome : RunRequest → Option FileMap → Option FileMap → Option (List ℕ) → Option (List ℕ) → Task × List ℕ → Type 0
 ReplayLeavesSome names old new before after inputs = (left : ReplayLeft)
     × (IsLeftByReplay inputs left × (PartSet ((names.next, left.next) ∷ []) old new × GrewByPart (report_line left.report) before after))
 
 -- where files are told, they are accepted, and what is left is all that a replay leaves
-abbrev pub ReplayLeaves : Status → Names → Option FileMap → Option FileMap → Option (List ℕ) → Option (List ℕ) → Type 0
+abbrev pub ReplayLeaves : Status → RunRequest → Option FileMap → Option FileMap → Option (List ℕ) → Option (List ℕ) → Type 0
 ReplayLeaves s names old new before after = Told old (λ files. IsOkAnd (accepted_log names files) (ReplayLeavesAll s names old new before after))
 
 -- where files are told, all is as it was, or they are accepted and some of what a replay leaves is there
-abbrev pub ReplayLeavesInPart : Names → Option FileMap → Option FileMap → Option (List ℕ) → Option (List ℕ) → Type 0
+abbrev pub ReplayLeavesInPart : RunRequest → Option FileMap → Option FileMap → Option (List ℕ) → Option (List ℕ) → Type 0
 ReplayLeavesInPart names old new before after = Told old (λ files.
     ((new ≡ old) × (after ≡ before)) ⊎ IsOkAnd (accepted_log names files) (ReplayLeavesSome names old new before after))

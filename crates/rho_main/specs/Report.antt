@@ -1,4 +1,4 @@
--- The line that reports a run.
+-- The lines that report a run and a state.
 use Rattle.std.specs.Prelude.{ℕ, List, [], ◌∷◌, ◌++◌, Option, Some, None, codes}
 use Rattle.serde_json.specs.Data.{Data, null, unsigned, number, string, object, Members, member, no_members}
 use Rattle.serde_json.specs.Written.{compact_text}
@@ -48,6 +48,16 @@ report_members (Faulted step kind) cost root steps = faulted_members cost (fault
 -- the line of a report: compact JSON and a line feed
 abbrev pub report_line : Report → List ℕ
 report_line r = compact_text (object (report_members r.verdict r.cost (encode_lower r.root) r.steps)) ++ 10 ∷ []
+
+-- the members of a report on a state, in byte order of their keys
+abbrev pub state_members : List ℕ → ℕ → Members
+state_members root rows =
+    member (codes "root") (string root)
+    (member (codes "rows") (number (unsigned rows)) no_members)
+
+-- the line of a report on a state with this root and so many rows
+abbrev pub state_line : List ℕ → ℕ → List ℕ
+state_line root rows = compact_text (object (state_members (encode_lower root) rows)) ++ 10 ∷ []
 
 -- the status that a verdict gives
 abbrev pub status_of : Verdict → Status

@@ -1,57 +1,77 @@
--- The words of a deploy and of a replay, and what they give.
-use Rattle.std.specs.Prelude.{◌≡◌, ℕ, ◌^◌, nat_le, nat_lt, Bool, ◌&&◌, not, if◌then◌else◌, List, [], ◌∷◌, length, Option, Some, None, option_map, codes, string_bytes}
-use Rattle.std.specs.Str.{bytes_eq, all_ascii_digits}
-use Rattle.std.specs.Str.Parse.{digits_value}
-use Rattle.rho_main.specs.declared.words.Command.{Command}
-use Rattle.rho_main.specs.declared.words.Verb.{Verb}
-use Rattle.rho_main.specs.declared.words.Verb.TheVariants.{Deploy, Replay}
+-- What the words ask for, and why they are refused.
+use Rattle.std.specs.Prelude.{◌≡◌, ℕ, List, Option, Some, None, Result, Ok, Err, ⊤, string_bytes}
+use Rattle.command_words.specs.Answers.{answer_of}
+use Rattle.command_words.specs.Arguments.{Text}
+use Rattle.command_words.specs.Commands.{Refusal, Request, RunRequest, WorkloadRequest, bad_number, deploy, genesis, inspect, missing, replay, same_file, surplus, unknown_verb, workload}
+use Rattle.command_words.specs.declared.command.Verb.{Verb}
+use Rattle.command_words.specs.declared.command.Verb.TheVariants as verb
+use Rattle.command_words.specs.declared.usage.Usage.{Usage}
+use Rattle.command_words.specs.declared.usage.Usage.TheVariants.{BadWords, BadNumber, Missing, NoMemory, SameFile, Surplus, UnknownVerb}
 
--- whether a text is a number: 1 to 20 decimal digits of a value below 2^64
-abbrev pub is_number : List ℕ → Bool
-is_number digits = (nat_le 1 (length digits) && nat_le (length digits) 20) && (all_ascii_digits digits && nat_lt (digits_value 10 digits) (2 ^ 64))
+-- what is answered for words: a request or a refusal; nothing where they are no line of a verb, a file and options
+abbrev pub Answer : Type 0
+Answer = Option (Result Request Refusal)
 
--- the number that a text is
-abbrev pub number_in : List ℕ → Option ℕ
-number_in digits = if is_number digits then Some (digits_value 10 digits) else None
+-- a request is answered for a deploy, and this holds of its run and its limit; or there is no such answer
+abbrev pub DeployIn : Answer → (RunRequest → ℕ → Type 0) → Type 0
+DeployIn (Some (Ok (deploy run limit))) P = P run limit
+DeployIn _ P = ⊤
 
--- the names of files and the limit that the words of a deploy give
-pub record Names : Type 0 where
-  pub source : List ℕ
-  pub state : List ℕ
-  pub prices : List ℕ
-  pub limit : ℕ
-  pub log : List ℕ
-  pub next : List ℕ
+-- the same of a replay, which has no limit
+abbrev pub ReplayIn : Answer → (RunRequest → Type 0) → Type 0
+ReplayIn (Some (Ok (replay run))) P = P run
+ReplayIn _ P = ⊤
 
--- the words that stand at fixed places: the verb and the options
-abbrev pub are_fixed : List ℕ → List ℕ → List ℕ → List ℕ → List ℕ → List ℕ → Bool
-are_fixed verb a b c d e = bytes_eq verb (codes "deploy") && (bytes_eq a (codes "--state") && (bytes_eq b (codes "--prices") && (bytes_eq c (codes "--limit") && (bytes_eq d (codes "--log") && bytes_eq e (codes "--next")))))
+-- the same of the making of a state, and of its name
+abbrev pub GenesisIn : Answer → (Text → Type 0) → Type 0
+GenesisIn (Some (Ok (genesis file))) P = P file
+GenesisIn _ P = ⊤
 
--- what the words give where they are those of a deploy: the verb, a source, and then a state, prices, a limit, a log and a next state, each after its option; the last two are different names
-abbrev pub names_in : List (List ℕ) → Option Names
-names_in (verb ∷ source ∷ a ∷ state ∷ b ∷ prices ∷ c ∷ limit ∷ d ∷ log ∷ e ∷ next ∷ []) =
-    if are_fixed verb a b c d e && not (bytes_eq log next)
-    then option_map (λ n. record { source = source; state = state; prices = prices; limit = n; log = log; next = next }) (number_in limit)
-    else None
-names_in _ = None
+-- the same of a verb that is not built yet
+abbrev pub UnbuiltIn : Answer → (Verb → Type 0) → Type 0
+UnbuiltIn (Some (Ok (inspect file))) P = P verb.Inspect
+UnbuiltIn (Some (Ok (workload request))) P = P verb.Workload
+UnbuiltIn _ P = ⊤
 
--- the words that stand at fixed places in a replay: the verb and the options
-abbrev pub are_fixed_in_replay : List ℕ → List ℕ → List ℕ → List ℕ → List ℕ → Bool
-are_fixed_in_replay verb a b c d = bytes_eq verb (codes "replay") && (bytes_eq a (codes "--state") && (bytes_eq b (codes "--prices") && (bytes_eq c (codes "--log") && bytes_eq d (codes "--next"))))
+-- where the words ask for a deploy, this holds of its run and its limit
+abbrev pub OnDeploy : List Text → (RunRequest → ℕ → Type 0) → Type 0
+OnDeploy words P = DeployIn (answer_of words) P
 
--- what the words give where they are those of a replay: the verb, a source, and then a state, prices, a log and a next state, each after its option; the last two are different names, and the limit is 0
-abbrev pub replay_names_in : List (List ℕ) → Option Names
-replay_names_in (verb ∷ source ∷ a ∷ state ∷ b ∷ prices ∷ c ∷ log ∷ d ∷ next ∷ []) =
-    if are_fixed_in_replay verb a b c d && not (bytes_eq log next)
-    then Some (record { source = source; state = state; prices = prices; limit = 0; log = log; next = next })
-    else None
-replay_names_in _ = None
+-- where the words ask for a replay, this holds of its run
+abbrev pub OnReplay : List Text → (RunRequest → Type 0) → Type 0
+OnReplay words P = ReplayIn (answer_of words) P
 
--- what a command gives
-abbrev pub names_of : Command → Names
-names_of c = record { source = string_bytes c.file; state = string_bytes c.state; prices = string_bytes c.prices; limit = c.limit; log = string_bytes c.log; next = string_bytes c.next }
+-- where the words ask for the empty state, this holds of its name
+abbrev pub OnGenesis : List Text → (Text → Type 0) → Type 0
+OnGenesis words P = GenesisIn (answer_of words) P
 
--- the words are those of this verb, and give what its command gives
-abbrev pub IsReadAs : List (List ℕ) → Verb → Type 0
-IsReadAs words (Deploy c) = names_in words ≡ Some (names_of c)
-IsReadAs words (Replay c) = replay_names_in words ≡ Some (names_of c)
+-- where the words ask for a verb that is not built yet, this holds of the verb
+abbrev pub OnUnbuilt : List Text → (Verb → Type 0) → Type 0
+OnUnbuilt words P = UnbuiltIn (answer_of words) P
+
+-- a verb that is not built yet is that of the answer
+abbrev pub IsUnbuiltIn : Answer → Verb → Type 0
+IsUnbuiltIn answer verb.Inspect = (file : Text) × (answer ≡ Some (Ok (inspect file)))
+IsUnbuiltIn answer verb.Workload = (request : WorkloadRequest) × (answer ≡ Some (Ok (workload request)))
+IsUnbuiltIn answer _ = ⊥
+
+-- no request is answered
+abbrev pub IsRefusal : Answer → Type 0
+IsRefusal None = ⊤
+IsRefusal (Some (Err refusal)) = ⊤
+IsRefusal (Some (Ok request)) = ⊥
+
+-- this fault says what is answered; want of memory says nothing
+abbrev pub IsSaidBy : Answer → Usage → Type 0
+IsSaidBy answer BadWords = answer ≡ None
+IsSaidBy answer (UnknownVerb name) = answer ≡ Some (Err (unknown_verb (string_bytes name)))
+IsSaidBy answer (Missing what) = answer ≡ Some (Err (missing (string_bytes what)))
+IsSaidBy answer (Surplus what) = answer ≡ Some (Err (surplus (string_bytes what)))
+IsSaidBy answer (BadNumber what) = answer ≡ Some (Err (bad_number (string_bytes what)))
+IsSaidBy answer SameFile = answer ≡ Some (Err same_file)
+IsSaidBy answer NoMemory = ⊥
+
+-- this fault says what is answered, or memory ran out
+abbrev pub Tells : Answer → Usage → Type 0
+Tells answer NoMemory = ⊤
+Tells answer fault = IsSaidBy answer fault

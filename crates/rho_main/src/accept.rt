@@ -8,7 +8,7 @@ ghost use Rattle.linear_unfold.specs.Linear.{is_linear};
 ghost use Rattle.rho_outside.specs.Causes.{Rose};
 ghost use Rattle.rho_outside.specs.FileMap.{Gives};
 ghost use Rattle.rho_outside.specs.Told.{Told};
-ghost use Rattle.rho_main.specs.Words.{names_of};
+ghost use Rattle.command_words.specs.Answers.{run_of};
 ghost use Rattle.rho_main.specs.Inputs.{Refusal, priced, accepted_state, accepted_prices, accepted_limit, accepted};
 ghost use Rattle.rho_main.specs.Refused.{price_refusal, InputCause, PriceCause, PriceStatusOf, RefusedFor, Says, SourceCause, SaysOf, IsFree, StatusOf};
 ghost use Rattle.rho_main.specs.Given.{task_of, IsGiven, LogCause};
@@ -16,7 +16,7 @@ ghost use Rattle.rho_main.specs.Replaying.{accepted_log, accepted_source, Replay
 ghost use Rattle.sources.specs.Sources.{IsSourceOf};
 
 use crate::status::{Input, Status};
-use crate::words::Command;
+use command_words::Run;
 use event_log::{Log, LogFault, read_log};
 use linear_unfold::is_linear;
 use phlo_meter::{PriceFault, read_prices};
@@ -67,23 +67,17 @@ fn take<S: Shelf>(
 }
 
 /// Fetches and checks the state.
-fn accept_state<S: Shelf>(alloc: Global, shelf: &mut S, command: &Command) -> Result<(), Status>
+fn accept_state<S: Shelf>(alloc: Global, shelf: &mut S, run: &Run) -> Result<(), Status>
     ensures files { S.files shelf.new ≡ S.files shelf.old }
     ensures keep_faults { S.keep_faults shelf.new ≡ S.keep_faults shelf.old }
     ensures fetch_faults { S.fetch_faults shelf.old ≤ S.fetch_faults shelf.new }
-    ensures accepted { IfOk result (λ _. Told (S.files shelf.old) (λ files. IsOk (accepted_state (names_of command.now) files))) }
-    ensures refused { IfErr result (RefusedFor (S.files shelf.old) (names_of command.now) (S.fetch_faults shelf.old) (S.fetch_faults shelf.new)) }
-    ensures replay_refused { IfErr result (ReplayRefusedFor (S.files shelf.old) (names_of command.now) (S.fetch_faults shelf.old) (S.fetch_faults shelf.new)) }
-    ensures exact { Told (S.files shelf.old) (λ files. (r : Refusal) → accepted_state (names_of command.now) files ≡ Err r
+    ensures accepted { IfOk result (λ _. Told (S.files shelf.old) (λ files. IsOk (accepted_state (run_of run.now) files))) }
+    ensures refused { (limit : ℕ) → IfErr result (RefusedFor (S.files shelf.old) (run_of run.now) limit (S.fetch_faults shelf.old) (S.fetch_faults shelf.new)) }
+    ensures replay_refused { IfErr result (ReplayRefusedFor (S.files shelf.old) (run_of run.now) (S.fetch_faults shelf.old) (S.fetch_faults shelf.new)) }
+    ensures exact { Told (S.files shelf.old) (λ files. (r : Refusal) → accepted_state (run_of run.now) files ≡ Err r
         → ¬ (Rose (S.fetch_faults shelf.old) (S.fetch_faults shelf.new)) → MatchResult result (λ _. ⊥) (Says r)) }
 {
-    let state = take(
-        alloc,
-        shelf,
-        command.state.as_str(),
-        Input::State,
-        STATE_MAX,
-    )?;
+    let state = take(alloc, shelf, run.state.as_str(), Input::State, STATE_MAX)?;
     if state.as_slice() == EMPTY_STATE {
         Ok(())
     } else {
@@ -115,28 +109,18 @@ fn prices_in(alloc: Global, text: &[u8]) -> Result<Prices, Status>
 }
 
 /// Fetches and checks the prices, after the state.
-fn accept_prices<S: Shelf>(
-    alloc: Global,
-    shelf: &mut S,
-    command: &Command,
-) -> Result<Prices, Status>
+fn accept_prices<S: Shelf>(alloc: Global, shelf: &mut S, run: &Run) -> Result<Prices, Status>
     ensures files { S.files shelf.new ≡ S.files shelf.old }
     ensures keep_faults { S.keep_faults shelf.new ≡ S.keep_faults shelf.old }
     ensures fetch_faults { S.fetch_faults shelf.old ≤ S.fetch_faults shelf.new }
-    ensures accepted { IfOk result (λ prices. Told (S.files shelf.old) (λ files. accepted_prices (names_of command.now) files ≡ Ok prices)) }
-    ensures refused { IfErr result (RefusedFor (S.files shelf.old) (names_of command.now) (S.fetch_faults shelf.old) (S.fetch_faults shelf.new)) }
-    ensures replay_refused { IfErr result (ReplayRefusedFor (S.files shelf.old) (names_of command.now) (S.fetch_faults shelf.old) (S.fetch_faults shelf.new)) }
-    ensures exact { Told (S.files shelf.old) (λ files. (r : Refusal) → accepted_prices (names_of command.now) files ≡ Err r
+    ensures accepted { IfOk result (λ prices. Told (S.files shelf.old) (λ files. accepted_prices (run_of run.now) files ≡ Ok prices)) }
+    ensures refused { (limit : ℕ) → IfErr result (RefusedFor (S.files shelf.old) (run_of run.now) limit (S.fetch_faults shelf.old) (S.fetch_faults shelf.new)) }
+    ensures replay_refused { IfErr result (ReplayRefusedFor (S.files shelf.old) (run_of run.now) (S.fetch_faults shelf.old) (S.fetch_faults shelf.new)) }
+    ensures exact { Told (S.files shelf.old) (λ files. (r : Refusal) → accepted_prices (run_of run.now) files ≡ Err r
         → ¬ (Rose (S.fetch_faults shelf.old) (S.fetch_faults shelf.new)) → MatchResult result (λ _. ⊥) (Says r)) }
 {
-    accept_state(alloc, shelf, command)?;
-    let text = take(
-        alloc,
-        shelf,
-        command.prices.as_str(),
-        Input::Prices,
-        PRICES_MAX,
-    )?;
+    accept_state(alloc, shelf, run)?;
+    let text = take(alloc, shelf, run.prices.as_str(), Input::Prices, PRICES_MAX)?;
     match prices_in(alloc, text.as_slice()) {
         Ok(prices) => Ok(prices),
         Err(status) => Err(status),
@@ -144,18 +128,22 @@ fn accept_prices<S: Shelf>(
 }
 
 /// Checks the limit, after the state and the prices.
-fn accept_limit<S: Shelf>(alloc: Global, shelf: &mut S, command: &Command) -> Result<Prices, Status>
+fn accept_limit<S: Shelf>(
+    alloc: Global,
+    shelf: &mut S,
+    run: &Run,
+    limit: u64,
+) -> Result<Prices, Status>
     ensures files { S.files shelf.new ≡ S.files shelf.old }
     ensures keep_faults { S.keep_faults shelf.new ≡ S.keep_faults shelf.old }
     ensures fetch_faults { S.fetch_faults shelf.old ≤ S.fetch_faults shelf.new }
-    ensures accepted { IfOk result (λ prices. Told (S.files shelf.old) (λ files. accepted_limit (names_of command.now) files ≡ Ok prices)) }
-    ensures in_range { IfOk result (λ prices. command.now.limit ≤ greatest_limit prices) }
-    ensures refused { IfErr result (RefusedFor (S.files shelf.old) (names_of command.now) (S.fetch_faults shelf.old) (S.fetch_faults shelf.new)) }
-    ensures exact { Told (S.files shelf.old) (λ files. (r : Refusal) → accepted_limit (names_of command.now) files ≡ Err r
+    ensures accepted { IfOk result (λ prices. Told (S.files shelf.old) (λ files. accepted_limit (run_of run.now) limit files ≡ Ok prices)) }
+    ensures in_range { IfOk result (λ prices. limit ≤ greatest_limit prices) }
+    ensures refused { IfErr result (RefusedFor (S.files shelf.old) (run_of run.now) limit (S.fetch_faults shelf.old) (S.fetch_faults shelf.new)) }
+    ensures exact { Told (S.files shelf.old) (λ files. (r : Refusal) → accepted_limit (run_of run.now) limit files ≡ Err r
         → ¬ (Rose (S.fetch_faults shelf.old) (S.fetch_faults shelf.new)) → MatchResult result (λ _. ⊥) (Says r)) }
 {
-    let prices = accept_prices(alloc, shelf, command)?;
-    let limit = command.limit;
+    let prices = accept_prices(alloc, shelf, run)?;
     let most = most_limit(&prices);
     if limit == 0 || limit > most {
         return Err(Status::Limit { limit, most });
@@ -167,26 +155,21 @@ fn accept_limit<S: Shelf>(alloc: Global, shelf: &mut S, command: &Command) -> Re
 fn accept_source<S: Shelf>(
     alloc: Global,
     shelf: &mut S,
-    command: &Command,
+    run: &Run,
+    limit: u64,
 ) -> Result<(Prices, Vec<u8>), Status>
     ensures files { S.files shelf.new ≡ S.files shelf.old }
     ensures keep_faults { S.keep_faults shelf.new ≡ S.keep_faults shelf.old }
     ensures fetch_faults { S.fetch_faults shelf.old ≤ S.fetch_faults shelf.new }
-    ensures accepted { IfOk result (λ given. Told (S.files shelf.old) (λ files. accepted (names_of command.now) files ≡ Ok (record { prices = given.0; source = given.1.items }))) }
-    ensures in_range { IfOk result (λ given. command.now.limit ≤ greatest_limit given.0) }
+    ensures accepted { IfOk result (λ given. Told (S.files shelf.old) (λ files. accepted (run_of run.now) limit files ≡ Ok (record { prices = given.0; source = given.1.items }))) }
+    ensures in_range { IfOk result (λ given. limit ≤ greatest_limit given.0) }
     ensures short { IfOk result (λ given. length given.1.items ≤ 1048576) }
-    ensures refused { IfErr result (RefusedFor (S.files shelf.old) (names_of command.now) (S.fetch_faults shelf.old) (S.fetch_faults shelf.new)) }
-    ensures exact { Told (S.files shelf.old) (λ files. (r : Refusal) → accepted (names_of command.now) files ≡ Err r
+    ensures refused { IfErr result (RefusedFor (S.files shelf.old) (run_of run.now) limit (S.fetch_faults shelf.old) (S.fetch_faults shelf.new)) }
+    ensures exact { Told (S.files shelf.old) (λ files. (r : Refusal) → accepted (run_of run.now) limit files ≡ Err r
         → ¬ (Rose (S.fetch_faults shelf.old) (S.fetch_faults shelf.new)) → MatchResult result (λ _. ⊥) (Says r)) }
 {
-    let prices = accept_limit(alloc, shelf, command)?;
-    let source = take(
-        alloc,
-        shelf,
-        command.file.as_str(),
-        Input::Source,
-        SOURCE_MAX,
-    )?;
+    let prices = accept_limit(alloc, shelf, run, limit)?;
+    let source = take(alloc, shelf, run.file.as_str(), Input::Source, SOURCE_MAX)?;
     Ok((prices, source))
 }
 
@@ -227,22 +210,23 @@ pub(crate) struct Inputs {
 pub(crate) fn accept<S: Shelf>(
     alloc: Global,
     shelf: &mut S,
-    command: &Command,
+    run: &Run,
+    limit: u64,
 ) -> Result<Inputs, Status>
     ensures files { S.files shelf.new ≡ S.files shelf.old }
     ensures keep_faults { S.keep_faults shelf.new ≡ S.keep_faults shelf.old }
-    ensures accepted { IfOk result (λ i. Told (S.files shelf.old) (λ files. accepted (names_of command.now) files ≡ Ok (task_of i))) }
+    ensures accepted { IfOk result (λ i. Told (S.files shelf.old) (λ files. accepted (run_of run.now) limit files ≡ Ok (task_of i))) }
     ensures term { IfOk result (λ i. IsSourceOf i.source.items i.term) }
     ensures closed { IfOk result (λ i. IsClosed i.term) }
-    ensures in_range { IfOk result (λ i. command.now.limit ≤ greatest_limit i.prices) }
+    ensures in_range { IfOk result (λ i. limit ≤ greatest_limit i.prices) }
     ensures short { IfOk result (λ i. length i.source.items ≤ 1048576) }
-    ensures refused { IfErr result (RefusedFor (S.files shelf.old) (names_of command.now) (S.fetch_faults shelf.old) (S.fetch_faults shelf.new)) }
-    ensures exact { Told (S.files shelf.old) (λ files. (r : Refusal) → accepted (names_of command.now) files ≡ Err r
+    ensures refused { IfErr result (RefusedFor (S.files shelf.old) (run_of run.now) limit (S.fetch_faults shelf.old) (S.fetch_faults shelf.new)) }
+    ensures exact { Told (S.files shelf.old) (λ files. (r : Refusal) → accepted (run_of run.now) limit files ≡ Err r
         → ¬ (Rose (S.fetch_faults shelf.old) (S.fetch_faults shelf.new)) → MatchResult result (λ _. ⊥) (Says r)) }
-    ensures source_exact { Told (S.files shelf.old) (λ files. IfOk (accepted (names_of command.now) files) (λ task.
+    ensures source_exact { Told (S.files shelf.old) (λ files. IfOk (accepted (run_of run.now) limit files) (λ task.
         ¬ (Rose (S.fetch_faults shelf.old) (S.fetch_faults shelf.new)) → MatchResult result (λ _. IsFree task.source) (SaysOf task.source))) }
 {
-    let (prices, source) = match accept_source(alloc, shelf, command) {
+    let (prices, source) = match accept_source(alloc, shelf, run, limit) {
         Ok(given) => given,
         Err(status) => return Err(status),
     };
@@ -277,28 +261,18 @@ fn accept_linear(alloc: Global, source: &[u8]) -> Result<Term, Status>
 }
 
 /// Fetches and checks what a replay needs up to its source, each input just before it is checked.
-fn accept_replay_source<S: Shelf>(
-    alloc: Global,
-    shelf: &mut S,
-    command: &Command,
-) -> Result<Inputs, Status>
+fn accept_replay_source<S: Shelf>(alloc: Global, shelf: &mut S, run: &Run) -> Result<Inputs, Status>
     ensures files { S.files shelf.new ≡ S.files shelf.old }
     ensures keep_faults { S.keep_faults shelf.new ≡ S.keep_faults shelf.old }
     ensures fetch_faults { S.fetch_faults shelf.old ≤ S.fetch_faults shelf.new }
-    ensures accepted { IfOk result (λ i. Told (S.files shelf.old) (λ files. accepted_source (names_of command.now) files ≡ Ok (task_of i))) }
+    ensures accepted { IfOk result (λ i. Told (S.files shelf.old) (λ files. accepted_source (run_of run.now) files ≡ Ok (task_of i))) }
     ensures term { IfOk result (λ i. IsSourceOf i.source.items i.term) }
     ensures linear { IfOk result (λ i. is_linear i.term ≡ true) }
     ensures closed { IfOk result (λ i. IsClosed i.term) }
-    ensures refused { IfErr result (ReplayRefusedFor (S.files shelf.old) (names_of command.now) (S.fetch_faults shelf.old) (S.fetch_faults shelf.new)) }
+    ensures refused { IfErr result (ReplayRefusedFor (S.files shelf.old) (run_of run.now) (S.fetch_faults shelf.old) (S.fetch_faults shelf.new)) }
 {
-    let prices = accept_prices(alloc, shelf, command)?;
-    let source = take(
-        alloc,
-        shelf,
-        command.file.as_str(),
-        Input::Source,
-        SOURCE_MAX,
-    )?;
+    let prices = accept_prices(alloc, shelf, run)?;
+    let source = take(alloc, shelf, run.file.as_str(), Input::Source, SOURCE_MAX)?;
     match accept_linear(alloc, source.as_slice()) {
         Ok(term) => Ok(Inputs {
             prices,
@@ -332,21 +306,21 @@ fn log_of_bytes(alloc: Global, bytes: &[u8]) -> Result<Log, Status>
 pub(crate) fn accept_replay<S: Shelf>(
     alloc: Global,
     shelf: &mut S,
-    command: &Command,
+    run: &Run,
 ) -> Result<ReplayInputs, Status>
     ensures files { S.files shelf.new ≡ S.files shelf.old }
     ensures keep_faults { S.keep_faults shelf.new ≡ S.keep_faults shelf.old }
-    ensures accepted { IfOk result (λ r. Told (S.files shelf.old) (λ files. IsOkAnd (accepted_log (names_of command.now) files) (IsGiven r))) }
+    ensures accepted { IfOk result (λ r. Told (S.files shelf.old) (λ files. IsOkAnd (accepted_log (run_of run.now) files) (IsGiven r))) }
     ensures term { IfOk result (λ r. IsSourceOf r.inputs.source.items r.inputs.term) }
     ensures linear { IfOk result (λ r. is_linear r.inputs.term ≡ true) }
     ensures closed { IfOk result (λ r. IsClosed r.inputs.term) }
-    ensures refused { IfErr result (ReplayRefusedFor (S.files shelf.old) (names_of command.now) (S.fetch_faults shelf.old) (S.fetch_faults shelf.new)) }
+    ensures refused { IfErr result (ReplayRefusedFor (S.files shelf.old) (run_of run.now) (S.fetch_faults shelf.old) (S.fetch_faults shelf.new)) }
 {
-    let inputs = match accept_replay_source(alloc, shelf, command) {
+    let inputs = match accept_replay_source(alloc, shelf, run) {
         Ok(inputs) => inputs,
         Err(status) => return Err(status),
     };
-    let bytes = match take(alloc, shelf, command.log.as_str(), Input::Log, LOG_MAX) {
+    let bytes = match take(alloc, shelf, run.log.as_str(), Input::Log, LOG_MAX) {
         Ok(bytes) => bytes,
         Err(status) => return Err(status),
     };

@@ -6,7 +6,7 @@ ghost use Rattle.rho_outside.specs.Causes.{Rose};
 ghost use Rattle.rho_outside.specs.Put.{GrewBy};
 ghost use Rattle.rho_outside.specs.Kept.{with_files};
 ghost use Rattle.rho_outside.specs.Told.{Told};
-ghost use Rattle.rho_main.specs.Words.{names_of};
+ghost use Rattle.command_words.specs.Answers.{run_of};
 ghost use Rattle.rho_main.specs.Given.{task_of};
 ghost use Rattle.rho_main.specs.Inputs.{Refusal, accepted};
 ghost use Rattle.rho_main.specs.Refused.{RefusedFor, Says, SaysOf};
@@ -21,8 +21,8 @@ use crate::accept::{Inputs, accept};
 use crate::finish::{Halt, keep_both, put_bytes};
 use crate::report::report;
 use crate::status::Status;
-use crate::words::Command;
 use channel_table::ChannelTable;
+use command_words::Run;
 use event_log::{Log, LogHeader, write_log};
 use name_seed::{EMPTY_ROOT, bytes_digest};
 use rho_outside::{Shelf, Sink};
@@ -68,7 +68,15 @@ fn make_plan(alloc: Global, inputs: &Inputs, limit: u64) -> Result<Plan, AllocEr
         steps,
         rows,
         output,
-    } = play::<ChannelTable>(alloc, &inputs.term, &source, &inputs.prices, limit)?;
+    } = play::<ChannelTable>(
+        alloc,
+        Vec::new(alloc),
+        &EMPTY_ROOT,
+        &inputs.term,
+        &source,
+        &inputs.prices,
+        limit,
+    )?;
     let (root, next) = write_rows(alloc, stored_rows(alloc, rows.as_slice())?)?;
     let count = steps.len() as u32;
     let line = report(alloc, verdict, cost, &root, count)?;
@@ -92,19 +100,19 @@ fn make_plan(alloc: Global, inputs: &Inputs, limit: u64) -> Result<Plan, AllocEr
 /// Keeps the log and then the next state, and then puts what is printed and the report.
 fn write_plan<S: Shelf, O: Sink>(
     alloc: Global,
-    command: &Command,
+    run: &Run,
     plan: &Plan,
     shelf: &mut S,
     out: &mut O,
 ) -> Result<(), Halt>
-    ensures kept { OnOk result (S.files shelf.new ≡ with_files ((string_bytes command.now.log, plan.now.log.items) ∷ (string_bytes command.now.next, plan.now.next.items) ∷ []) (S.files shelf.old)) }
+    ensures kept { OnOk result (S.files shelf.new ≡ with_files ((string_bytes run.now.log, plan.now.log.items) ∷ (string_bytes run.now.next, plan.now.next.items) ∷ []) (S.files shelf.old)) }
     ensures put { OnOk result (GrewBy plan.now.bytes.items (O.written out.old) (O.written out.new)) }
-    ensures part { OnErr result (StopsOnTheWay ((string_bytes command.now.log, plan.now.log.items) ∷ (string_bytes command.now.next, plan.now.next.items) ∷ []) plan.now.bytes.items
+    ensures part { OnErr result (StopsOnTheWay ((string_bytes run.now.log, plan.now.log.items) ∷ (string_bytes run.now.next, plan.now.next.items) ∷ []) plan.now.bytes.items
         (S.files shelf.old) (S.files shelf.new) (S.keep_faults shelf.old) (S.keep_faults shelf.new) (O.written out.old) (O.written out.new)) }
     ensures cause { IsErrOf result Halt.WriteFault → Rose (S.keep_faults shelf.old) (S.keep_faults shelf.new) ⊎ Rose (O.faults out.old) (O.faults out.new) }
 {
-    let log = (command.log.as_str(), plan.log.as_slice());
-    let next = (command.next.as_str(), plan.next.as_slice());
+    let log = (run.log.as_str(), plan.log.as_slice());
+    let next = (run.next.as_str(), plan.next.as_slice());
     keep_both(alloc, shelf, log, next)?;
     put_bytes(alloc, out, plan.bytes.as_slice())
 }
@@ -123,35 +131,36 @@ pub(crate) fn status_of(verdict: Verdict) -> Status
 /// Runs a source: nothing is kept or put before all inputs are accepted and the run has ended.
 pub(crate) fn deploy<S: Shelf, O: Sink>(
     alloc: Global,
-    command: &Command,
+    run: &Run,
+    limit: u64,
     shelf: &mut S,
     out: &mut O,
 ) -> Status
-    ensures no_usage { OnUsage result ⊥ }
-    ensures refused { OnFileRefusal result (RefusedFor (S.files shelf.old) (names_of command.now) (S.fetch_faults shelf.old) (S.fetch_faults shelf.new) result) }
-    ensures exact { Told (S.files shelf.old) (λ files. (r : Refusal) → accepted (names_of command.now) files ≡ Err r
+    ensures no_usage { OnUsage result (λ _. ⊥) }
+    ensures refused { OnFileRefusal result (RefusedFor (S.files shelf.old) (run_of run.now) limit (S.fetch_faults shelf.old) (S.fetch_faults shelf.new) result) }
+    ensures exact { Told (S.files shelf.old) (λ files. (r : Refusal) → accepted (run_of run.now) limit files ≡ Err r
         → ¬ (Rose (S.fetch_faults shelf.old) (S.fetch_faults shelf.new)) → Says r result) }
-    ensures source_exact { Told (S.files shelf.old) (λ files. IfOk (accepted (names_of command.now) files) (λ task.
+    ensures source_exact { Told (S.files shelf.old) (λ files. IfOk (accepted (run_of run.now) limit files) (λ task.
         ¬ (Rose (S.fetch_faults shelf.old) (S.fetch_faults shelf.new)) → SaysOf task.source result)) }
     ensures files_stay { OnRefusal result (S.files shelf.new ≡ S.files shelf.old) }
     ensures bytes_stay { OnRefusal result (O.written out.new ≡ O.written out.old) }
     ensures write_fault { result ≡ Status.WriteFault → Rose (S.keep_faults shelf.old) (S.keep_faults shelf.new) ⊎ Rose (O.faults out.old) (O.faults out.new) }
-    ensures write_fault_late { result ≡ Status.WriteFault → Told (S.files shelf.old) (λ files. IsOkAnd (accepted (names_of command.now) files) HasProcess) }
-    ensures complete { Told (S.files shelf.old) (λ files. IfOk (accepted (names_of command.now) files) (λ task. HasProcess task
+    ensures write_fault_late { result ≡ Status.WriteFault → Told (S.files shelf.old) (λ files. IsOkAnd (accepted (run_of run.now) limit files) HasProcess) }
+    ensures complete { Told (S.files shelf.old) (λ files. IfOk (accepted (run_of run.now) limit files) (λ task. HasProcess task
         → ¬ (Rose (S.fetch_faults shelf.old) (S.fetch_faults shelf.new)) → ¬ (Rose (S.keep_faults shelf.old) (S.keep_faults shelf.new))
         → ¬ (Rose (O.faults out.old) (O.faults out.new)) → HasEnded result)) }
-    ensures verdict { OnVerdict result (Leaves result (names_of command.now) (S.files shelf.old) (S.files shelf.new) (O.written out.old) (O.written out.new)) }
-    ensures part { OnHalt result (LeavesInPart (names_of command.now) (S.files shelf.old) (S.files shelf.new) (S.keep_faults shelf.old) (S.keep_faults shelf.new) (O.written out.old) (O.written out.new)) }
+    ensures verdict { OnVerdict result (Leaves result (run_of run.now) limit (S.files shelf.old) (S.files shelf.new) (O.written out.old) (O.written out.new)) }
+    ensures part { OnHalt result (LeavesInPart (run_of run.now) limit (S.files shelf.old) (S.files shelf.new) (S.keep_faults shelf.old) (S.keep_faults shelf.new) (O.written out.old) (O.written out.new)) }
 {
-    let inputs = match accept(alloc, shelf, command) {
+    let inputs = match accept(alloc, shelf, run, limit) {
         Ok(inputs) => inputs,
         Err(status) => return status,
     };
-    let plan = match make_plan(alloc, &inputs, command.limit) {
+    let plan = match make_plan(alloc, &inputs, limit) {
         Ok(plan) => plan,
         Err(_) => return Status::NoMemory,
     };
-    match write_plan(alloc, command, &plan, shelf, out) {
+    match write_plan(alloc, run, &plan, shelf, out) {
         Ok(()) => status_of(plan.verdict),
         Err(Halt::WriteFault) => Status::WriteFault,
         Err(Halt::NoMemory) => Status::NoMemory,

@@ -4,15 +4,15 @@
 pub mod accept;
 pub mod deploy;
 pub mod finish;
+mod genesis;
 pub mod replay;
 pub mod report;
 pub mod status;
 pub mod top;
 mod wording;
-pub mod words;
 
+pub use command_words::{Usage, Verb};
 pub use price_table::Prices;
 pub use run_verdict::Verdict;
 pub use status::{Input, Status};
 pub use top::run;
-pub use words::{Command, Usage, Verb};

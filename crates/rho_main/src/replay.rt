@@ -6,7 +6,7 @@ ghost use Rattle.rho_outside.specs.Kept.{with_files, PartSet};
 ghost use Rattle.sources.specs.Sources.{IsSourceOf};
 ghost use Rattle.linear_unfold.specs.Linear.{is_linear};
 ghost use Rattle.log_replay.specs.Refusals.{refusal_of};
-ghost use Rattle.rho_main.specs.Words.{names_of};
+ghost use Rattle.command_words.specs.Answers.{run_of};
 ghost use Rattle.rho_main.specs.Ends.{OnUsage, OnRefusal, OnFileRefusal, OnHalt, OnVerdict};
 ghost use Rattle.rho_main.specs.Replaying.{ReplayRefusedFor, ReplayLeaves, ReplayLeavesInPart};
 ghost use Rattle.linear_store.specs.Channels.{IsOnOneChannel};
@@ -17,7 +17,7 @@ use crate::deploy::status_of;
 use crate::finish::{Halt, keep_file, put_bytes};
 use crate::report::report;
 use crate::status::Status;
-use crate::words::Command;
+use command_words::Run;
 use event_log::MOST_STEPS;
 use linear_rows::stored_rows;
 use log_replay::{ReplayFault, Replayed, replay as replay_log};
@@ -96,37 +96,37 @@ fn make_replay_plan(alloc: Global, inputs: &ReplayInputs) -> Result<ReplayPlan, 
 /// Keeps the next state, and then puts the report.
 fn write_replay<S: Shelf, O: Sink>(
     alloc: Global,
-    command: &Command,
+    run: &Run,
     plan: &ReplayPlan,
     shelf: &mut S,
     out: &mut O,
 ) -> Result<(), Halt>
-    ensures kept { OnOk result (S.files shelf.new ≡ with_files ((string_bytes command.now.next, plan.now.next.items) ∷ []) (S.files shelf.old)) }
-    ensures part { OnErr result (PartSet ((string_bytes command.now.next, plan.now.next.items) ∷ []) (S.files shelf.old) (S.files shelf.new)) }
+    ensures kept { OnOk result (S.files shelf.new ≡ with_files ((string_bytes run.now.next, plan.now.next.items) ∷ []) (S.files shelf.old)) }
+    ensures part { OnErr result (PartSet ((string_bytes run.now.next, plan.now.next.items) ∷ []) (S.files shelf.old) (S.files shelf.new)) }
     ensures put { OnOk result (GrewBy plan.now.line.items (O.written out.old) (O.written out.new)) }
     ensures put_part { OnErr result (GrewByPart plan.now.line.items (O.written out.old) (O.written out.new)) }
     ensures cause { IsErrOf result Halt.WriteFault → Rose (S.keep_faults shelf.old) (S.keep_faults shelf.new) ⊎ Rose (O.faults out.old) (O.faults out.new) }
 {
-    keep_file(alloc, shelf, command.next.as_str(), plan.next.as_slice())?;
+    keep_file(alloc, shelf, run.next.as_str(), plan.next.as_slice())?;
     put_bytes(alloc, out, plan.line.as_slice())
 }
 
 /// Replays a log: nothing is kept or put before all inputs are accepted and the replay has ended.
 pub(crate) fn replay<S: Shelf, O: Sink>(
     alloc: Global,
-    command: &Command,
+    run: &Run,
     shelf: &mut S,
     out: &mut O,
 ) -> Status
-    ensures no_usage { OnUsage result ⊥ }
-    ensures refused { OnFileRefusal result (ReplayRefusedFor (S.files shelf.old) (names_of command.now) (S.fetch_faults shelf.old) (S.fetch_faults shelf.new) result) }
+    ensures no_usage { OnUsage result (λ _. ⊥) }
+    ensures refused { OnFileRefusal result (ReplayRefusedFor (S.files shelf.old) (run_of run.now) (S.fetch_faults shelf.old) (S.fetch_faults shelf.new) result) }
     ensures files_stay { OnRefusal result (S.files shelf.new ≡ S.files shelf.old) }
     ensures bytes_stay { OnRefusal result (O.written out.new ≡ O.written out.old) }
     ensures write_fault { result ≡ Status.WriteFault → Rose (S.keep_faults shelf.old) (S.keep_faults shelf.new) ⊎ Rose (O.faults out.old) (O.faults out.new) }
-    ensures verdict { OnVerdict result (ReplayLeaves result (names_of command.now) (S.files shelf.old) (S.files shelf.new) (O.written out.old) (O.written out.new)) }
-    ensures part { OnHalt result (ReplayLeavesInPart (names_of command.now) (S.files shelf.old) (S.files shelf.new) (O.written out.old) (O.written out.new)) }
+    ensures verdict { OnVerdict result (ReplayLeaves result (run_of run.now) (S.files shelf.old) (S.files shelf.new) (O.written out.old) (O.written out.new)) }
+    ensures part { OnHalt result (ReplayLeavesInPart (run_of run.now) (S.files shelf.old) (S.files shelf.new) (O.written out.old) (O.written out.new)) }
 {
-    let inputs = match accept_replay(alloc, shelf, command) {
+    let inputs = match accept_replay(alloc, shelf, run) {
         Ok(inputs) => inputs,
         Err(status) => return status,
     };
@@ -134,7 +134,7 @@ pub(crate) fn replay<S: Shelf, O: Sink>(
         Ok(plan) => plan,
         Err(status) => return status,
     };
-    match write_replay(alloc, command, &plan, shelf, out) {
+    match write_replay(alloc, run, &plan, shelf, out) {
         Ok(()) => status_of(plan.verdict),
         Err(Halt::WriteFault) => Status::WriteFault,
         Err(Halt::NoMemory) => Status::NoMemory,

@@ -3,7 +3,7 @@ ghost use Rattle.hex.specs.Hex.{encode_lower};
 ghost use Rattle.serde_json.specs.Data.{object};
 ghost use Rattle.serde_json.specs.View.{view};
 ghost use Rattle.calculus.specs.Faults.{fault_name};
-ghost use Rattle.rho_main.specs.Report.{Report, plain_members, faulted_members, report_members, report_line, step_data};
+ghost use Rattle.rho_main.specs.Report.{Report, plain_members, faulted_members, report_members, report_line, state_members, state_line, step_data};
 
 use calculus::{Digest, FaultKind};
 use run_verdict::Verdict;
@@ -25,6 +25,23 @@ pub(crate) fn report(
     let mut line = value.to_string(alloc)?;
     line.push('\n')?;
     Ok(line.into_bytes())
+}
+
+/// The line that reports a state: compact JSON with its keys in byte order, and a line feed.
+pub(crate) fn state_report(alloc: Global, root: &Digest, rows: u32) -> Result<Vec<u8>, AllocError>
+    ensures { IfOk result (λ line. line.items ≡ state_line root.now.0 rows) }
+{
+    let root = hex::encode(alloc, root.0.as_slice())?;
+    let value = state_value(alloc, root.as_str(), rows)?;
+    let mut line = value.to_string(alloc)?;
+    line.push('\n')?;
+    Ok(line.into_bytes())
+}
+
+fn state_value(alloc: Global, root: &str, rows: u32) -> Result<Value, AllocError>
+    ensures { IfOk result (λ v. view v ≡ object (state_members root.now rows)) }
+{
+    json!(in alloc; {"root": root, "rows": rows})
 }
 
 fn report_value(

@@ -1,8 +1,8 @@
 ghost use Rattle.std.specs.Prelude.{◌≡◌, IfOk, string_bytes};
 ghost use Rattle.rho_main.specs.Message.{code_of, message_of};
 
-use crate::wording::{log_text, price_text, replay_text, source_text};
-use crate::words::Usage;
+use crate::wording::{log_text, price_text, replay_text, source_text, usage_text, verb_name};
+use command_words::{Usage, Verb};
 use event_log::LogFault;
 use log_replay::ReplayFault;
 use phlo_meter::PriceFault;
@@ -25,7 +25,7 @@ pub enum Input {
 pub enum Status {
     /// The verdict is Done.
     Done,
-    /// The words are refused.
+    /// The words are refused. Want of memory is no such fault.
     Usage(Usage),
     /// An input could not be read.
     ReadFault { input: Input },
@@ -43,6 +43,8 @@ pub enum Status {
     Replay(ReplayFault),
     /// An input has a form that is not built yet.
     Unbuilt { input: Input },
+    /// The words ask for a verb that is not built yet.
+    UnbuiltVerb { verb: Verb },
     /// The verdict is Exhausted: the price passed the limit.
     Exhausted,
     /// The verdict is Faulted: the source or a body has a fault.
@@ -87,7 +89,7 @@ impl Status {
             Status::Faulted => 11,
             Status::NoMemory => 12,
             Status::TooLarge { .. } => 13,
-            Status::Unbuilt { .. } => 20,
+            Status::Unbuilt { .. } | Status::UnbuiltVerb { .. } => 20,
         }
     }
 
@@ -103,7 +105,10 @@ impl Status {
     {
         match self {
             Status::Done | Status::Exhausted | Status::Faulted => Ok(String::new(alloc)),
-            Status::Usage(usage) => format!(in alloc; "rho: usage: {usage}"),
+            Status::Usage(fault) => {
+                let fault = usage_text(alloc, fault)?;
+                format!(in alloc; "rho: usage: {fault}")
+            }
             Status::ReadFault { input } => format!(in alloc; "rho: read: ReadFault input={input}"),
             Status::WriteFault => String::from_str(alloc, "rho: write: WriteFault"),
             Status::Source(fault) => {
@@ -126,6 +131,10 @@ impl Status {
                 format!(in alloc; "rho: replay: {fault}")
             }
             Status::Unbuilt { input } => format!(in alloc; "rho: unbuilt: Unbuilt input={input}"),
+            Status::UnbuiltVerb { verb } => {
+                let verb = verb_name(*verb);
+                format!(in alloc; "rho: unbuilt: UnbuiltVerb verb={verb}")
+            }
             Status::NoMemory => String::from_str(alloc, "rho: memory: NoMemory"),
             Status::TooLarge { input, seen, max } => {
                 format!(in alloc; "rho: size: TooLarge input={input} seen={seen} max={max}")

@@ -1,7 +1,8 @@
 ghost use Rattle.std.specs.Prelude.{◌≡◌, IfOk, string_bytes};
-ghost use Rattle.rho_main.specs.Message.{digest_text, digests_text, lex_text, log_text, parse_text, price_text, replay_text, scope_text, source_text};
+ghost use Rattle.rho_main.specs.Message.{digest_text, digests_text, lex_text, log_text, parse_text, price_text, replay_text, scope_text, source_text, usage_text, verb_name};
 
 use calculus::Digest;
+use command_words::{Usage, Verb};
 use event_log::LogFault;
 use log_replay::ReplayFault;
 use phlo_meter::PriceFault;
@@ -10,6 +11,34 @@ use rho_parser::ParseFault;
 use scope_check::ScopeFault;
 use sources::SourceFault;
 use std::alloc::{AllocError, Global};
+
+/// The name and the field of what the words are refused for.
+pub(crate) fn usage_text(alloc: Global, fault: &Usage) -> Result<String, AllocError>
+    ensures { IfOk result (λ text. string_bytes text ≡ usage_text fault.now) }
+{
+    match fault {
+        Usage::BadWords => String::from_str(alloc, "BadWords"),
+        Usage::UnknownVerb { verb } => format!(in alloc; "UnknownVerb verb={verb}"),
+        Usage::Missing { what } => format!(in alloc; "Missing what={what}"),
+        Usage::Surplus { what } => format!(in alloc; "Surplus what={what}"),
+        Usage::BadNumber { what } => format!(in alloc; "BadNumber what={what}"),
+        Usage::SameFile => String::from_str(alloc, "SameFile"),
+        Usage::NoMemory => String::from_str(alloc, "NoMemory"),
+    }
+}
+
+/// The word of a verb.
+pub(crate) fn verb_name(verb: Verb) -> &'static str
+    ensures { result.now ≡ verb_name verb }
+{
+    match verb {
+        Verb::Genesis => "genesis",
+        Verb::Deploy => "deploy",
+        Verb::Replay => "replay",
+        Verb::Inspect => "inspect",
+        Verb::Workload => "workload",
+    }
+}
 
 /// The name and the fields of what a source is refused for.
 pub(crate) fn source_text(alloc: Global, fault: &SourceFault) -> Result<String, AllocError>

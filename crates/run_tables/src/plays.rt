@@ -35,7 +35,15 @@ pub fn play_of(alloc: Global, fields: &str) -> Result<String, LineFault> {
         steps,
         rows,
         output: _,
-    } = play::<ChannelTable>(alloc, &term, &SOURCE, &prices, limit)?;
+    } = play::<ChannelTable>(
+        alloc,
+        Vec::new(alloc),
+        &EMPTY_ROOT,
+        &term,
+        &SOURCE,
+        &prices,
+        limit,
+    )?;
     let (made, left) = (steps.len(), rows.len());
     let header = LogHeader {
         base: EMPTY_ROOT,

@@ -1,16 +1,15 @@
 -- Cases of a closed match: what stands in them is closed and short, and what trying them in order comes to.
-use Rattle.std.proofs.Common.{◌≡◌, ◌≤◌, ◌<◌, ℕ, zero, suc, ◌+◌, ◌-◌, ◌^◌, min, List, [], ◌∷◌, ◌++◌, length, get_or, map, reverse, refl, sym, ap, ◌∙◌, subst, arith, All}
+use Rattle.std.proofs.Common.{◌≡◌, ◌≤◌, ◌<◌, ℕ, ◌+◌, ◌^◌, List, [], ◌∷◌, ◌++◌, length, get_or, map, reverse, refl, sym, ap, ◌∙◌, subst, arith, All}
 use Rattle.std.proofs.lemmas.List.Elements.{All-cons, All-head, All-nil, All-tail}
 use Rattle.std.specs.Prelude.{Option, Some, None, Vec, Result, Ok, Err}
 use Rattle.std.specs.Result.{MatchResult, IfOk}
 use Rattle.std.specs.declared.alloc.Global.{Global}
 use Rattle.list_laws.proofs.Members.{Every}
 use Rattle.calculus.specs.Tree.{par, row, case, match, new, Tree, none, also, trees}
-use Rattle.calculus.specs.Shape.{leaf, one, two, many, only, held, at}
+use Rattle.calculus.specs.Shape.{leaf, one, two, many}
 use Rattle.calculus.specs.Variables.{Sense, bound, binders}
 use Rattle.calculus.specs.Substitution.{put}
 use Rattle.calculus.specs.CodeLaws.{IsShort}
-use Rattle.calculus.specs.Code.{code}
 use Rattle.calculus.specs.Form.{term, part, pat, a_case, all, Fits, Hold, IsClosed}
 use Rattle.calculus.specs.Outcome.{Prices, Answer, gives, Outcome, free, pure, charged, within_limits}
 use Rattle.calculus.specs.Values.{value}

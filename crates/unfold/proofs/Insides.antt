@@ -1,5 +1,5 @@
 -- What a part that is neither a send nor a receive offers: what is unfolded inside it.
-use Rattle.std.proofs.Common.{◌≡◌, ℕ, suc, ◌+◌, ◌*◌, List, [], ◌∷◌, ◌++◌, length, refl, sym, ap, ◌∙◌, add-zero}
+use Rattle.std.proofs.Common.{◌≡◌, ℕ, suc, ◌*◌, List, [], ◌∷◌, ◌++◌, length, refl, sym, ap, ◌∙◌, add-zero}
 use Rattle.std.specs.Prelude.{⊤, Option, Some, None}
 use Rattle.calculus.specs.declared.plain.Origin.{Origin}
 use Rattle.calculus.specs.declared.plain.Origin.TheVariants as origins
@@ -11,10 +11,10 @@ use Rattle.calculus.specs.Seeds.{digest_of, Body}
 use Rattle.calculus.specs.Substitution.{put}
 use Rattle.calculus.specs.Matching.{Bindings, first_match}
 use Rattle.calculus.specs.Values.{value}
-use Rattle.calculus.specs.Unfolding.{Product, rows_of, Unfolder, names_made, fresh_names, unfold_within, unfold_under, fitting, cases_tried, part_unfolded, unfold_part}
+use Rattle.calculus.specs.Unfolding.{Product, rows_of, Unfolder, names_made, fresh_names, unfold_within, fitting, cases_tried, part_unfolded, unfold_part}
 use Rattle.unfold.specs.Progress.{rows_answer, row_work}
 use Rattle.unfold.specs.Inner.{fitting_body, chosen_body, silent, inner_process}
-use Rattle.unfold.proofs.Working.{charged-none, charged-twice, charged-after, after-after, after-alike, pure-after, rows-after}
+use Rattle.unfold.proofs.Working.{charged-none, charged-after, after-after, after-alike, pure-after, rows-after}
 
 -- fresh names are no rows
 no-rows : (t : List ℕ) (k : ℕ) (os : List Origin) (ts : List Product) → rows_of (fresh_names t k os ++ ts) ≡ rows_of ts

@@ -1,24 +1,22 @@
 -- A turn leads from what is left to what is left then.
-use Rattle.std.proofs.Common.{◌≡◌, ◌≤◌, ◌<◌, ℕ, zero, suc, ◌+◌, List, [], ◌∷◌, ◌++◌, refl, sym, ap, ◌∙◌, subst, arith, append_assoc, append-nil}
-use Rattle.std.specs.Prelude.{⊤}
-use Rattle.calculus.specs.declared.fault.FaultKind.{FaultKind}
-use Rattle.calculus.specs.Tree.{par, Tree, node, Trees, trees}
-use Rattle.calculus.specs.Shape.{leaf, many, held, listed}
+use Rattle.std.proofs.Common.{◌≡◌, ◌≤◌, ℕ, suc, ◌+◌, List, [], ◌∷◌, ◌++◌, refl, sym, ap, ◌∙◌, subst, arith, append_assoc, append-nil}
+use Rattle.calculus.specs.Tree.{par, Tree, node}
+use Rattle.calculus.specs.Shape.{leaf, listed}
 use Rattle.calculus.specs.Form.{IsClosed}
 use Rattle.calculus.specs.Normal.{by_code, ascending}
-use Rattle.calculus.specs.Outcome.{Prices, Answer, gives, fails, unknown, Outcome, pure, charged, then_do, after}
+use Rattle.calculus.specs.Outcome.{Prices, gives, Outcome, pure, charged, after}
 use Rattle.calculus.specs.Rows.{Row}
-use Rattle.calculus.specs.Seeds.{digest_of, Body, Split}
-use Rattle.calculus.specs.Unfolding.{Product, a_row, rows_of, Unfolder, unfold_part, parts_unfolded, unfold_in}
+use Rattle.calculus.specs.Seeds.{digest_of, Body}
+use Rattle.calculus.specs.Unfolding.{Product, a_row, Unfolder, unfold_part, parts_unfolded, unfold_in}
 use Rattle.calculus.proofs.Room.{IsKnown, Refines, charged_more, after_more}
 use Rattle.rho_eval.specs.declared.stop.EvalStop.{EvalStop}
 use Rattle.rho_eval.specs.declared.stop.EvalStop.TheVariants.{Fault, Over, NoMemory}
-use Rattle.rho_eval.specs.Outcomes.{Came, Stopped}
+use Rattle.rho_eval.specs.Outcomes.{Stopped}
 use Rattle.rho_eval.proofs.Outcomes.{stopped-first, later}
 use Rattle.rho_eval.proofs.Forms.{ascending-same}
 use Rattle.rho_term.specs.Normal.{IsNormal}
-use Rattle.unfold.specs.Progress.{Pending, pending_from, pending, rows_answer, row_work, left_work, Progress, whole_work, LeadsTo, Advances, StopsWith, Ends, with_part}
-use Rattle.unfold.proofs.Working.{itself, by-equal, further, charged-none, charged-twice, charged-after, after-after, after-alike, after-pure, pure-after, after-given, both, left-append, parts-left, left-more}
+use Rattle.unfold.specs.Progress.{Pending, pending, rows_answer, row_work, left_work, Progress, whole_work, LeadsTo, Advances, StopsWith, Ends, with_part}
+use Rattle.unfold.proofs.Working.{itself, by-equal, further, charged-twice, charged-after, after-after, after-alike, pure-after, after-given, both, left-append, parts-left, left-more}
 
 pub leads-itself : (p : Prices) (a : Progress) → LeadsTo p a a
 leads-itself p a room = (room, itself (whole_work p room a))

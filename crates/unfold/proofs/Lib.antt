@@ -7,3 +7,4 @@ pub mod Cases
 pub mod Names
 pub mod Ready
 pub mod Offering
+pub mod Silent

@@ -1,5 +1,5 @@
 -- Numbers of parts and of names, as far as 32 bits count them.
-use Rattle.std.proofs.Common.{◌≡◌, ◌<◌, ℕ, zero, suc, ◌+◌, ◌%◌, ◌^◌, List, [], ◌∷◌, ◌++◌, length, get_or, drop, refl, sym, ap, ◌∙◌, arith, add-one, drop-cons, append_assoc}
+use Rattle.std.proofs.Common.{◌≡◌, ◌<◌, ℕ, ◌+◌, ◌%◌, ◌^◌, List, [], ◌∷◌, ◌++◌, length, get_or, drop, refl, sym, ap, ◌∙◌, arith, add-one, drop-cons, append_assoc}
 use Rattle.std.specs.Int.{w32, to_be_bytes}
 use Rattle.std.proofs.Math.Nat.{mod-eq_of_lt}
 use Rattle.sha2.specs.Sha256.{sha256}
@@ -8,7 +8,7 @@ use Rattle.calculus.specs.declared.plain.Origin.TheVariants as origins
 use Rattle.calculus.specs.Bytes.{be32}
 use Rattle.calculus.specs.Tree.{fresh, Tree}
 use Rattle.calculus.specs.Shape.{leaf, only}
-use Rattle.calculus.specs.Seeds.{digest_of, Fresh, Split}
+use Rattle.calculus.specs.Seeds.{digest_of, Split}
 use Rattle.calculus.specs.Unfolding.{name_made, names_made}
 
 -- four bytes count a number as far as 32 bits do

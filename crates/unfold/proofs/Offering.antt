@@ -1,5 +1,5 @@
 -- Constituents of closed sends and receives, and their values.
-use Rattle.std.proofs.Common.{◌≡◌, ◌<◌, ℕ, zero, suc, List, [], ◌∷◌, length, map, refl, sym, ap, ◌∙◌, subst, arith, All}
+use Rattle.std.proofs.Common.{◌≡◌, ℕ, suc, List, [], ◌∷◌, length, map, refl, sym, ap, ◌∙◌, subst, All}
 use Rattle.std.proofs.lemmas.List.Elements.{All-cons, All-nil, All-head, All-tail}
 use Rattle.calculus.specs.declared.plain.Kind.{Kind}
 use Rattle.calculus.specs.Tree.{Tree, trees}
@@ -7,7 +7,7 @@ use Rattle.calculus.specs.Shape.{held, at}
 use Rattle.calculus.specs.Variables.{Sense}
 use Rattle.calculus.specs.Form.{a_bind, all, Hold, IsClosed}
 use Rattle.calculus.specs.Outcome.{Prices, Answer, gives, fails, unknown, Outcome, pure, then_do, after, in_order}
-use Rattle.calculus.specs.Unfolding.{Product, opened, receive_offered}
+use Rattle.calculus.specs.Unfolding.{opened, receive_offered}
 use Rattle.calculus.specs.Values.{value}
 use Rattle.rho_eval.specs.Outcomes.{Came}
 use Rattle.rho_eval.proofs.Parts.{operands}

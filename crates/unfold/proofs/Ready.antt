@@ -1,8 +1,8 @@
 -- Parts of a closed process, one by one on the list of what is left.
-use Rattle.std.proofs.Common.{◌≡◌, ◌<◌, ℕ, zero, suc, ◌+◌, ◌%◌, ◌^◌, List, [], ◌∷◌, ◌++◌, length, map, reverse, refl, sym, ap, ◌∙◌, subst, arith, All, length-append}
+use Rattle.std.proofs.Common.{◌≡◌, ℕ, suc, ◌%◌, ◌^◌, List, [], ◌∷◌, ◌++◌, length, map, sym, ap, ◌∙◌, subst, arith, All, length-append}
 use Rattle.std.proofs.lemmas.List.Elements.{All-cons}
-use Rattle.calculus.specs.Tree.{par, Tree, trees}
-use Rattle.calculus.specs.Shape.{many, only, held, listed}
+use Rattle.calculus.specs.Tree.{Tree, trees}
+use Rattle.calculus.specs.Shape.{held}
 use Rattle.calculus.specs.Variables.{Sense}
 use Rattle.calculus.specs.Form.{part, all, Fits, Hold, IsClosed}
 use Rattle.calculus.specs.Seeds.{digest_of, Split}
@@ -33,11 +33,11 @@ part-ready t ps ys x zs s e q c n =
 
 -- a part before those that are there
 pub part-pushed : (s : List ℕ) (ds es : List Todo) (d : Todo) (base : List Pending) (ys : List Part) (x : Part) (done : List Part) (n : ℕ) → in_turn ds ≡ pending_from s (length (ys ++ x ∷ [])) (map part_tree done) ++ base → es ≡ ds ++ d ∷ []
-    → d.part ≡ x → d.seed ≡ digest_of (Split s n) → n ≡ length ys % 2 ^ 32 → in_turn es ≡ pending_from s (length ys) (map part_tree (x ∷ done)) ++ base
+    → d.part ≡ x → digest_of (Split d.under d.number) ≡ digest_of (Split s n) → n ≡ length ys % 2 ^ 32 → in_turn es ≡ pending_from s (length ys) (map part_tree (x ∷ done)) ++ base
 part-pushed s ds es d base ys x done n h e p q w =
     let one : length (ys ++ x ∷ []) ≡ suc (length ys) = omega (arith, length-append ys (x ∷ [])) in
-    let seed : d.seed ≡ digest_of (Split s (length ys)) = q ∙ (ap (λ k. digest_of (Split s k)) w ∙ same-part s (length ys)) in
-    let same : pending_of d ≡ record { part = part_tree x; seed = digest_of (Split s (length ys)) } = ap (λ y. record { part = part_tree y; seed = d.seed }) p ∙ ap (λ k. record { part = part_tree x; seed = k }) seed in
+    let seed : digest_of (Split d.under d.number) ≡ digest_of (Split s (length ys)) = q ∙ (ap (λ k. digest_of (Split s k)) w ∙ same-part s (length ys)) in
+    let same : pending_of d ≡ record { part = part_tree x; seed = digest_of (Split s (length ys)) } = ap (λ y. record { part = part_tree y; seed = digest_of (Split d.under d.number) }) p ∙ ap (λ k. record { part = part_tree x; seed = k }) seed in
     ap in_turn e ∙ (turn-more ds d ∙ (ap (λ ws. pending_of d ∷ ws) (h ∙ ap (λ k. pending_from s k (map part_tree done) ++ base) one)
     ∙ ap (λ (y : Pending). y ∷ (pending_from s (suc (length ys)) (map part_tree done) ++ base)) same))
 

@@ -1,19 +1,19 @@
 -- What one turn makes of what is left.
-use Rattle.std.proofs.Common.{◌≡◌, ◌≤◌, ◌<◌, ℕ, zero, suc, ◌+◌, List, [], ◌∷◌, ◌++◌, length, map as each, reverse, refl, sym, ap, ◌∙◌, subst, arith, append_assoc, append-nil, All}
-use Rattle.std.proofs.lemmas.List.Elements.{All-cons, All-nil, All-head, All-tail, All-append}
+use Rattle.std.proofs.Common.{◌≡◌, ℕ, List, [], ◌∷◌, ◌++◌, length, map as each, reverse, refl, sym, ap, ◌∙◌, subst, arith, All}
+use Rattle.std.proofs.lemmas.List.Elements.{All-head, All-tail}
 use Rattle.std.proofs.lemmas.List.{reverse-append}
-use Rattle.std.specs.Prelude.{Bool, Vec, String}
+use Rattle.std.specs.Prelude.{Bool, Vec}
 use Rattle.std.specs.declared.alloc.Global.{Global}
 use Rattle.calculus.specs.declared.plain.Kind.{Kind}
 use Rattle.calculus.specs.declared.plain.Ground.TheVariants as ground
-use Rattle.calculus.specs.Tree.{par, row, send, receive, Tree, node, Trees, none, also, trees}
-use Rattle.calculus.specs.Shape.{leaf, two, many, only, held, listed, at}
-use Rattle.calculus.specs.Form.{part, all, Fits, Hold, IsClosed}
-use Rattle.calculus.specs.Outcome.{Prices, Outcome, gives, after, in_order}
+use Rattle.calculus.specs.Tree.{row, send, receive, Tree}
+use Rattle.calculus.specs.Shape.{two, many, held, at}
+use Rattle.calculus.specs.Form.{IsClosed}
+use Rattle.calculus.specs.Outcome.{Prices, Outcome, after, in_order}
 use Rattle.calculus.specs.Rows.{Row}
-use Rattle.calculus.specs.Seeds.{digest_of, Body, Split}
-use Rattle.calculus.specs.Values.{value, values}
-use Rattle.calculus.specs.Unfolding.{Product, a_row, Unfolder, unfold_part, opened, send_offered, receive_offered}
+use Rattle.calculus.specs.Seeds.{digest_of, Body}
+use Rattle.calculus.specs.Values.{value}
+use Rattle.calculus.specs.Unfolding.{Product, a_row, unfold_part, opened, send_offered, receive_offered}
 use Rattle.calculus.proofs.Placing.{listed-trees}
 use Rattle.rho_eval.specs.Outcomes.{Came}
 use Rattle.rho_eval.proofs.Forms.{values-each}
@@ -21,13 +21,13 @@ use Rattle.rho_term.specs.declared.op.Op.{Op}
 use Rattle.rho_term.specs.declared.term.Part.{Part}
 use Rattle.rho_term.specs.declared.term.Part.TheVariants as parts
 use Rattle.rho_term.specs.declared.term.TermBind.{TermBind}
-use Rattle.rho_term.specs.Normal.{IsNormal, AreNormal, IsOrdered}
-use Rattle.rho_term.specs.Parts.{part_tree, bind_tree}
+use Rattle.rho_term.specs.Normal.{IsNormal}
+use Rattle.rho_term.specs.Parts.{part_tree}
 use Rattle.rho_term.specs.Rows.{row_of_op}
 use Rattle.unfold.specs.declared.turns.Todo.{Todo}
 use Rattle.unfold.specs.Offers.{send_work, receive_work}
 use Rattle.unfold.specs.Inner.{inner_process}
-use Rattle.unfold.specs.Progress.{Pending, pending_from, pending, IsReady, Progress, LeadsTo, Advances, with_part, pending_of, in_turn}
+use Rattle.unfold.specs.Progress.{Pending, pending, IsReady, LeadsTo, Advances, with_part, pending_of, in_turn}
 use Rattle.unfold.proofs.Insides.{inside-part}
 use Rattle.unfold.proofs.Leading.{IsInside, IsOffered, inner-leads, offer-leads}
 

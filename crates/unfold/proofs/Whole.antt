@@ -1,6 +1,6 @@
 -- What a whole process, and a body under bindings, come to.
-use Rattle.std.proofs.Common.{◌≡◌, ◌≤◌, ◌<◌, ℕ, zero, suc, ◌+◌, Bool, true, false, cond, length, List, [], ◌∷◌, ◌++◌, map as each, refl, sym, ap, ◌∙◌, subst, arith, append-nil}
-use Rattle.std.specs.Prelude.{ltb, Option, Some, None, option_map, Result, Ok, Err}
+use Rattle.std.proofs.Common.{◌≡◌, ◌≤◌, ◌<◌, ℕ, suc, Bool, true, false, cond, length, List, [], map as each, refl, sym, ap, ◌∙◌, subst, arith}
+use Rattle.std.specs.Prelude.{ltb, Option, Some, option_map, Result, Ok, Err}
 use Rattle.std.specs.Result.{MatchResult}
 use Rattle.std.proofs.lemmas.Bool.Decides.{nat_tests}
 use Rattle.calculus.specs.declared.fault.FaultKind.{FaultKind}
@@ -10,7 +10,7 @@ use Rattle.calculus.specs.Size.{height}
 use Rattle.calculus.specs.Code.{code}
 use Rattle.calculus.specs.Form.{IsClosed}
 use Rattle.calculus.specs.Substitution.{put}
-use Rattle.calculus.specs.Outcome.{Prices, Answer, gives, fails, unknown, Outcome, free, charged, after, pure, within_limits, Capped, over, within, known, capped}
+use Rattle.calculus.specs.Outcome.{Prices, Answer, gives, fails, unknown, Outcome, free, after, pure, within_limits, Capped, over, within, known, capped}
 use Rattle.calculus.specs.Rows.{Row}
 use Rattle.calculus.specs.Unfolding.{Product, rows_of, Unfolds, unfold_in, unfold_within, UnfoldsUnder}
 use Rattle.rho_eval.specs.declared.stop.EvalStop.{EvalStop}

@@ -1,10 +1,10 @@
 -- Work one after another, seen as the rows that it offers, and what more room keeps of it.
-use Rattle.std.proofs.Common.{◌≡◌, ◌≤◌, ℕ, zero, suc, ◌+◌, List, [], ◌∷◌, ◌++◌, refl, sym, ap, ◌∙◌, subst, arith, append_assoc, add_assoc, zero-add, add-zero}
+use Rattle.std.proofs.Common.{◌≡◌, ◌≤◌, ℕ, suc, ◌+◌, List, [], ◌∷◌, ◌++◌, refl, sym, ap, ◌∙◌, subst, arith, append_assoc, add_assoc, zero-add, add-zero}
 use Rattle.calculus.specs.Tree.{Tree}
 use Rattle.calculus.specs.Outcome.{Prices, Answer, gives, fails, unknown, Outcome, pure, charged, then_do, after}
 use Rattle.calculus.specs.Rows.{Row}
 use Rattle.calculus.specs.Seeds.{digest_of, Split}
-use Rattle.calculus.specs.Unfolding.{Product, a_row, a_fresh, rows_of, Unfolder, unfold_part, parts_unfolded, unfold_in}
+use Rattle.calculus.specs.Unfolding.{Product, a_row, a_fresh, rows_of, unfold_part, parts_unfolded, unfold_in}
 use Rattle.calculus.proofs.Room.{IsKnown, Refines, after_more, unfold_more, unfold_part_more}
 use Rattle.unfold.specs.Progress.{Pending, pending_from, rows_answer, row_work, left_work}
 

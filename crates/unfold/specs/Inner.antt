@@ -1,6 +1,6 @@
 -- What is unfolded inside a part.
-use Rattle.std.specs.Prelude.{ℕ, ◌*◌, List, [], ◌∷◌, length, Option, Some, None, ⊤}
-use Rattle.calculus.specs.Tree.{par, list, tuple, set, dict, new, match, bundle, unary, binary, method, Tree, node, none, also}
+use Rattle.std.specs.Prelude.{ℕ, Bool, true, false, ◌*◌, List, [], ◌∷◌, length, Option, Some, None, ⊤}
+use Rattle.calculus.specs.Tree.{par, list, tuple, set, dict, send, receive, new, match, bundle, unary, binary, method, Tree, node, none, also}
 use Rattle.calculus.specs.Shape.{leaf, held, listed, at}
 use Rattle.calculus.specs.Substitution.{put}
 use Rattle.calculus.specs.Matching.{Bindings, first_match}
@@ -42,3 +42,15 @@ HoldsNoProcess (node (new os) ts) = ⊥
 HoldsNoProcess (node match ts) = ⊥
 HoldsNoProcess (node (bundle r) ts) = ⊥
 HoldsNoProcess _ = ⊤
+
+-- neither offered nor unfolded: a ground value, a variable or a collection
+abbrev pub is_silent : Tree → Bool
+is_silent (node (send q) ts) = false
+is_silent (node (receive k) ts) = false
+is_silent (node (new os) ts) = false
+is_silent (node match ts) = false
+is_silent (node (bundle r) ts) = false
+is_silent (node (unary o) ts) = false
+is_silent (node (binary o) ts) = false
+is_silent (node (method n) ts) = false
+is_silent _ = true

@@ -86,7 +86,7 @@ with_part w a = record { price = a.price; rows = a.rows; left = w ∷ a.left }
 
 -- a part of the program that is to be unfolded, as that
 abbrev pub pending_of : Todo → Pending
-pending_of d = record { part = part_tree d.part; seed = d.seed }
+pending_of d = record { part = part_tree d.part; seed = digest_of (Split d.under d.number) }
 
 -- the program's list of parts, whose last one is next
 abbrev pub in_turn : List Todo → List Pending

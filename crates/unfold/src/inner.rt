@@ -12,7 +12,7 @@ ghost use Rattle.rho_eval.specs.Outcomes.{Came, Stopped};
 ghost use Rattle.rho_term.specs.Normal.{IsOrdered};
 ghost use Rattle.rho_term.specs.Parts.{case_tree, part_tree};
 ghost use Rattle.rho_term.specs.Sizes.{in_u64, size};
-ghost use Rattle.unfold.specs.Inner.{chosen_body, inner_process, HoldsNoProcess};
+ghost use Rattle.unfold.specs.Inner.{chosen_body, inner_process, is_silent, HoldsNoProcess};
 
 use crate::limits::{add_cost, put_within};
 use name_seed::Seed;
@@ -170,7 +170,7 @@ fn bound_body(
 
 /// The value of an operator or a method. A collection is evaluated, and nothing is unfolded inside it, nor inside what
 /// is left.
-fn value_inside(
+pub(crate) fn value_inside(
     alloc: Global,
     part: &Part,
     prices: &Prices,
@@ -200,5 +200,22 @@ fn value_inside(
             value: Term::nil(alloc),
             price,
         }),
+    }
+}
+
+/// Whether a part is neither offered nor unfolded, so that it needs no seed.
+pub(crate) fn is_silent(part: &Part) -> bool
+    ensures { result ≡ is_silent (part_tree part.now) }
+{
+    match part {
+        Part::Send { .. }
+        | Part::Receive { .. }
+        | Part::New { .. }
+        | Part::Match { .. }
+        | Part::Bundle { .. }
+        | Part::Unary { .. }
+        | Part::Binary { .. }
+        | Part::Method { .. } => false,
+        _ => true,
     }
 }

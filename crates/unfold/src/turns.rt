@@ -1,13 +1,15 @@
 // The list of what is still to be unfolded, part after part.
-ghost use Rattle.std.specs.Prelude.{◌≡◌, ◌≤◌, ◌<◌, ◌-◌, ◌^◌, ◌++◌, All, map, MatchResult, IfOk};
+ghost use Rattle.std.specs.Prelude.{◌≡◌, ◌≤◌, ◌<◌, ◌-◌, ◌^◌, ◌++◌, ℕ, List, true, All, map, MatchResult, IfOk};
 ghost use Rattle.calculus.specs.Form.{IsClosed};
+ghost use Rattle.calculus.specs.Seeds.{digest_of, Split};
 ghost use Rattle.calculus.specs.Shape.{only};
 ghost use Rattle.rho_term.specs.Normal.{IsNormal, IsOrdered};
 ghost use Rattle.rho_term.specs.Parts.{part_tree};
 ghost use Rattle.rho_term.specs.Rows.{row_of_op};
+ghost use Rattle.unfold.specs.Inner.{is_silent};
 ghost use Rattle.unfold.specs.Progress.{pending, IsReady, Advances, StopsWith, Ends, with_part, in_turn, progress};
 
-use crate::inner::inner_process;
+use crate::inner::{inner_process, is_silent, value_inside};
 use crate::offers::{receive_offer, send_offer};
 use name_seed::Seed;
 use price_table::Prices;
@@ -15,11 +17,13 @@ use rho_eval::{EvalStop, Priced};
 use rho_term::{Op, Part, Term};
 use std::alloc::{AllocError, Global};
 
-/// A part that is still to be unfolded, and its seed.
+/// A part that is still to be unfolded, the seed of the process that it is of, and its number there. Its own seed is
+/// made from these where it needs one.
 #[derive(Drop)]
 pub(crate) struct Todo {
     pub part: Part,
-    pub seed: Seed,
+    pub under: Seed,
+    pub number: u32,
 }
 
 /// The price so far, what was offered, and the parts that are left, of which the last one is next.
@@ -30,7 +34,7 @@ pub(crate) struct Work {
     pub left: Vec<Todo>,
 }
 
-/// The parts of a process come next, each with its seed under this one.
+/// The parts of a process come next, each with its number under this seed.
 pub(crate) fn push_parts(left: &mut Vec<Todo>, term: Term, seed: &Seed) -> Result<(), AllocError>
     requires closed { IsClosed term }
     requires ready { All IsReady (in_turn left.old.items) }
@@ -41,14 +45,39 @@ pub(crate) fn push_parts(left: &mut Vec<Todo>, term: Term, seed: &Seed) -> Resul
     let mut parts = term.into_parts();
     while let Some(part) = parts.pop() {
         let number = (parts.len() % 4_294_967_296) as u32;
-        let seed = seed.split(number);
-        left.push(Todo { part, seed })?;
+        left.push(Todo {
+            part,
+            under: *seed,
+            number,
+        })?;
     }
     Ok(())
 }
 
+/// A part that is neither offered nor unfolded, whatever its seed: a collection is evaluated.
+fn silent_turn(
+    alloc: Global,
+    work: &mut Work,
+    part: &Part,
+    prices: &Prices,
+    cap: u64,
+) -> Result<(), EvalStop>
+    requires cap { cap < 2 ^ 64 - 1 }
+    requires price { work.old.price ≤ cap }
+    requires ready { All IsReady (in_turn work.old.left.items) }
+    requires closed { IsClosed (only (part_tree part.now)) }
+    requires ordered { IsOrdered (part_tree part.now) }
+    requires silent { is_silent (part_tree part.now) ≡ true }
+    ensures { (s : List ℕ) → MatchResult result (λ _. Advances prices.now cap (with_part (record { part = part_tree part.now; seed = s }) (progress work.old)) (progress work.new)) (λ e. StopsWith prices.now cap (with_part (record { part = part_tree part.now; seed = s }) (progress work.old)) e) }
+{
+    let price = work.price;
+    let done = value_inside(alloc, part, prices, cap, price)?;
+    work.price = done.price;
+    Ok(())
+}
+
 /// A part with this seed: a send or a receive is offered, and what another part holds comes next.
-fn turn(
+fn seeded_turn(
     alloc: Global,
     work: &mut Work,
     part: Part,
@@ -94,6 +123,31 @@ fn turn(
     }
 }
 
+/// The part with this number of a process with this seed, whose own seed is made only where it is of use.
+fn turn(
+    alloc: Global,
+    work: &mut Work,
+    part: Part,
+    under: &Seed,
+    number: u32,
+    prices: &Prices,
+    cap: u64,
+) -> Result<(), EvalStop>
+    requires cap { cap < 2 ^ 64 - 1 }
+    requires price { work.old.price ≤ cap }
+    requires ready { All IsReady (in_turn work.old.left.items) }
+    requires closed { IsClosed (only (part_tree part)) }
+    requires ordered { IsOrdered (part_tree part) }
+    ensures { MatchResult result (λ _. Advances prices.now cap (with_part (record { part = part_tree part; seed = digest_of (Split under.now number) }) (progress work.old)) (progress work.new)) (λ e. StopsWith prices.now cap (with_part (record { part = part_tree part; seed = digest_of (Split under.now number) }) (progress work.old)) e) }
+{
+    if is_silent(&part) {
+        silent_turn(alloc, work, &part, prices, cap)
+    } else {
+        let seed = under.split(number);
+        seeded_turn(alloc, work, part, &seed, prices, cap)
+    }
+}
+
 /// All that is left, part after part.
 pub(crate) fn finish(
     alloc: Global,
@@ -115,8 +169,12 @@ pub(crate) fn finish(
                 });
             }
             Some(todo) => {
-                let Todo { part, seed } = todo;
-                turn(alloc, &mut work, part, &seed, prices, cap)?;
+                let Todo {
+                    part,
+                    under,
+                    number,
+                } = todo;
+                turn(alloc, &mut work, part, &under, number, prices, cap)?;
             }
         }
     }

@@ -4,5 +4,6 @@ pub mod Bodies
 pub mod Rounds
 pub mod Stepping
 pub mod Advancing
+pub mod Bases
 pub mod Beginnings
 pub mod Closing

@@ -1,3 +1,4 @@
 pub mod Works
 pub mod Making
 pub mod Courses
+pub mod Bases

@@ -2,12 +2,16 @@
 ghost use Rattle.std.specs.Prelude.{◌≡◌, ◌≢◌, ◌≤◌, ◌<◌, ◌+◌, ◌-◌, ◌^◌, ◌++◌, ◌∷◌, ◌⊎◌, ℕ, List, [], None, Some, true, false, map, reverse, length, All, IfOk, OnOk, MatchBool, MatchOption, IsPermutation};
 ghost use Rattle.calculus.specs.Form.{IsClosed};
 ghost use Rattle.calculus.specs.Limits.{most_limit};
+ghost use Rattle.calculus.specs.Root.{root as root_of};
 ghost use Rattle.calculus.specs.Rows.{stdout, stdout_ack};
-ghost use Rattle.calculus.specs.Runs.{deploy_of, done};
+ghost use Rattle.calculus.specs.Runs.{deploy_of, done, Work};
+ghost use Rattle.calculus.specs.Seeds.{digest_of, Start};
 ghost use Rattle.calculus.specs.Steps.{differ, is_one_of};
 ghost use Rattle.calculus.specs.Tree.{Tree};
+ghost use Rattle.calculus.specs.Unfolding.{Unfolds};
 ghost use Rattle.events.specs.Found.{without};
 ghost use Rattle.row_search.specs.Meetings.{IsFound};
+ghost use Rattle.worker_round.specs.Bases.{AllowNoStep};
 ghost use Rattle.worker_round.specs.Courses.{IsAt, IsKept, IsLess, IsNearer, IsOn, IsOver, made, pending_rows};
 ghost use Rattle.calculus.specs.Rows.{Row as StoredRow};
 
@@ -16,7 +20,7 @@ use crate::lines::print_line;
 use crate::work::{rows_of, work_body, work_source};
 use calculus::{Digest, FaultKind};
 use event_log::LogStep;
-use name_seed::{EMPTY_ROOT, Seed};
+use name_seed::Seed;
 use price_table::Prices;
 use rho_term::Term;
 use row_search::{Found, Table, first_step};
@@ -79,19 +83,21 @@ fn put_rows<T: Table>(alloc: Global, table: &mut T, rows: Vec<Row>) -> Result<()
     Ok(())
 }
 
-/// The table of the built-in receivers alone. Want of memory is the one error.
-pub(crate) fn first_table<T: Table>(alloc: Global) -> Result<T, AllocError>
-    ensures rows { IfOk result (λ t. differ (stdout.id ∷ stdout_ack.id ∷ []) ≡ true → IsPermutation (T.rows t) (stdout ∷ stdout_ack ∷ [])) }
+/// The table of these rows and the built-in receivers. Want of memory is the one error.
+pub(crate) fn first_table<T: Table>(alloc: Global, base: Vec<Row>) -> Result<T, AllocError>
+    ensures rows { IfOk result (λ t. differ (stdout.id ∷ stdout_ack.id ∷ map (λ r. r.id) base.items) ≡ true → IsPermutation (T.rows t) (stdout ∷ stdout_ack ∷ base.items)) }
 {
     let mut table = T::new(alloc);
+    put_rows(alloc, &mut table, base)?;
     let receivers = rows_of(alloc, built_ins(alloc)?)?;
     put_rows(alloc, &mut table, receivers)?;
     Ok(table)
 }
 
-/// The course of a source before its first round, from the empty state. Want of memory is the one error.
+/// The course of a source before its first round, from a base with this root. Want of memory is the one error.
 pub(crate) fn first_course(
     alloc: Global,
+    root: &Digest,
     term: &Term,
     source: &Digest,
     prices: &Prices,
@@ -100,9 +106,11 @@ pub(crate) fn first_course(
     requires limit { limit < 2 ^ 64 - 1 }
     requires closed { IsClosed term.now }
     ensures kept { IfOk result (IsKept prices.now.comm limit) }
-    ensures on { IfOk result (λ c. (rows : List StoredRow) → (differ (stdout.id ∷ stdout_ack.id ∷ []) ≡ true → IsPermutation rows (stdout ∷ stdout_ack ∷ [])) → IsOn (deploy_of prices.now limit [] term.now source.now.0) rows c) }
+    ensures unfolds { IfOk result (λ _. (w : Work) × Unfolds prices.now limit term.now (digest_of (Start root.now.0 source.now.0)) w) }
+    ensures on { IfOk result (λ c. (base rows : List StoredRow) → root.now.0 ≡ root_of base → AllowNoStep base
+        → (differ (stdout.id ∷ stdout_ack.id ∷ map (λ r. r.id) base) ≡ true → IsPermutation rows (stdout ∷ stdout_ack ∷ base)) → IsOn (deploy_of prices.now limit base term.now source.now.0) rows c) }
 {
-    let seed = Seed::start(&EMPTY_ROOT, source);
+    let seed = Seed::start(root, source);
     let worked = work_source(alloc, term, &seed, prices, limit)?;
     let mut pending = Vec::new(alloc);
     push_offers(&mut pending, worked.offers)?;
@@ -170,9 +178,9 @@ fn make_step<T: Table>(
     requires found { IsFound (T.rows table.old) operation found }
     ensures kept { IfOk result (λ _. IsKept prices.now.comm limit course.new) }
     ensures more { IfOk result (λ _. course.old.total < course.new.total) }
-    ensures on { (t : Tree) (source : List ℕ)
-        → IsAt (deploy_of prices.now limit [] t source) (T.rows table.old) (operation ∷ pending_rows course.old) (made course.old) course.old.total done course.old.output.items
-        → IfOk result (λ _. IsOn (deploy_of prices.now limit [] t source) (T.rows table.new) course.new) }
+    ensures on { (base : List StoredRow) (t : Tree) (source : List ℕ)
+        → IsAt (deploy_of prices.now limit base t source) (T.rows table.old) (operation ∷ pending_rows course.old) (made course.old) course.old.total done course.old.output.items
+        → IfOk result (λ _. IsOn (deploy_of prices.now limit base t source) (T.rows table.new) course.new) }
 {
     let comm = prices.comm();
     let repeat = repeat_of(course.steps.as_slice(), course.again, &found);
@@ -216,7 +224,7 @@ pub(crate) fn advance<T: Table>(
     ensures more { IfOk result (λ b. b ≡ true → IsLess limit course.old course.new) }
     ensures same { IfOk result (λ b. b ≡ false → (course.new.total ≡ course.old.total) × (length course.new.pending.items ≡ length course.old.pending.items)) }
     ensures over { IfOk result (λ b. b ≡ false → IsOver limit course.new) }
-    ensures on { (t : Tree) (source : List ℕ) → IsOn (deploy_of prices.now limit [] t source) (T.rows table.old) course.old → IfOk result (λ _. IsOn (deploy_of prices.now limit [] t source) (T.rows table.new) course.new) }
+    ensures on { (base : List StoredRow) (t : Tree) (source : List ℕ) → IsOn (deploy_of prices.now limit base t source) (T.rows table.old) course.old → IfOk result (λ _. IsOn (deploy_of prices.now limit base t source) (T.rows table.new) course.new) }
 {
     if !may_go_on(course, limit) {
         return Ok(false);
@@ -245,9 +253,9 @@ fn meet<T: Table>(
     requires kept { IsKept prices.now.comm limit course.old }
     ensures kept { IfOk result (λ _. IsKept prices.now.comm limit course.new) }
     ensures more { IfOk result (λ _. IsNearer limit course.old course.new) }
-    ensures on { (t : Tree) (source : List ℕ)
-        → IsAt (deploy_of prices.now limit [] t source) (T.rows table.old) (operation ∷ pending_rows course.old) (made course.old) course.old.total done course.old.output.items
-        → IfOk result (λ _. IsOn (deploy_of prices.now limit [] t source) (T.rows table.new) course.new) }
+    ensures on { (base : List StoredRow) (t : Tree) (source : List ℕ)
+        → IsAt (deploy_of prices.now limit base t source) (T.rows table.old) (operation ∷ pending_rows course.old) (made course.old) course.old.total done course.old.output.items
+        → IfOk result (λ _. IsOn (deploy_of prices.now limit base t source) (T.rows table.new) course.new) }
 {
     match first_step(alloc, table, &operation)? {
         None => table.put(alloc, operation),

@@ -1,4 +1,4 @@
-use Rattle.std.proofs.Common.{sym, subst, inl, inr}
+use Rattle.std.proofs.Common.{ℕ, sym, ◌∙◌, subst, inl, inr, Vec, Global}
 use Rattle.channel_table.specs.Groups.{HasId}
 use Rattle.channel_table.proofs.Changing.{in-more}
 use Rattle.channel_table.proofs.groups.add_ids.Goals as goal
@@ -11,7 +11,7 @@ loop-key-preserved c =
     record {
       there = λ k m. elim (in-more c.args.keys.now c.loop-key.key-index _ k c.loop-key-test.true m) [
         | inl n ↦ c.in_ok-add_id.ensures.kept k x (i.there k n)
-        | inr e ↦ subst (λ z. HasId new z x) (sym e) c.in_ok-add_id.ensures.there
+        | inr e ↦ subst (λ (z : Vec ℕ Global). HasId new z.items x) (c.key-item.is ∙ sym e) c.in_ok-add_id.ensures.there
       ];
       kept = λ k y h. c.in_ok-add_id.ensures.kept k y (i.kept k y h);
     }

@@ -9,5 +9,5 @@ returns-in-Some-clause-kept c =
     let w = c.swap_remove.new.self in
     let e = sym c.get_mut.ensures.value ∙ ap option_copied_mut c.in-Some.is in
     let u = (c.get_mut.follows.holds w).3 (subst IsSome (sym e) refl) in
-    drops-kept c.args.groups.now.entries (c.get_mut.follows.lender w).entries c.args.key.now c.in-Some.ids.now w c.args.id.now.0 e u.1
+    drops-kept c.args.groups.now.entries (c.get_mut.follows.lender w).entries c.args.key.now.items c.in-Some.ids.now w c.args.id.now.0 e u.1
     (λ y. c.swap_remove.ensures.updates.0 (record { 0 = y })) u.2

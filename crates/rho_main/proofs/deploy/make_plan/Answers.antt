@@ -12,6 +12,7 @@ use Rattle.fresh_digests.specs.Premises.{Collides}
 use Rattle.states.specs.States.{state_text}
 use Rattle.run_verdict.specs.View.{verdict_of}
 use Rattle.worker_round.specs.Courses.{IsRunOf}
+use Rattle.worker_round.proofs.Bases.{from-nothing}
 use Rattle.rho_main.specs.Runs.{printed, Left}
 use Rattle.rho_main.proofs.Running.{left_or_collides, numberable, old_left, silent, takes}
 use Rattle.rho_main.proofs.deploy.make_plan.Goals as goal
@@ -28,7 +29,7 @@ returns c =
     let digest = c.digest.ensures in
     let Says = λ (s : List ℕ). IsRunOf (deploy_of i.prices limit [] i.term s) steps (verdict_of o.verdict) o.cost o.rows.items o.output.items ⊎ Collides (deploy_of i.prices limit [] i.term s) steps in
     let is_bytes : IsBytes c.bytes_digest-source.result.0 = subst IsBytes (sym source) (digest-fits bytes).1 in
-    let played : Says (sha256 bytes) = subst Says source (c.in_ok-verdict.ensures.run (numberable bytes i.term c.requires.source c.requires.short) is_bytes) in
+    let played : Says (sha256 bytes) = subst Says source (from-nothing i.prices limit _ i.term _ _ steps (verdict_of o.verdict) o.cost o.rows.items o.output.items c.new.ensures.items refl (c.in_ok-verdict.ensures.run (numberable bytes i.term c.requires.source c.requires.short) is_bytes)) in
     let none : verdict_of o.verdict ≢ done → o.rows.items ≡ [] = λ n. c.in_ok-verdict.ensures.old (λ e. n (ap verdict_of e)) in
     let Written : List Row → Type 0 = λ rows. (c.in_ok-root.root.0 ≡ root rows) × (c.in_ok-root.next.items ≡ state_text rows) in
     let written : Written o.rows.items = subst Written c.as_slice-2.ensures.value (c.in_ok-root.ensures _ c.in_ok-stored_rows.ensures) in

@@ -1,5 +1,5 @@
 use Rattle.std.proofs.Common.{inr}
-use Rattle.rho_main.specs.Words.{names_of}
+use Rattle.command_words.specs.Answers.{run_of}
 use Rattle.rho_main.specs.Replaying.{ReplayLeaves}
 use Rattle.rho_main.proofs.Leaving.{on_verdict}
 use Rattle.rho_main.proofs.Replays.{stop_refused, replay_leaves_all, replay_leaves_some}
@@ -7,11 +7,11 @@ use Rattle.rho_main.proofs.replay.replay.Goals as goal
 
 pub returns-in-Err-make_replay_plan-clause-refused : goal.returns-in-Err-make_replay_plan-clause-refused
 returns-in-Err-make_replay_plan-clause-refused g c =
-    stop_refused (g.S.Shelf.files c.args.shelf.now) (names_of c.args.command.now) c.in-Ok.inputs c.in-Ok.ensures.term c.in-Ok.ensures.accepted _ _ c.in-Err-make_replay_plan.status c.in-Err-make_replay_plan.ensures.stop
+    stop_refused (g.S.Shelf.files c.args.shelf.now) (run_of c.args.run.now) c.in-Ok.inputs c.in-Ok.ensures.term c.in-Ok.ensures.accepted _ _ c.in-Err-make_replay_plan.status c.in-Err-make_replay_plan.ensures.stop
 
 pub returns-in-Ok-write_replay-clause-verdict : goal.returns-in-Ok-write_replay-clause-verdict
 returns-in-Ok-write_replay-clause-verdict g c =
-    let names = names_of c.args.command.now in
+    let names = run_of c.args.run.now in
     let old = g.S.Shelf.files c.args.shelf.now in
     let new = g.S.Shelf.files c.write_replay.new.shelf in
     let before = g.O.Sink.written c.args.out.now in
@@ -23,7 +23,7 @@ returns-in-Ok-write_replay-clause-verdict g c =
 
 pub returns-in-Err-WriteFault-clause-part : goal.returns-in-Err-WriteFault-clause-part
 returns-in-Err-WriteFault-clause-part g c =
-    let names = names_of c.args.command.now in
+    let names = run_of c.args.run.now in
     let old = g.S.Shelf.files c.args.shelf.now in
     let new = g.S.Shelf.files c.write_replay.new.shelf in
     let before = g.O.Sink.written c.args.out.now in
@@ -33,7 +33,7 @@ returns-in-Err-WriteFault-clause-part g c =
 
 pub returns-clause-part : goal.returns-clause-part
 returns-clause-part g c =
-    let names = names_of c.args.command.now in
+    let names = run_of c.args.run.now in
     let old = g.S.Shelf.files c.args.shelf.now in
     let new = g.S.Shelf.files c.write_replay.new.shelf in
     let before = g.O.Sink.written c.args.out.now in

@@ -1,6 +1,4 @@
 use Rattle.std.proofs.Common.{◌≡◌, ◌<◌, ◌≤◌, ◌+◌, length, get_or, map, drop, subst, sym}
-use Rattle.calculus.specs.Outcome.{Outcome}
-use Rattle.calculus.specs.Tree.{Tree}
 use Rattle.calculus.specs.Values.{value}
 use Rattle.rho_term.specs.declared.term.TermBind.{TermBind}
 use Rattle.rho_eval.proofs.Outcomes.{Leads, leads-next, leads-end, next-of, none-of}

@@ -1,4 +1,4 @@
-use Rattle.std.proofs.Common.{◌≡◌, [], ◌∷◌, map, subst, ℕ, List}
+use Rattle.std.proofs.Common.{[], ◌∷◌, map, subst, ℕ, List}
 use Rattle.std.specs.Result.{MatchResult}
 use Rattle.calculus.specs.Tree.{Tree}
 use Rattle.calculus.specs.Outcome.{in_order}

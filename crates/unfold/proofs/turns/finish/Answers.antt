@@ -1,6 +1,6 @@
 use Rattle.std.proofs.Common.{◌≡◌, length, map, sym, subst, arith}
 use Rattle.rho_term.specs.Rows.{row_of_op}
-use Rattle.unfold.specs.Progress.{Progress, StopsWith, with_part, pending_of, in_turn, progress}
+use Rattle.unfold.specs.Progress.{Progress, StopsWith, with_part, pending_of, progress}
 use Rattle.unfold.proofs.Leading.{leads-itself, leads-ends, leads-stops, advances-further}
 use Rattle.unfold.proofs.Turning.{nothing-in-turn, part-taken, next-ready}
 use Rattle.rho_eval.proofs.Outcomes.{exit}

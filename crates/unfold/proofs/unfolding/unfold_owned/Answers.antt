@@ -1,4 +1,4 @@
-use Rattle.std.proofs.Common.{◌≡◌, ◌++◌, ap, ◌∙◌, append-nil, arith, length}
+use Rattle.std.proofs.Common.{◌≡◌, ◌++◌, ap, ◌∙◌, append-nil}
 use Rattle.unfold.specs.Progress.{pending, in_turn}
 use Rattle.unfold.proofs.Whole.{whole-told}
 use Rattle.unfold.proofs.unfolding.unfold_owned.Goals as goal

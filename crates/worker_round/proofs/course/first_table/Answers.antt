@@ -1,7 +1,7 @@
 use Rattle.std.proofs.Common.{sym, ◌∙◌, subst, All}
 use Rattle.calculus.specs.Storing.{IsStorable}
 use Rattle.storable_row_laws.proofs.Staying.{built_in_receivers_are_storable}
-use Rattle.worker_round.proofs.Beginnings.{two-rows}
+use Rattle.worker_round.proofs.Bases.{table-rows}
 use Rattle.worker_round.proofs.Works.{all-storable}
 use Rattle.worker_round.proofs.course.first_table.Goals as goal
 
@@ -11,5 +11,6 @@ rows_of-requires g c = all-storable c.in_ok-built_ins.field-0.items (subst (All 
 pub returns : goal.returns
 returns g c =
     record {
-      rows = two-rows c.in_ok-receivers.receivers.items (g.T.RowsAtHand.rows c.new-table.result) (g.T.RowsAtHand.rows c.put_rows.new.table) (c.in_ok-receivers.ensures ∙ c.in_ok-built_ins.ensures) c.new-table.ensures c.in_ok-put_rows.ensures;
+      rows = table-rows c.in_ok-receivers.receivers.items c.args.base.items (g.T.RowsAtHand.rows c.new-table.result) (g.T.RowsAtHand.rows c.put_rows.new.table) (g.T.RowsAtHand.rows c.put_rows-2.new.table)
+          (c.in_ok-receivers.ensures ∙ c.in_ok-built_ins.ensures) c.new-table.ensures c.in_ok-put_rows.ensures c.in_ok-put_rows-2.ensures;
     }

@@ -89,6 +89,6 @@ returns-clause-on g c =
     ∙ ap (λ l. without (gone_ids f) (o ∷ []) ++ l) c.in_ok-push_offers.ensures.order in
     let steps : made d ≡ made old ++ step_with f n ∷ [] = ap (map step_of) c.in_ok-push.ensures.items ∙ map-append step_of old.steps.items _ in
     let number : length (made old) ≡ c.len-number.result = length-map old.steps.items step_of ∙ sym (c.len-number.ensures ∙ old.steps.ok.0) in
-    λ t source x. on-step (deploy_of p cap [] t source) rows more o old f c.requires.found n right worked work take d pending steps
+    λ base t source x. on-step (deploy_of p cap base t source) rows more o old f c.requires.found n right worked work take d pending steps
     (ap (λ (m : ℕ). old.total + m + worked.price) c.comm-comm.ensures.price) (fault-at (suc (length (made old))) (Some c.len-number.result) worked.fault c.fault_of-course.result (ap Some number) c.fault_of-course.ensures)
     c.in_ok-print_line.ensures x

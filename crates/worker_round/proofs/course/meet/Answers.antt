@@ -1,4 +1,4 @@
-use Rattle.std.proofs.Common.{[], subst}
+use Rattle.std.proofs.Common.{subst}
 use Rattle.std.specs.Prelude.{MatchOption}
 use Rattle.std.proofs.lemmas.Result.{IfOk-weaker}
 use Rattle.calculus.specs.Runs.{deploy_of}
@@ -11,5 +11,5 @@ returns-in-None-clause-on g c =
     let rows = g.T.RowsAtHand.rows c.args.table.now in
     let o = c.args.operation in
     let lonely : MeetsNothing rows o = subst (λ r. MatchOption r (MeetsNothing rows o) (IsFound rows o)) c.in-None.is c.in_ok-first_step.ensures in
-    λ t source x. IfOk-weaker c.put.result _ _
-    (λ u put. on-put (deploy_of c.args.prices.now c.args.limit [] t source) rows o c.args.course.now c.requires.no_fault lonely (g.T.RowsAtHand.rows c.put.new.self) put x) c.put.ensures
+    λ base t source x. IfOk-weaker c.put.result _ _
+    (λ u put. on-put (deploy_of c.args.prices.now c.args.limit base t source) rows o c.args.course.now c.requires.no_fault lonely (g.T.RowsAtHand.rows c.put.new.self) put x) c.put.ensures

@@ -1,4 +1,4 @@
-use Rattle.std.proofs.Common.{◌≡◌, ℕ, List, ◌∷◌, cond, true, map, sym, ◌∙◌, ap, subst}
+use Rattle.std.proofs.Common.{◌≡◌, ℕ, List, ◌∷◌, cond, true, map, sym, ◌∙◌, ap, subst, Vec, Global}
 use Rattle.std.specs.Prelude.{IsPermutation}
 use Rattle.std.specs.List.{AllByRecursion}
 use Rattle.calculus.specs.Rows.{Row}
@@ -36,8 +36,8 @@ invariant_of-self-2 c =
     let receivers = c.file_id.new.receivers.entries in
     let x = c.id-id.result.0 in
     let f : Filed = record { row = c.args.row; keys = c.in_ok-keys.keys } in
-    let there : (k : List ℕ) → IsIn k f.keys.items → HasId (cond (is_send f.row) sends receivers) k x =
-    λ k m. subst (λ b. HasId (cond b sends receivers) k x) c.is_send-send.ensures.is (c.in_ok-file_id.ensures.there k (subst (λ (l : List (List ℕ)). IsIn k l) (sym c.as_slice.ensures.value) m)) in
+    let there : (k : Vec ℕ Global) → IsIn k f.keys.items → HasId (cond (is_send f.row) sends receivers) k.items x =
+    λ k m. subst (λ b. HasId (cond b sends receivers) k.items x) c.is_send-send.ensures.is (c.in_ok-file_id.ensures.there k (subst (λ (l : List (Vec ℕ Global)). IsIn k l) (sym c.as_slice.ensures.value) m)) in
     record {
       ordered = c.insert.ensures.ordered;
       filed = subst (AllByRecursion (IsFiled sends receivers)) (sym c.in_ok-insert.ensures.entries)

@@ -1,7 +1,5 @@
-use Rattle.std.proofs.Common.{◌≡◌, map, ap, ◌∙◌, sym, subst, ◌++◌}
-use Rattle.calculus.specs.Seeds.{digest_of, Body}
+use Rattle.std.proofs.Common.{map, ap, ◌∙◌, ◌++◌}
 use Rattle.rho_eval.proofs.Outcomes.{exit}
-use Rattle.rho_eval.specs.Outcomes.{Came, Stopped}
 use Rattle.rho_term.specs.Parts.{part_tree, bind_tree}
 use Rattle.rho_term.specs.Rows.{row_of_op}
 use Rattle.unfold.specs.Inner.{inner_process}
@@ -9,7 +7,7 @@ use Rattle.unfold.specs.Offers.{send_work, receive_work}
 use Rattle.unfold.specs.Progress.{Pending, pending, in_turn}
 use Rattle.unfold.proofs.Leading.{offer-stops, inner-stops}
 use Rattle.unfold.proofs.Turning.{send-offered, receive-offered, inside, offer-advances, inner-advances}
-use Rattle.unfold.proofs.turns.turn.Goals as goal
+use Rattle.unfold.proofs.turns.seeded_turn.Goals as goal
 
 pub returns-in_err-done-in-Send : goal.returns-in_err-done-in-Send
 returns-in_err-done-in-Send c =
