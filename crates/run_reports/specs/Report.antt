@@ -6,8 +6,6 @@ use Rattle.hex.specs.Hex.{encode_lower}
 use Rattle.calculus.specs.Faults.{fault_name}
 use Rattle.run_verdict.specs.declared.verdict.Verdict.{Verdict}
 use Rattle.run_verdict.specs.declared.verdict.Verdict.TheVariants.{Done, Exhausted, Faulted}
-use Rattle.rho_main.specs.declared.status.Status.{Status}
-use Rattle.rho_main.specs.declared.status.Status.TheVariants as status
 
 -- what a report says: the verdict, the cost, the root of the state that is kept and the number of steps
 pub record Report : Type 0 where
@@ -58,9 +56,3 @@ state_members root rows =
 -- the line of a report on a state with this root and so many rows
 abbrev pub state_line : List ℕ → ℕ → List ℕ
 state_line root rows = compact_text (object (state_members (encode_lower root) rows)) ++ 10 ∷ []
-
--- the status that a verdict gives
-abbrev pub status_of : Verdict → Status
-status_of Done = status.Done
-status_of Exhausted = status.Exhausted
-status_of (Faulted step kind) = status.Faulted

@@ -3,7 +3,7 @@ ghost use Rattle.hex.specs.Hex.{encode_lower};
 ghost use Rattle.serde_json.specs.Data.{object};
 ghost use Rattle.serde_json.specs.View.{view};
 ghost use Rattle.calculus.specs.Faults.{fault_name};
-ghost use Rattle.rho_main.specs.Report.{Report, plain_members, faulted_members, report_members, report_line, state_members, state_line, step_data};
+ghost use Rattle.run_reports.specs.Report.{Report, plain_members, faulted_members, report_members, report_line, state_members, state_line, step_data};
 
 use calculus::{Digest, FaultKind};
 use run_verdict::Verdict;
@@ -11,7 +11,7 @@ use serde_json::{Value, json};
 use std::alloc::{AllocError, Global};
 
 /// The line that reports a run: compact JSON with its keys in byte order, and a line feed.
-pub(crate) fn report(
+pub fn report(
     alloc: Global,
     verdict: Verdict,
     cost: u64,
@@ -28,7 +28,7 @@ pub(crate) fn report(
 }
 
 /// The line that reports a state: compact JSON with its keys in byte order, and a line feed.
-pub(crate) fn state_report(alloc: Global, root: &Digest, rows: u32) -> Result<Vec<u8>, AllocError>
+pub fn state_report(alloc: Global, root: &Digest, rows: u32) -> Result<Vec<u8>, AllocError>
     ensures { IfOk result (λ line. line.items ≡ state_line root.now.0 rows) }
 {
     let root = hex::encode(alloc, root.0.as_slice())?;
