@@ -1,4 +1,4 @@
-//! Names, stores and the edge of the system, by calls that no text spells. The crate has tests alone.
+//! Names, made terms and the edge of the system, by calls that no text spells. The crate has tests alone.
 #![tactic(auto)]
 
 #[cfg(test)]
@@ -7,5 +7,3 @@ mod made_terms;
 mod names;
 #[cfg(test)]
 mod outside;
-#[cfg(test)]
-mod stores;

@@ -6,13 +6,15 @@ use Rattle.rho_outside.specs.FileMap.{FileMap}
 use Rattle.rho_outside.specs.Put.{GrewBy}
 use Rattle.rho_outside.specs.Kept.{with_files}
 use Rattle.command_words.specs.Commands.{RunRequest}
-use Rattle.rho_main.specs.Report.{status_of}
-use Rattle.rho_main.specs.Ends.{OnVerdict, LeavesAll, LeavesSome, StopsOnTheWay, header_of, entries_of, bytes_of}
-use Rattle.rho_main.specs.Inputs.{Task}
+use Rattle.run_inputs.specs.Inputs.{Task}
+use Rattle.run_reports.specs.Stops.{StopsOnTheWay}
+use Rattle.run_status.specs.Endings.{OnVerdict, status_of}
+use Rattle.run_status.specs.declared.status.Status.{Status}
+use Rattle.run_status.specs.declared.status.Status.TheVariants.{Done, Usage, ReadFault, WriteFault, Source, Prices, Limit, Log, Replay, Unbuilt, UnbuiltVerb, Exhausted, Faulted, NoMemory, TooLarge}
+use Rattle.rho_main.specs.Runs.{header_of}
+use Rattle.rho_main.specs.Ends.{LeavesAll, LeavesSome, entries_of, bytes_of}
 use Rattle.rho_main.specs.Plan.{IsPlan}
 use Rattle.rho_main.specs.declared.deploy.Plan.{Plan}
-use Rattle.rho_main.specs.declared.status.Status.{Status}
-use Rattle.rho_main.specs.declared.status.Status.TheVariants.{Done, Usage, ReadFault, WriteFault, Source, Prices, Limit, Log, Replay, Unbuilt, UnbuiltVerb, Exhausted, Faulted, NoMemory, TooLarge}
 
 -- what holds anyhow holds where a run ended with a verdict
 pub on_verdict : (s : Status) (P : Type 0) → P → OnVerdict s P
@@ -41,10 +43,10 @@ abbrev planned : RunRequest → Plan → List (List ℕ × List ℕ)
 planned names p = (names.log, p.log.items) ∷ (names.next, p.next.items) ∷ []
 
 -- they are those of what is left
-same-entries : (names : RunRequest) (limit : ℕ) (task : Task) (p : Plan) (plan : IsPlan limit task p) → planned names p ≡ entries_of names limit task plan.left
+same-entries : (names : RunRequest) (limit : ℕ) (task : Task) (p : Plan) (plan : IsPlan limit task p) → planned names p ≡ entries_of names plan.rows task limit plan.left
 same-entries names limit task p plan =
     ap (λ (l : List ℕ). (names.log, l) ∷ (names.next, p.next.items) ∷ []) plan.log
-    ∙ ap (λ (n : List ℕ). (names.log, log_text (header_of limit task) plan.left.steps) ∷ (names.next, n) ∷ []) plan.next
+    ∙ ap (λ (n : List ℕ). (names.log, log_text (header_of plan.rows task limit) plan.left.steps) ∷ (names.next, n) ∷ []) plan.next
 
 -- a plan that was written is all that a deploy leaves
 pub leaves_all : (s : Status) (names : RunRequest) (limit : ℕ) (task : Task) (p : Plan) (old mid new : Option FileMap) (before after : Option (List ℕ))
@@ -52,8 +54,9 @@ pub leaves_all : (s : Status) (names : RunRequest) (limit : ℕ) (task : Task) (
     → new ≡ with_files ((names.log, p.log.items) ∷ (names.next, p.next.items) ∷ []) mid → GrewBy p.bytes.items before after
     → LeavesAll s names limit old new before after task
 leaves_all s names limit task p old mid new before after plan e same kept put =
-    let files : new ≡ with_files (entries_of names limit task plan.left) old = kept ∙ (ap (λ es. with_files es mid) (same-entries names limit task p plan) ∙ ap (with_files (entries_of names limit task plan.left)) same) in
-    (plan.left, (record { run = plan.run; verdict = e ∙ ap status_of plan.verdict }, (files, subst (λ (l : List ℕ). GrewBy l before after) plan.bytes put)))
+    let entries = entries_of names plan.rows task limit plan.left in
+    let files : new ≡ with_files entries old = kept ∙ (ap (λ es. with_files es mid) (same-entries names limit task p plan) ∙ ap (with_files entries) same) in
+    (plan.rows, (plan.left, (record { run = plan.run; verdict = e ∙ ap status_of plan.verdict }, (files, subst (λ (l : List ℕ). GrewBy l before after) plan.bytes put))))
 
 -- a plan that was written in part is some of what a deploy leaves
 pub leaves_some : (names : RunRequest) (limit : ℕ) (task : Task) (p : Plan) (old mid new : Option FileMap) (faults_old faults_mid faults_new : ℕ) (before after : Option (List ℕ))
@@ -62,7 +65,7 @@ pub leaves_some : (names : RunRequest) (limit : ℕ) (task : Task) (p : Plan) (o
     → LeavesSome names limit old new faults_old faults_new before after task
 leaves_some names limit task p old mid new f g h before after plan same count stops =
     let F = λ (es : List (List ℕ × List ℕ)) (bytes : List ℕ) (m : Option FileMap) (k : ℕ). StopsOnTheWay es bytes m new k h before after in
-    let entries = entries_of names limit task plan.left in
+    let entries = entries_of names plan.rows task limit plan.left in
     let all : F entries (bytes_of plan.left) old f =
     subst (F entries (bytes_of plan.left) old) count (subst (λ m. F entries (bytes_of plan.left) m g) same (subst (λ b. F entries b mid g) plan.bytes (subst (λ es. F es p.bytes.items mid g) (same-entries names limit task p plan) stops))) in
-    (plan.left, (plan.run, all))
+    (plan.rows, (plan.left, (plan.run, all)))

@@ -1,6 +1,6 @@
 pub mod Leaving
-pub mod Sourcing
+pub mod Ending
 pub mod Running
-pub mod Pricing
-pub mod Listing
 pub mod Replays
+pub mod Answering
+pub mod ReplayEnding

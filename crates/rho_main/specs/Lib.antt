@@ -1,14 +1,10 @@
 pub mod Words
-pub mod Message
+pub mod World
 pub mod Runs
-pub mod Inputs
-pub mod Runnable
-pub mod Refused
-pub mod Report
 pub mod Ends
+pub mod Deploys
 pub mod Genesis
-pub mod Halts
 pub mod Plan
 pub mod Replaying
-pub mod Given
 pub mod ReplayPlans
+pub mod Replays

@@ -1,145 +1,129 @@
--- What a replay makes of the files that it is given, when it refuses them, and what it leaves.
-use Rattle.std.specs.Prelude.{◌≡◌, ◌≢◌, ◌⊎◌, ℕ, ◌<◌, List, [], ◌∷◌, length, Result, Ok, Err, IsOk, IsOkAnd, Option, Some, None, ⊤}
+-- The answer to a log, and what its replay leaves.
+use Rattle.std.specs.Prelude.{◌≡◌, ◌≢◌, ◌⊎◌, ℕ, List, [], ◌∷◌, length, Ok, IsOkAnd, Option, Some, None, ⊤}
 use Rattle.sha2.specs.Sha256.{sha256}
 use Rattle.calculus.specs.Tree.{Tree}
 use Rattle.calculus.specs.Log.{Header, Step}
-use Rattle.calculus.specs.Outcome.{Prices as PriceTable}
 use Rattle.calculus.specs.Root.{root}
+use Rattle.calculus.specs.Rows.{Row}
+use Rattle.calculus.specs.Runs.{Verdict, done, exhausted, faulted}
 use Rattle.states.specs.States.{state_text}
-use Rattle.replays.specs.Replays.{Outcome, refused, replayed, header_refusal, Answers}
+use Rattle.replays.specs.Replays.{Given, Outcome, Answer, refused, replayed, header_refusal, deploy_under, Answers}
 use Rattle.event_log.specs.Reading.{log_of}
-use Rattle.event_log.specs.declared.fault.LogFault.{LogFault}
 use Rattle.sources.specs.Sources.{IsSourceOf}
-use Rattle.events.specs.Events.{FreshDigests}
-use Rattle.linear_replays.specs.Replayed.{from_nothing}
 use Rattle.run_verdict.specs.View.{verdict_of}
-use Rattle.log_replay.specs.Refusals.{refusal_of}
-use Rattle.log_replay.specs.declared.fault.ReplayFault.{ReplayFault}
-use Rattle.rho_outside.specs.FileMap.{FileMap, Lacks, GivesAtLeast}
-use Rattle.rho_outside.specs.Causes.{Rose}
+use Rattle.run_verdict.specs.declared.verdict.Verdict.TheVariants as ending
+use Rattle.replay_faults.specs.Refusals.{refusal_of}
+use Rattle.ordered_replay.specs.Answers.{Clashes}
+use Rattle.ordered_replay.specs.Bases.{asked}
+use Rattle.rho_outside.specs.FileMap.{FileMap}
 use Rattle.rho_outside.specs.Told.{Told}
-use Rattle.rho_outside.specs.Put.{GrewBy, GrewByPart}
-use Rattle.rho_outside.specs.Kept.{with_files, PartSet}
+use Rattle.rho_outside.specs.Put.{GrewBy}
+use Rattle.rho_outside.specs.Kept.{with_files}
 use Rattle.command_words.specs.Commands.{RunRequest}
-use Rattle.rho_main.specs.Inputs.{Refusal, unbuilt, too_large, ◌>>=◌, given, with_prices, Task, name_of, size_limit, accepted_state, accepted_prices, empty_state}
-use Rattle.rho_main.specs.Runnable.{IsRunnable, IsUnbuilt}
-use Rattle.rho_main.specs.Refused.{IsFaultOf, IsPriceFault}
-use Rattle.rho_main.specs.Report.{Report, report_line, status_of}
-use Rattle.rho_main.specs.declared.status.Input.{Input}
-use Rattle.rho_main.specs.declared.status.Input.TheVariants.{State, Prices, Source, Log}
-use Rattle.rho_main.specs.declared.status.Status.{Status}
-use Rattle.rho_main.specs.declared.status.Status.TheVariants as status
+use Rattle.run_inputs.specs.Inputs.{Task, accepted_log}
+use Rattle.run_inputs.specs.Runnable.{IsStateOf}
+use Rattle.run_reports.specs.Stops.{StopsOnTheWay}
+use Rattle.run_status.specs.Endings.{status_of}
+use Rattle.run_status.specs.declared.status.Status.{Status}
+use Rattle.run_status.specs.declared.status.Status.TheVariants as status
+use Rattle.rho_main.specs.Runs.{Left}
+use Rattle.rho_main.specs.Ends.{bytes_of}
 
--- the state, the prices and the source's bytes, or the first refusal
-abbrev pub accepted_source : RunRequest → FileMap → Result Task Refusal
-accepted_source names files = accepted_prices names files >>= (λ prices. with_prices prices (given names files Source))
+-- what is given to the replay of a log: the rows of the state, the process, the digest of the source and the prices
+abbrev pub given_in : List Row → Task → Tree → Given
+given_in rows task t = asked rows t (sha256 task.source) task.prices
 
--- these and then the log's bytes: what is to be run, and the bytes of the log
-abbrev pub accepted_log : RunRequest → FileMap → Result (Task × List ℕ) Refusal
-accepted_log names files = accepted_source names files >>= (λ task. given names files Log >>= (λ log. Ok (task, log)))
-
--- each told input before this one was accepted
-abbrev pub ReplayReaches : Option FileMap → RunRequest → Input → Type 0
-ReplayReaches told names State = ⊤
-ReplayReaches told names Prices = Told told (λ files. IsOk (accepted_state names files))
-ReplayReaches told names Source = Told told (λ files. IsOk (accepted_prices names files))
-ReplayReaches told names Log = Told told (λ files. IsOkAnd (accepted_source names files) (λ task. IsRunnable task.source))
-
--- this is the first refusal of the files
-abbrev pub IsRefusal : RunRequest → FileMap → Refusal → Type 0
-IsRefusal names files r = (accepted_source names files ≡ Err r) ⊎ (IsOkAnd (accepted_source names files) (λ task. IsRunnable task.source) × (accepted_log names files ≡ Err r))
-
--- a source and a log: the log has this header and these steps
-pub record IsLogOf (inputs : Task × List ℕ) (t : Tree) (header : Header) (steps : List Step) : Type 0 where
+-- these inputs are read as this: the rows of the state, the process of the source, and the header and the steps of the log
+pub record AreReadAs (inputs : Task × List ℕ) (rows : List Row) (t : Tree) (header : Header) (steps : List Step) : Type 0 where
+  pub state : IsStateOf inputs.0.state rows
   pub spelt : IsSourceOf inputs.0.source t
-  pub read : log_of inputs.1 ≡ Ok (header, steps)
+  pub log : log_of inputs.1 ≡ Ok (header, steps)
 
--- why a log is refused: its header is wrong, or, where the digests that are made are fresh, this is the answer to its replay
-pub record IsReplayRefused (f : ReplayFault) (inputs : Task × List ℕ) : Type 0 where
+-- this is the answer to the log of these inputs
+pub record IsAnswerTo (inputs : Task × List ℕ) (answer : Answer) : Type 0 where
+  pub rows : List Row
   pub process : Tree
   pub header : Header
   pub steps : List Step
-  pub log : IsLogOf inputs process header steps
-  pub refusal : _
-  pub is : refusal_of f ≡ Some refusal
-  pub answer : (header_refusal (from_nothing inputs.0.prices process (sha256 inputs.0.source)) header ≡ Some refusal)
-      ⊎ ((header_refusal (from_nothing inputs.0.prices process (sha256 inputs.0.source)) header ≡ None) × (FreshDigests inputs.0.prices header.limit process (sha256 inputs.0.source) steps → Answers (from_nothing inputs.0.prices process (sha256 inputs.0.source)) header steps (refused refusal)))
+  pub read : AreReadAs inputs rows process header steps
+  pub is : Answers (given_in rows inputs.0 process) header steps answer
 
--- why a source is refused, or is not replayed yet
-abbrev pub ReplayCause : List ℕ → Status → Type 0
-ReplayCause source (status.Source f) = IsFaultOf f source
-ReplayCause source (status.Unbuilt i) = (i ≡ Source) × IsUnbuilt source
-ReplayCause source status.NoMemory = ⊤
-ReplayCause source _ = ⊥
-
--- the bytes of a log are refused so, after a source that runs
-abbrev pub IsLogFault : LogFault → Task × List ℕ → Type 0
-IsLogFault f inputs = IsRunnable inputs.0.source × (log_of inputs.1 ≡ Err f)
-
--- why a replay refuses its files, from the counts of failed fetches before and after
-abbrev pub ReplayRefusedFor : Option FileMap → RunRequest → ℕ → ℕ → Status → Type 0
-ReplayRefusedFor told names before now (status.ReadFault input) = (Rose before now ⊎ Lacks told (name_of names input)) × ReplayReaches told names input
-ReplayRefusedFor told names before now (status.TooLarge input seen max) = (max ≡ size_limit input) × ((max < seen) × (GivesAtLeast told (name_of names input) seen × Told told (λ files. IsRefusal names files (too_large input))))
-ReplayRefusedFor told names before now (status.Unbuilt Source) = Told told (λ files. IsOkAnd (accepted_source names files) (λ task. IsUnbuilt task.source))
-ReplayRefusedFor told names before now (status.Unbuilt input) = Told told (λ files. IsRefusal names files (unbuilt input))
-ReplayRefusedFor told names before now (status.Prices f) = Told told (λ files. (r : Refusal) × (IsPriceFault f r × IsRefusal names files r))
-ReplayRefusedFor told names before now (status.Source f) = Told told (λ files. IsOkAnd (accepted_source names files) (λ task. IsFaultOf f task.source))
-ReplayRefusedFor told names before now (status.Log f) = Told told (λ files. IsOkAnd (accepted_log names files) (IsLogFault f))
-ReplayRefusedFor told names before now (status.Replay f) = Told told (λ files. IsOkAnd (accepted_log names files) (IsReplayRefused f))
-ReplayRefusedFor told names before now status.NoMemory = ⊤
-ReplayRefusedFor told names before now _ = ⊥
-
--- what a replay leaves: the steps of its log, the next state's bytes and a report
-pub record ReplayLeft : Type 0 where
+-- the header of their log is right, and digests clash along a legal beginning of its steps
+pub record HasClash (inputs : Task × List ℕ) : Type 0 where
+  pub rows : List Row
+  pub process : Tree
+  pub header : Header
   pub steps : List Step
-  pub next : List ℕ
-  pub report : Report
+  pub read : AreReadAs inputs rows process header steps
+  pub right : header_refusal (given_in rows inputs.0 process) header ≡ None
+  pub clash : Clashes (deploy_under header.limit (given_in rows inputs.0 process)) steps
 
--- a status is no refusal of a limit
-abbrev pub IsNoLimit : Status → Type 0
-IsNoLimit (status.Limit limit most) = ⊥
-IsNoLimit _ = ⊤
+-- the status that a verdict of the calculus gives
+abbrev pub status_for : Verdict → Status
+status_for done = status.Done
+status_for exhausted = status.Exhausted
+status_for (faulted step kind) = status.Faulted
 
--- what is left is what a run that was replayed came to: its verdict, its cost and the root of the rows that it leaves, whose text is the next state; it printed nothing
-pub record IsOutcomeLeft (prices : PriceTable) (process : Tree) (source : List ℕ) (header : Header) (left : ReplayLeft) : Type 0 where
-  pub outcome : Outcome
-  pub answer : Answers (from_nothing prices process source) header left.steps (replayed outcome)
+-- a status says this answer: its refusal, or its verdict; a failed write may stand in the place of a verdict
+abbrev pub SaysAnswer : Answer → Status → Type 0
+SaysAnswer (refused r) (status.Replay f) = refusal_of f ≡ Some r
+SaysAnswer (refused r) _ = ⊥
+SaysAnswer (replayed o) status.WriteFault = ⊤
+SaysAnswer (replayed o) s = s ≡ status_for o.verdict
+
+-- the answer to the log of these inputs is one that a status says, or digests clash
+abbrev pub IsSettled : Status → Task × List ℕ → Type 0
+IsSettled s inputs = ((answer : Answer) × (SaysAnswer answer s × IsAnswerTo inputs answer)) ⊎ HasClash inputs
+
+-- what is left is what a replayed run came to: its verdict, its cost, the root of the rows that it leaves, whose text is the next state, and its output
+pub record IsLeftByOutcome (outcome : Outcome) (left : Left) : Type 0 where
   pub verdict_is : verdict_of left.report.verdict ≡ outcome.verdict
   pub cost_is : left.report.cost ≡ outcome.cost
   pub root_is : left.report.root ≡ root outcome.rows
   pub next_is : left.next ≡ state_text outcome.rows
-  pub output_is : outcome.output ≡ []
+  pub output_is : left.output ≡ outcome.output
 
--- what is left is what a log's replay came to: its header is right, and the answer to its replay is this, where the digests that are made are fresh
-pub record IsLeftByReplay (inputs : Task × List ℕ) (left : ReplayLeft) : Type 0 where
+-- what is left is what the answer to a log came to, or digests clash
+abbrev pub IsLeftByAnswer : Given → Header → Left → Type 0
+IsLeftByAnswer given header left = ((outcome : Outcome) × (Answers given header left.steps (replayed outcome) × IsLeftByOutcome outcome left))
+    ⊎ Clashes (deploy_under header.limit given) left.steps
+
+-- what is left is what the replay of the log of these inputs came to: its header is right, and what is left is what its answer came to, or digests clash. In either case the report counts the log's steps, and with another verdict than done the next state is the old one and nothing is printed
+pub record IsLeftByReplay (inputs : Task × List ℕ) (left : Left) : Type 0 where
+  pub rows : List Row
   pub process : Tree
   pub header : Header
-  pub log : IsLogOf inputs process header left.steps
-  pub right : header_refusal (from_nothing inputs.0.prices process (sha256 inputs.0.source)) header ≡ None
-  pub answer : FreshDigests inputs.0.prices header.limit process (sha256 inputs.0.source) left.steps → IsOutcomeLeft inputs.0.prices process (sha256 inputs.0.source) header left
+  pub read : AreReadAs inputs rows process header left.steps
+  pub right : header_refusal (given_in rows inputs.0 process) header ≡ None
+  pub answer : IsLeftByAnswer (given_in rows inputs.0 process) header left
+  pub steps : left.report.steps ≡ length left.steps
+  pub old : left.report.verdict ≢ ending.Done → left.next ≡ inputs.0.state
+  pub silent : left.report.verdict ≢ ending.Done → left.output ≡ []
 
--- a status says the verdict of what was left, with another verdict than Done the next state is the old one, and the report counts the log's steps
-pub record IsReplayedBy (s : Status) (inputs : Task × List ℕ) (left : ReplayLeft) : Type 0 where
+-- the file that is kept
+abbrev pub replay_entries : RunRequest → Left → List (List ℕ × List ℕ)
+replay_entries names left = (names.next, left.next) ∷ []
+
+-- what was left is what the replay came to, and a status says its verdict
+pub record IsReplayedBy (s : Status) (inputs : Task × List ℕ) (left : Left) : Type 0 where
   pub replay : IsLeftByReplay inputs left
   pub verdict : s ≡ status_of left.report.verdict
-  pub old : s ≢ status.Done → left.next ≡ empty_state
-  pub steps : left.report.steps ≡ length left.steps
 
--- the files and bytes are those that a replay leaves which ended with this status
+-- the files and bytes are those that a replay leaves which ended with this status: the entry was set, and all bytes were put
 abbrev pub ReplayLeavesAll : Status → RunRequest → Option FileMap → Option FileMap → Option (List ℕ) → Option (List ℕ) → Task × List ℕ → Type 0
-ReplayLeavesAll s names old new before after inputs = (left : ReplayLeft)
-    × (IsReplayedBy s inputs left × ((new ≡ with_files ((names.next, left.next) ∷ []) old) × GrewBy (report_line left.report) before after))
+ReplayLeavesAll s names old new before after inputs = (left : Left)
+    × (IsReplayedBy s inputs left × ((new ≡ with_files (replay_entries names left) old) × GrewBy (bytes_of left) before after))
 
 -- the files and bytes are those that a replay leaves which stopped on its way
-abbrev pub ReplayLeavesSome : RunRequest → Option FileMap → Option FileMap → Option (List ℕ) → Option (List ℕ) → Task × List ℕ → Type 0
-ReplayLeavesSome names old new before after inputs = (left : ReplayLeft)
-    × (IsLeftByReplay inputs left × (PartSet ((names.next, left.next) ∷ []) old new × GrewByPart (report_line left.report) before after))
+abbrev pub ReplayLeavesSome : RunRequest → Option FileMap → Option FileMap → ℕ → ℕ → Option (List ℕ) → Option (List ℕ) → Task × List ℕ → Type 0
+ReplayLeavesSome names old new faults_before faults_after before after inputs = (left : Left)
+    × (IsLeftByReplay inputs left × StopsOnTheWay (replay_entries names left) (bytes_of left) old new faults_before faults_after before after)
 
 -- where files are told, they are accepted, and what is left is all that a replay leaves
 abbrev pub ReplayLeaves : Status → RunRequest → Option FileMap → Option FileMap → Option (List ℕ) → Option (List ℕ) → Type 0
 ReplayLeaves s names old new before after = Told old (λ files. IsOkAnd (accepted_log names files) (ReplayLeavesAll s names old new before after))
 
 -- where files are told, all is as it was, or they are accepted and some of what a replay leaves is there
-abbrev pub ReplayLeavesInPart : RunRequest → Option FileMap → Option FileMap → Option (List ℕ) → Option (List ℕ) → Type 0
-ReplayLeavesInPart names old new before after = Told old (λ files.
-    ((new ≡ old) × (after ≡ before)) ⊎ IsOkAnd (accepted_log names files) (ReplayLeavesSome names old new before after))
+abbrev pub ReplayLeavesInPart : RunRequest → Option FileMap → Option FileMap → ℕ → ℕ → Option (List ℕ) → Option (List ℕ) → Type 0
+ReplayLeavesInPart names old new faults_before faults_after before after = Told old (λ files.
+    ((new ≡ old) × (after ≡ before)) ⊎ IsOkAnd (accepted_log names files) (ReplayLeavesSome names old new faults_before faults_after before after))

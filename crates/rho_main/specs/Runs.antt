@@ -1,18 +1,22 @@
--- What a run of a source from the empty state leaves.
+-- What a run of a source leaves.
 use Rattle.std.specs.Prelude.{◌≡◌, ◌≢◌, ◌⊎◌, ◌≤◌, ℕ, List, [], ◌∷◌, ◌++◌, length, All}
 use Rattle.sha2.specs.Sha256.{sha256}
 use Rattle.calculus.specs.Tree.{Tree}
-use Rattle.calculus.specs.Log.{Step}
+use Rattle.calculus.specs.Limits.{price_digest}
+use Rattle.calculus.specs.Log.{Step, Header}
+use Rattle.calculus.specs.Rows.{Row}
 use Rattle.calculus.specs.Root.{root}
 use Rattle.calculus.specs.Runs.{Deploy, deploy_of, State, IsRun, Verdict, done, verdict, cost, next_rows}
 use Rattle.states.specs.States.{state_text}
 use Rattle.sources.specs.Sources.{IsSourceOf}
 use Rattle.events.specs.Spending.{IsSpentBy}
 use Rattle.fresh_digests.specs.Premises.{Collides}
+use Rattle.run_entries.specs.Allowed.{ShowsAnId}
 use Rattle.run_verdict.specs.View.{verdict_of}
 use Rattle.run_verdict.specs.declared.verdict.Verdict.TheVariants as ending
-use Rattle.rho_main.specs.Inputs.{Task, empty_state}
-use Rattle.rho_main.specs.Report.{Report}
+use Rattle.run_inputs.specs.Inputs.{Task}
+use Rattle.run_inputs.specs.Runnable.{IsStateOf}
+use Rattle.run_reports.specs.Report.{Report}
 
 -- what a run leaves: the steps of its log, the next state's bytes, what it prints, and a report
 pub record Left : Type 0 where
@@ -21,9 +25,13 @@ pub record Left : Type 0 where
   pub output : List ℕ
   pub report : Report
 
--- the deploy of this process from the empty state, which the source of a task spells
-abbrev pub deploy_in : Task → ℕ → Tree → Deploy
-deploy_in task limit t = deploy_of task.prices limit [] t (sha256 task.source)
+-- the deploy of this process, which the source of a task spells, from the rows of its state
+abbrev pub deploy_in : List Row → Task → ℕ → Tree → Deploy
+deploy_in rows task limit t = deploy_of task.prices limit rows t (sha256 task.source)
+
+-- what the log of a deploy from these rows under this limit names: their root, the digests of the source and the prices, and the limit
+abbrev pub header_of : List Row → Task → ℕ → Header
+header_of rows task limit = record { base = root rows; source = sha256 task.source; prices = price_digest task.prices; limit = limit }
 
 -- along these steps no id is spent by two of them: none of a datum that is taken without a peek and is not persistent, and none of a receiver that is linear or peeks
 abbrev pub SpendsOnce : Deploy → List Step → Type 0
@@ -42,8 +50,8 @@ pub record IsLeftByRun (deploy : Deploy) (left : Left) : Type 0 where
   pub once : SpendsOnce deploy left.steps
   pub verdict_is : verdict_of left.report.verdict ≡ verdict deploy.prices deploy.limit state
   pub cost_is : left.report.cost ≡ cost deploy.prices deploy.limit state
-  pub root_is : left.report.root ≡ root (next_rows [] (verdict deploy.prices deploy.limit state) state.bag)
-  pub next_is : left.next ≡ state_text (next_rows [] (verdict deploy.prices deploy.limit state) state.bag)
+  pub root_is : left.report.root ≡ root (next_rows deploy.rows (verdict deploy.prices deploy.limit state) state.bag)
+  pub next_is : left.next ≡ state_text (next_rows deploy.rows (verdict deploy.prices deploy.limit state) state.bag)
   pub output_is : left.output ≡ printed (verdict deploy.prices deploy.limit state) state.output
 
 -- a step takes 1 to 16 data
@@ -51,13 +59,18 @@ pub record TakesInRange (s : Step) : Type 0 where
   pub some : 1 ≤ length s.data_ids
   pub few : length s.data_ids ≤ 16
 
--- what is left is what a run leaves of the process that the source of a task spells, or two of the texts that this deploy hashes with these steps have one digest. In either case the log is no longer than a log may be and each of its steps takes as many data as a step may, the report counts the log's steps, and with another verdict than done the next state is the old one and nothing is printed
-pub record IsLeftBySource (task : Task) (limit : ℕ) (left : Left) : Type 0 where
+-- an id of the rows that a deploy begins with is built in or made again along these steps, or two of the texts that it hashes with them have one digest
+abbrev pub ShowsAClash : Deploy → List Step → Type 0
+ShowsAClash deploy ss = ShowsAnId deploy ss ⊎ Collides deploy ss
+
+-- what is left is what a run leaves of the process that the source of a task spells, from the rows of its state, or digests are shown to clash. In either case the log is no longer than a log may be, each of its steps takes as many data as a step may; the report counts its steps; and with another verdict than done the next state is the old one and nothing is printed
+pub record IsLeftBySource (rows : List Row) (task : Task) (limit : ℕ) (left : Left) : Type 0 where
+  pub state : IsStateOf task.state rows
   pub process : Tree
   pub spelt : IsSourceOf task.source process
-  pub run : IsLeftByRun (deploy_in task limit process) left ⊎ Collides (deploy_in task limit process) left.steps
+  pub run : IsLeftByRun (deploy_in rows task limit process) left ⊎ ShowsAClash (deploy_in rows task limit process) left.steps
   pub few : length left.steps ≤ 1048608
   pub taken : All TakesInRange left.steps
   pub steps : left.report.steps ≡ length left.steps
-  pub old : left.report.verdict ≢ ending.Done → left.next ≡ empty_state
+  pub old : left.report.verdict ≢ ending.Done → left.next ≡ task.state
   pub silent : left.report.verdict ≢ ending.Done → left.output ≡ []

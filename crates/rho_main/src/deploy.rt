@@ -1,61 +1,45 @@
-ghost use Rattle.std.specs.Prelude.{◌≡◌, ◌≤◌, ◌⊎◌, ◌∷◌, ◌++◌, [], Err, IsOkAnd, IfOk, OnOk, OnErr, IsErrOf, length, string_bytes};
+ghost use Rattle.std.specs.Prelude.{◌≡◌, ◌≤◌, ◌⊎◌, ◌∷◌, [], IfOk, length, string_bytes};
 ghost use Rattle.calculus.specs.Form.{IsClosed};
 ghost use Rattle.calculus.specs.Limits.{most_limit as greatest_limit};
 ghost use Rattle.sources.specs.Sources.{IsSourceOf};
 ghost use Rattle.rho_outside.specs.Causes.{Rose};
-ghost use Rattle.rho_outside.specs.Put.{GrewBy};
-ghost use Rattle.rho_outside.specs.Kept.{with_files};
-ghost use Rattle.rho_outside.specs.Told.{Told};
 ghost use Rattle.command_words.specs.Answers.{run_of};
-ghost use Rattle.rho_main.specs.Given.{task_of};
-ghost use Rattle.rho_main.specs.Inputs.{Refusal, accepted};
-ghost use Rattle.rho_main.specs.Refused.{RefusedFor, Says, SaysOf};
-ghost use Rattle.rho_main.specs.Runnable.{HasProcess};
-ghost use Rattle.rho_main.specs.Report.{status_of};
-ghost use Rattle.rho_main.specs.Ends.{OnUsage, OnRefusal, OnFileRefusal, OnHalt, OnVerdict, HasEnded, StopsOnTheWay, Leaves, LeavesInPart};
-ghost use Rattle.run_verdict.specs.View.{verdict_of};
-ghost use Rattle.rho_main.specs.Runs.{printed};
+ghost use Rattle.run_inputs.specs.Given.{task_of};
+ghost use Rattle.run_inputs.specs.Ended.{DeployEnds};
+ghost use Rattle.run_inputs.specs.Runnable.{IsState};
+ghost use Rattle.run_status.specs.Endings.{OnRefusal, OnHalt, OnVerdict};
+ghost use Rattle.rho_main.specs.Deploys.{IsDeploy};
+ghost use Rattle.rho_main.specs.Ends.{Leaves, LeavesInPart};
 ghost use Rattle.rho_main.specs.Plan.{IsPlan};
+ghost use Rattle.rho_main.specs.World.{world};
 
-use crate::accept::{Inputs, accept};
-use crate::finish::{Halt, keep_both, put_bytes};
-use crate::report::report;
-use crate::status::Status;
+use crate::next::{next_state, printed};
 use channel_table::ChannelTable;
 use command_words::Run;
 use event_log::{Log, LogHeader, write_log};
 use name_seed::{EMPTY_ROOT, bytes_digest};
 use rho_outside::{Shelf, Sink};
-use row_texts::stored_rows;
+use run_inputs::{Inputs, accept};
+use run_reports::{Halt, keep_both_and_put, report};
+use run_status::{Status, status_of};
 use run_verdict::Verdict;
-use state_writer::write_rows;
 use std::alloc::{AllocError, Global};
 use worker_round::{Played, play};
 
 /// All the bytes that a deploy writes, and how its run ended.
 #[derive(Drop)]
-pub(crate) struct Plan {
-    log: Vec<u8>,
-    next: Vec<u8>,
+pub struct Plan {
+    pub log: Vec<u8>,
+    pub next: Vec<u8>,
     /// What is printed, and then the line of the report.
-    bytes: Vec<u8>,
-    verdict: Verdict,
+    pub bytes: Vec<u8>,
+    pub verdict: Verdict,
 }
 
-/// What is printed: the output of a run that is done, and nothing else.
-fn printed(verdict: Verdict, mut output: Vec<u8>) -> Vec<u8>
-    ensures { result.items ≡ printed (verdict_of verdict) output.items }
-{
-    match verdict {
-        Verdict::Done => {}
-        _ => output.clear(),
-    }
-    output
-}
-
-/// Runs the source from the empty state, and makes all bytes that are to be written.
+/// Runs the source from the state, so far the empty one, and makes all bytes that are to be written.
 fn make_plan(alloc: Global, inputs: &Inputs, limit: u64) -> Result<Plan, AllocError>
     requires limit { limit ≤ greatest_limit inputs.now.prices }
+    requires state { IsState inputs.now.state.items }
     requires source { IsSourceOf inputs.now.source.items inputs.now.term }
     requires short { length inputs.now.source.items ≤ 1048576 }
     requires closed { IsClosed inputs.now.term }
@@ -77,7 +61,8 @@ fn make_plan(alloc: Global, inputs: &Inputs, limit: u64) -> Result<Plan, AllocEr
         &inputs.prices,
         limit,
     )?;
-    let (root, next) = write_rows(alloc, stored_rows(alloc, rows.as_slice())?)?;
+    let state = inputs.state.as_slice();
+    let (root, next) = next_state(alloc, verdict, rows.as_slice(), &EMPTY_ROOT, state)?;
     let count = steps.len() as u32;
     let line = report(alloc, verdict, cost, &root, count)?;
     let mut bytes = printed(verdict, output);
@@ -97,58 +82,17 @@ fn make_plan(alloc: Global, inputs: &Inputs, limit: u64) -> Result<Plan, AllocEr
     })
 }
 
-/// Keeps the log and then the next state, and then puts what is printed and the report.
-fn write_plan<S: Shelf, O: Sink>(
-    alloc: Global,
-    run: &Run,
-    plan: &Plan,
-    shelf: &mut S,
-    out: &mut O,
-) -> Result<(), Halt>
-    ensures kept { OnOk result (S.files shelf.new ≡ with_files ((string_bytes run.now.log, plan.now.log.items) ∷ (string_bytes run.now.next, plan.now.next.items) ∷ []) (S.files shelf.old)) }
-    ensures put { OnOk result (GrewBy plan.now.bytes.items (O.written out.old) (O.written out.new)) }
-    ensures part { OnErr result (StopsOnTheWay ((string_bytes run.now.log, plan.now.log.items) ∷ (string_bytes run.now.next, plan.now.next.items) ∷ []) plan.now.bytes.items
-        (S.files shelf.old) (S.files shelf.new) (S.keep_faults shelf.old) (S.keep_faults shelf.new) (O.written out.old) (O.written out.new)) }
-    ensures cause { IsErrOf result Halt.WriteFault → Rose (S.keep_faults shelf.old) (S.keep_faults shelf.new) ⊎ Rose (O.faults out.old) (O.faults out.new) }
-{
-    let log = (run.log.as_str(), plan.log.as_slice());
-    let next = (run.next.as_str(), plan.next.as_slice());
-    keep_both(alloc, shelf, log, next)?;
-    put_bytes(alloc, out, plan.bytes.as_slice())
-}
-
-/// The status that a verdict gives.
-pub(crate) fn status_of(verdict: Verdict) -> Status
-    ensures { result ≡ status_of verdict }
-{
-    match verdict {
-        Verdict::Done => Status::Done,
-        Verdict::Exhausted => Status::Exhausted,
-        Verdict::Faulted { .. } => Status::Faulted,
-    }
-}
-
-/// Runs a source: nothing is kept or put before all inputs are accepted and the run has ended.
-pub(crate) fn deploy<S: Shelf, O: Sink>(
+/// Runs a source, as `deploy` does.
+fn deploy_run<S: Shelf, O: Sink>(
     alloc: Global,
     run: &Run,
     limit: u64,
     shelf: &mut S,
     out: &mut O,
 ) -> Status
-    ensures no_usage { OnUsage result (λ _. ⊥) }
-    ensures refused { OnFileRefusal result (RefusedFor (S.files shelf.old) (run_of run.now) limit (S.fetch_faults shelf.old) (S.fetch_faults shelf.new) result) }
-    ensures exact { Told (S.files shelf.old) (λ files. (r : Refusal) → accepted (run_of run.now) limit files ≡ Err r
-        → ¬ (Rose (S.fetch_faults shelf.old) (S.fetch_faults shelf.new)) → Says r result) }
-    ensures source_exact { Told (S.files shelf.old) (λ files. IfOk (accepted (run_of run.now) limit files) (λ task.
-        ¬ (Rose (S.fetch_faults shelf.old) (S.fetch_faults shelf.new)) → SaysOf task.source result)) }
-    ensures files_stay { OnRefusal result (S.files shelf.new ≡ S.files shelf.old) }
-    ensures bytes_stay { OnRefusal result (O.written out.new ≡ O.written out.old) }
+    ensures ends { DeployEnds (S.files shelf.old) (run_of run.now) limit (S.fetch_faults shelf.old) (S.fetch_faults shelf.new) result }
+    ensures stays { OnRefusal result ((S.files shelf.new ≡ S.files shelf.old) × (O.written out.new ≡ O.written out.old)) }
     ensures write_fault { result ≡ Status.WriteFault → Rose (S.keep_faults shelf.old) (S.keep_faults shelf.new) ⊎ Rose (O.faults out.old) (O.faults out.new) }
-    ensures write_fault_late { result ≡ Status.WriteFault → Told (S.files shelf.old) (λ files. IsOkAnd (accepted (run_of run.now) limit files) HasProcess) }
-    ensures complete { Told (S.files shelf.old) (λ files. IfOk (accepted (run_of run.now) limit files) (λ task. HasProcess task
-        → ¬ (Rose (S.fetch_faults shelf.old) (S.fetch_faults shelf.new)) → ¬ (Rose (S.keep_faults shelf.old) (S.keep_faults shelf.new))
-        → ¬ (Rose (O.faults out.old) (O.faults out.new)) → HasEnded result)) }
     ensures verdict { OnVerdict result (Leaves result (run_of run.now) limit (S.files shelf.old) (S.files shelf.new) (O.written out.old) (O.written out.new)) }
     ensures part { OnHalt result (LeavesInPart (run_of run.now) limit (S.files shelf.old) (S.files shelf.new) (S.keep_faults shelf.old) (S.keep_faults shelf.new) (O.written out.old) (O.written out.new)) }
 {
@@ -160,9 +104,26 @@ pub(crate) fn deploy<S: Shelf, O: Sink>(
         Ok(plan) => plan,
         Err(_) => return Status::NoMemory,
     };
-    match write_plan(alloc, run, &plan, shelf, out) {
+    let log = (run.log.as_str(), plan.log.as_slice());
+    let next = (run.next.as_str(), plan.next.as_slice());
+    match keep_both_and_put(alloc, shelf, out, log, next, plan.bytes.as_slice()) {
         Ok(()) => status_of(plan.verdict),
         Err(Halt::WriteFault) => Status::WriteFault,
         Err(Halt::NoMemory) => Status::NoMemory,
     }
+}
+
+/// Runs a source: nothing is kept or put before all inputs are accepted and the run has ended.
+pub(crate) fn deploy<S: Shelf, O: Sink>(
+    alloc: Global,
+    run: &Run,
+    limit: u64,
+    shelf: &mut S,
+    out: &mut O,
+) -> Status
+    ensures { IsDeploy (run_of run.now) limit
+        (world (S.files shelf.old) (S.fetch_faults shelf.old) (S.keep_faults shelf.old) (O.written out.old) (O.faults out.old))
+        (world (S.files shelf.new) (S.fetch_faults shelf.new) (S.keep_faults shelf.new) (O.written out.new) (O.faults out.new)) result }
+{
+    deploy_run(alloc, run, limit, shelf, out)
 }

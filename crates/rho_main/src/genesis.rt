@@ -1,35 +1,16 @@
-ghost use Rattle.std.specs.Prelude.{◌≡◌, ◌⊎◌, OnOk, OnErr, IsErrOf};
+ghost use Rattle.std.specs.Prelude.{◌≡◌, ◌⊎◌};
 ghost use Rattle.rho_outside.specs.Causes.{Rose};
-ghost use Rattle.rho_outside.specs.Put.{GrewBy};
-ghost use Rattle.rho_outside.specs.Kept.{with_files};
-ghost use Rattle.rho_main.specs.Ends.{OnHalt, StopsOnTheWay};
-ghost use Rattle.rho_main.specs.Genesis.{EndsGenesis, FoundsAll, FoundsInPart, entries_of};
+ghost use Rattle.run_reports.specs.Stops.{StopsOnTheWay};
+ghost use Rattle.run_status.specs.Endings.{OnHalt};
+ghost use Rattle.rho_main.specs.Genesis.{IsGenesis, EndsGenesis, FoundsAll, empty_line, entries_of};
+ghost use Rattle.rho_main.specs.World.{world};
 
-use crate::accept::EMPTY_STATE;
-use crate::finish::{Halt, keep_file, put_bytes};
-use crate::report::state_report;
-use crate::status::Status;
 use name_seed::EMPTY_ROOT;
 use rho_outside::{Shelf, Sink};
+use run_inputs::EMPTY_STATE;
+use run_reports::{Halt, keep_and_put, state_report};
+use run_status::Status;
 use std::alloc::Global;
-
-/// Keeps the empty state, and then puts a line.
-fn write_empty<S: Shelf, O: Sink>(
-    alloc: Global,
-    name: &str,
-    line: &[u8],
-    shelf: &mut S,
-    out: &mut O,
-) -> Result<(), Halt>
-    ensures kept { OnOk result (S.files shelf.new ≡ with_files (entries_of name.now) (S.files shelf.old)) }
-    ensures put { OnOk result (GrewBy line.now (O.written out.old) (O.written out.new)) }
-    ensures part { OnErr result (StopsOnTheWay (entries_of name.now) line.now
-        (S.files shelf.old) (S.files shelf.new) (S.keep_faults shelf.old) (S.keep_faults shelf.new) (O.written out.old) (O.written out.new)) }
-    ensures cause { IsErrOf result Halt.WriteFault → Rose (S.keep_faults shelf.old) (S.keep_faults shelf.new) ⊎ Rose (O.faults out.old) (O.faults out.new) }
-{
-    keep_file(alloc, shelf, name, EMPTY_STATE)?;
-    put_bytes(alloc, out, line)
-}
 
 /// Makes the empty state: keeps it under a name, and then puts its report.
 pub(crate) fn genesis<S: Shelf, O: Sink>(
@@ -38,9 +19,20 @@ pub(crate) fn genesis<S: Shelf, O: Sink>(
     shelf: &mut S,
     out: &mut O,
 ) -> Status
+    ensures { IsGenesis name.now
+        (world (S.files shelf.old) (S.fetch_faults shelf.old) (S.keep_faults shelf.old) (O.written out.old) (O.faults out.old))
+        (world (S.files shelf.new) (S.fetch_faults shelf.new) (S.keep_faults shelf.new) (O.written out.new) (O.faults out.new)) result }
+{
+    genesis_made(alloc, name, shelf, out)
+}
+
+/// Makes the empty state, as `genesis` does.
+fn genesis_made<S: Shelf, O: Sink>(alloc: Global, name: &str, shelf: &mut S, out: &mut O) -> Status
     ensures ends { EndsGenesis result }
-    ensures done { result ≡ Status.Done → FoundsAll name.now (S.files shelf.old) (S.files shelf.new) (O.written out.old) (O.written out.new) }
-    ensures part { OnHalt result (FoundsInPart name.now (S.files shelf.old) (S.files shelf.new) (S.keep_faults shelf.old) (S.keep_faults shelf.new) (O.written out.old) (O.written out.new)) }
+    ensures all { result ≡ Status.Done → FoundsAll name.now
+        (world (S.files shelf.old) (S.fetch_faults shelf.old) (S.keep_faults shelf.old) (O.written out.old) (O.faults out.old))
+        (world (S.files shelf.new) (S.fetch_faults shelf.new) (S.keep_faults shelf.new) (O.written out.new) (O.faults out.new)) }
+    ensures part { OnHalt result (StopsOnTheWay (entries_of name.now) empty_line (S.files shelf.old) (S.files shelf.new) (S.keep_faults shelf.old) (S.keep_faults shelf.new) (O.written out.old) (O.written out.new)) }
     ensures write_fault { result ≡ Status.WriteFault → Rose (S.keep_faults shelf.old) (S.keep_faults shelf.new) ⊎ Rose (O.faults out.old) (O.faults out.new) }
     ensures complete { ¬ (Rose (S.keep_faults shelf.old) (S.keep_faults shelf.new)) → ¬ (Rose (O.faults out.old) (O.faults out.new))
         → (result ≡ Status.Done) ⊎ (result ≡ Status.NoMemory) }
@@ -49,7 +41,7 @@ pub(crate) fn genesis<S: Shelf, O: Sink>(
         Ok(line) => line,
         Err(_) => return Status::NoMemory,
     };
-    match write_empty(alloc, name, line.as_slice(), shelf, out) {
+    match keep_and_put(alloc, shelf, out, (name, EMPTY_STATE), line.as_slice()) {
         Ok(()) => Status::Done,
         Err(Halt::WriteFault) => Status::WriteFault,
         Err(Halt::NoMemory) => Status::NoMemory,

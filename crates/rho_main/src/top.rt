@@ -1,21 +1,18 @@
-ghost use Rattle.std.specs.Prelude.{◌≡◌, ◌⊎◌, Err, IsOkAnd, IfOk, IfErr, Some, Ok, map, string_bytes};
+ghost use Rattle.std.specs.Prelude.{◌≡◌, ◌⊎◌, IfOk, IfErr, Some, Ok, map, string_bytes};
 ghost use Rattle.command_words.specs.Answers.{answer_of, request_of};
-ghost use Rattle.rho_outside.specs.Causes.{Rose};
-ghost use Rattle.rho_outside.specs.Told.{Told};
+ghost use Rattle.run_status.specs.Endings.{OnUsage, OnUnbuiltVerb, SaysUsage};
 ghost use Rattle.rho_main.specs.Words.{IsRefusal, IsSaidBy, IsUnbuiltIn, OnDeploy, OnGenesis, OnReplay, OnUnbuilt, Tells};
-ghost use Rattle.rho_main.specs.Replaying.{ReplayLeaves, ReplayLeavesInPart, ReplayRefusedFor};
-ghost use Rattle.rho_main.specs.Inputs.{Refusal, accepted};
-ghost use Rattle.rho_main.specs.Refused.{RefusedFor, Says, SaysOf};
-ghost use Rattle.rho_main.specs.Runnable.{HasProcess};
-ghost use Rattle.rho_main.specs.Genesis.{EndsGenesis, FoundsAll, FoundsInPart};
-ghost use Rattle.rho_main.specs.Ends.{OnUsage, OnUnbuiltVerb, OnRefusal, OnFileRefusal, OnHalt, OnVerdict, HasEnded, Leaves, LeavesInPart, SaysUsage};
+ghost use Rattle.rho_main.specs.Deploys.{IsDeploy};
+ghost use Rattle.rho_main.specs.Genesis.{IsGenesis};
+ghost use Rattle.rho_main.specs.Replays.{IsReplay};
+ghost use Rattle.rho_main.specs.World.{world};
 
 use crate::deploy::deploy;
 use crate::genesis::genesis;
 use crate::replay::replay;
-use crate::status::Status;
 use command_words::{Command, Usage, Verb, read_command};
 use rho_outside::{Gate, Shelf, Sink};
+use run_status::Status;
 use std::alloc::Global;
 use std::sync::Wait;
 use std::thread::Threads;
@@ -35,7 +32,7 @@ fn read_words(alloc: Global, words: &[String]) -> Result<Command, Usage>
 ///
 /// Nothing is kept or put before all inputs were accepted and the run has ended. A refusal leaves the files
 /// and the output as they were. Then the log is kept, then the next state, then what the run printed is put
-/// with the report behind it.
+/// with the report behind it. A replay keeps no log.
 pub fn run<R: Threads + Wait + Sync, S: Shelf, O: Sink, G: Gate + Sync>(
     _rt: &R,
     alloc: Global,
@@ -52,44 +49,16 @@ pub fn run<R: Threads + Wait + Sync, S: Shelf, O: Sink, G: Gate + Sync>(
     ensures unbuilt_only { OnUnbuiltVerb result (IsUnbuiltIn (answer_of (map string_bytes words.now))) }
     ensures unbuilt_stays { OnUnbuilt (map string_bytes words.now) (λ _. (S.files shelf.new ≡ S.files shelf.old) × (O.written out.new ≡ O.written out.old)) }
 
-    // The empty state.
-    ensures genesis_ends { OnGenesis (map string_bytes words.now) (λ _. EndsGenesis result) }
-    ensures genesis { OnGenesis (map string_bytes words.now) (λ name. result ≡ Status.Done
-        → FoundsAll name (S.files shelf.old) (S.files shelf.new) (O.written out.old) (O.written out.new)) }
-    ensures genesis_part { OnGenesis (map string_bytes words.now) (λ name. OnHalt result
-        (FoundsInPart name (S.files shelf.old) (S.files shelf.new) (S.keep_faults shelf.old) (S.keep_faults shelf.new) (O.written out.old) (O.written out.new))) }
-    ensures genesis_complete { OnGenesis (map string_bytes words.now) (λ _. ¬ (Rose (S.keep_faults shelf.old) (S.keep_faults shelf.new))
-        → ¬ (Rose (O.faults out.old) (O.faults out.new)) → (result ≡ Status.Done) ⊎ (result ≡ Status.NoMemory)) }
-
-    // The files, the limit and the source.
-    ensures refused { OnDeploy (map string_bytes words.now) (λ names limit. OnFileRefusal result
-        (RefusedFor (S.files shelf.old) names limit (S.fetch_faults shelf.old) (S.fetch_faults shelf.new) result)) }
-    ensures exact { OnDeploy (map string_bytes words.now) (λ names limit. Told (S.files shelf.old) (λ files. (r : Refusal) → accepted names limit files ≡ Err r
-        → ¬ (Rose (S.fetch_faults shelf.old) (S.fetch_faults shelf.new)) → Says r result)) }
-    ensures source_exact { OnDeploy (map string_bytes words.now) (λ names limit. Told (S.files shelf.old) (λ files. IfOk (accepted names limit files) (λ task.
-        ¬ (Rose (S.fetch_faults shelf.old) (S.fetch_faults shelf.new)) → SaysOf task.source result))) }
-    ensures files_stay { OnRefusal result (S.files shelf.new ≡ S.files shelf.old) }
-    ensures bytes_stay { OnRefusal result (O.written out.new ≡ O.written out.old) }
-
-    // What is left behind.
-    ensures write_fault { result ≡ Status.WriteFault → Rose (S.keep_faults shelf.old) (S.keep_faults shelf.new) ⊎ Rose (O.faults out.old) (O.faults out.new) }
-    ensures write_fault_late { result ≡ Status.WriteFault → OnDeploy (map string_bytes words.now)
-        (λ names limit. Told (S.files shelf.old) (λ files. IsOkAnd (accepted names limit files) HasProcess)) }
-    ensures complete { OnDeploy (map string_bytes words.now) (λ names limit. Told (S.files shelf.old) (λ files. IfOk (accepted names limit files) (λ task. HasProcess task
-        → ¬ (Rose (S.fetch_faults shelf.old) (S.fetch_faults shelf.new)) → ¬ (Rose (S.keep_faults shelf.old) (S.keep_faults shelf.new))
-        → ¬ (Rose (O.faults out.old) (O.faults out.new)) → HasEnded result))) }
-    ensures verdict { OnDeploy (map string_bytes words.now) (λ names limit. OnVerdict result
-        (Leaves result names limit (S.files shelf.old) (S.files shelf.new) (O.written out.old) (O.written out.new))) }
-    ensures part { OnDeploy (map string_bytes words.now) (λ names limit. OnHalt result
-        (LeavesInPart names limit (S.files shelf.old) (S.files shelf.new) (S.keep_faults shelf.old) (S.keep_faults shelf.new) (O.written out.old) (O.written out.new))) }
-
-    // The replay of a log.
-    ensures replay_refused { OnReplay (map string_bytes words.now) (λ names. OnFileRefusal result
-        (ReplayRefusedFor (S.files shelf.old) names (S.fetch_faults shelf.old) (S.fetch_faults shelf.new) result)) }
-    ensures replay_verdict { OnReplay (map string_bytes words.now) (λ names. OnVerdict result
-        (ReplayLeaves result names (S.files shelf.old) (S.files shelf.new) (O.written out.old) (O.written out.new))) }
-    ensures replay_part { OnReplay (map string_bytes words.now) (λ names. OnHalt result
-        (ReplayLeavesInPart names (S.files shelf.old) (S.files shelf.new) (O.written out.old) (O.written out.new))) }
+    // The verbs, each from what the shelf and the output tell before the call to what they tell after it.
+    ensures genesis { OnGenesis (map string_bytes words.now) (λ name. IsGenesis name
+        (world (S.files shelf.old) (S.fetch_faults shelf.old) (S.keep_faults shelf.old) (O.written out.old) (O.faults out.old))
+        (world (S.files shelf.new) (S.fetch_faults shelf.new) (S.keep_faults shelf.new) (O.written out.new) (O.faults out.new)) result) }
+    ensures deploy { OnDeploy (map string_bytes words.now) (λ names limit. IsDeploy names limit
+        (world (S.files shelf.old) (S.fetch_faults shelf.old) (S.keep_faults shelf.old) (O.written out.old) (O.faults out.old))
+        (world (S.files shelf.new) (S.fetch_faults shelf.new) (S.keep_faults shelf.new) (O.written out.new) (O.faults out.new)) result) }
+    ensures replay { OnReplay (map string_bytes words.now) (λ names. IsReplay names
+        (world (S.files shelf.old) (S.fetch_faults shelf.old) (S.keep_faults shelf.old) (O.written out.old) (O.faults out.old))
+        (world (S.files shelf.new) (S.fetch_faults shelf.new) (S.keep_faults shelf.new) (O.written out.new) (O.faults out.new)) result) }
 {
     match read_words(alloc, words) {
         Ok(Command::Genesis { file }) => genesis(alloc, file.as_str(), shelf, out),

@@ -6,9 +6,9 @@ use Rattle.phlo_meter.specs.PriceTable as meter
 use Rattle.phlo_meter.specs.PriceTable.{prices_of}
 use Rattle.phlo_meter.specs.declared.fault.PriceFault.{PriceFault}
 use Rattle.phlo_meter.specs.declared.fault.PriceFault.TheVariants as faults
-use Rattle.rho_main.specs.Inputs.{bad_prices, or_refused}
-use Rattle.rho_main.specs.Refused.{price_refusal, PriceCause, PriceStatusOf}
-use Rattle.rho_main.specs.declared.status.Status.{Status}
+use Rattle.run_inputs.specs.Inputs.{bad_prices, or_refused}
+use Rattle.run_inputs.specs.Refused.{price_refusal, PriceCause, PriceStatusOf}
+use Rattle.run_status.specs.declared.status.Status.{Status}
 
 -- a fault that is a refusal is that of the text
 refuses-so : (f : PriceFault) (said : Result PriceTable meter.Refusal) (r : meter.Refusal) → price_refusal f ≡ Some r → Refuses f said → said ≡ Err r

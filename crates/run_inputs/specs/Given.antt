@@ -2,15 +2,15 @@
 use Rattle.std.specs.Prelude.{◌≡◌, ℕ, List, map, Ok, Err, ⊤}
 use Rattle.event_log.specs.Reading.{log_of}
 use Rattle.event_log.specs.View.{header_of, step_of}
-use Rattle.rho_main.specs.Inputs.{Task}
-use Rattle.rho_main.specs.declared.accept.Inputs.{Inputs}
-use Rattle.rho_main.specs.declared.accept.ReplayInputs.{ReplayInputs}
-use Rattle.rho_main.specs.declared.status.Status.{Status}
-use Rattle.rho_main.specs.declared.status.Status.TheVariants as status
+use Rattle.run_inputs.specs.Inputs.{Task}
+use Rattle.run_inputs.specs.declared.accept.Inputs.{Inputs}
+use Rattle.run_inputs.specs.declared.accept.ReplayInputs.{ReplayInputs}
+use Rattle.run_status.specs.declared.status.Status.{Status}
+use Rattle.run_status.specs.declared.status.Status.TheVariants as status
 
 -- what is to be run of these inputs
 abbrev pub task_of : Inputs → Task
-task_of i = record { prices = i.prices; source = i.source.items }
+task_of i = record { state = i.state.items; prices = i.prices; source = i.source.items }
 
 -- this is what is to be run, and these are the bytes of the log
 pub record IsGiven (r : ReplayInputs) (inputs : Task × List ℕ) : Type 0 where

@@ -1,13 +1,12 @@
--- What a deploy makes of the files that it is given, before it runs.
-use Rattle.std.specs.Prelude.{ℕ, nat_le, ◌&&◌, if◌then◌else◌, List, ◌∷◌, ◌++◌, length, replicate, codes, Result, Ok, Err, Option, Some, None}
-use Rattle.std.specs.Str.{bytes_eq}
+-- What a deploy and a replay make of the files that they are given, before they run.
+use Rattle.std.specs.Prelude.{ℕ, nat_le, ◌&&◌, if◌then◌else◌, List, length, Result, Ok, Err, Option, Some, None}
 use Rattle.calculus.specs.Limits.{most_limit}
 use Rattle.calculus.specs.Outcome.{Prices as PriceTable}
 use Rattle.phlo_meter.specs.PriceTable as meter
 use Rattle.phlo_meter.specs.PriceTable.{prices_of}
 use Rattle.rho_outside.specs.FileMap.{FileMap}
-use Rattle.rho_main.specs.declared.status.Input.{Input}
-use Rattle.rho_main.specs.declared.status.Input.TheVariants.{State, Prices, Source, Log}
+use Rattle.run_status.specs.declared.status.Input.{Input}
+use Rattle.run_status.specs.declared.status.Input.TheVariants.{State, Prices, Source, Log}
 use Rattle.command_words.specs.Commands.{RunRequest}
 
 -- the greatest number of bytes of an input
@@ -24,11 +23,10 @@ name_of names Prices = names.prices
 name_of names Source = names.file
 name_of names Log = names.log
 
--- why files are refused: one is missing, is too large or has a form that is not built yet, the price text gives no prices, or the limit is out of range, the greatest one being this
+-- why files are refused before it is asked what their state, source and log say: one is missing or is too large, the price text gives no prices, or the limit is out of range, the greatest one being this
 pub data Refusal : Type 0 where
   missing : Input → Refusal
   too_large : Input → Refusal
-  unbuilt : Input → Refusal
   bad_prices : meter.Refusal → Refusal
   bad_limit : ℕ → Refusal
 
@@ -47,14 +45,6 @@ within input max (Some bytes) = if nat_le (length bytes) max then Ok bytes else 
 abbrev pub given : RunRequest → FileMap → Input → Result (List ℕ) Refusal
 given names files input = within input (size_limit input) (files (name_of names input))
 
--- bytes that are these
-abbrev pub only : Input → List ℕ → List ℕ → Result (List ℕ) Refusal
-only input wanted bytes = if bytes_eq bytes wanted then Ok bytes else Err (unbuilt input)
-
--- the bytes of the empty state: its name, the version, a root of zeros and no rows
-abbrev pub empty_state : List ℕ
-empty_state = codes "RHOSTATE" ++ (1 ∷ replicate 40 0)
-
 -- prices, or what a price text is refused for
 abbrev pub or_refused : Result PriceTable meter.Refusal → Result PriceTable Refusal
 or_refused (Ok prices) = Ok prices
@@ -64,32 +54,46 @@ or_refused (Err r) = Err (bad_prices r)
 abbrev pub priced : List ℕ → Result PriceTable Refusal
 priced text = or_refused (prices_of text)
 
--- these prices, where the limit is in range under them
-abbrev pub in_range : ℕ → PriceTable → Result PriceTable Refusal
-in_range limit prices = if nat_le 1 limit && nat_le limit (most_limit prices) then Ok prices else Err (bad_limit (most_limit prices))
+-- a value beside another one, where that is not refused
+abbrev pub beside : {A B : Type 0} → A → Result B Refusal → Result (A × B) Refusal
+beside x (Ok y) = Ok (x, y)
+beside x (Err r) = Err r
 
--- what is to be run: the prices, and the bytes of the source
+-- a state's bytes with prices, where the limit is in range under them
+abbrev pub in_range : ℕ → List ℕ × PriceTable → Result (List ℕ × PriceTable) Refusal
+in_range limit p = if nat_le 1 limit && nat_le limit (most_limit p.1) then Ok p else Err (bad_limit (most_limit p.1))
+
+-- what is to be run: the bytes of the state that it starts from, the prices, and the bytes of the source
 pub record Task : Type 0 where
+  pub state : List ℕ
   pub prices : PriceTable
   pub source : List ℕ
 
--- a source under prices
-abbrev pub with_prices : PriceTable → Result (List ℕ) Refusal → Result Task Refusal
-with_prices prices (Ok source) = Ok (record { prices = prices; source = source })
-with_prices prices (Err r) = Err r
+-- a source from a state under prices
+abbrev pub task_with : List ℕ × PriceTable → Result (List ℕ) Refusal → Result Task Refusal
+task_with p (Ok source) = Ok (record { state = p.0; prices = p.1; source = source })
+task_with p (Err r) = Err r
 
--- the state's bytes, or the first refusal
+-- the state's bytes, or why there are none
 abbrev pub accepted_state : RunRequest → FileMap → Result (List ℕ) Refusal
-accepted_state names files = given names files State >>= only State empty_state
+accepted_state names files = given names files State
 
--- the state and then the prices
-abbrev pub accepted_prices : RunRequest → FileMap → Result PriceTable Refusal
-accepted_prices names files = accepted_state names files >>= (λ state. given names files Prices >>= priced)
+-- the state's bytes and then the prices
+abbrev pub accepted_prices : RunRequest → FileMap → Result (List ℕ × PriceTable) Refusal
+accepted_prices names files = accepted_state names files >>= (λ state. beside state (given names files Prices >>= priced))
 
 -- these and then the limit
-abbrev pub accepted_limit : RunRequest → ℕ → FileMap → Result PriceTable Refusal
+abbrev pub accepted_limit : RunRequest → ℕ → FileMap → Result (List ℕ × PriceTable) Refusal
 accepted_limit names limit files = accepted_prices names files >>= in_range limit
 
--- these and then the source's bytes
+-- these and then the source's bytes: what a deploy is to run
 abbrev pub accepted : RunRequest → ℕ → FileMap → Result Task Refusal
-accepted names limit files = accepted_limit names limit files >>= (λ prices. with_prices prices (given names files Source))
+accepted names limit files = accepted_limit names limit files >>= (λ p. task_with p (given names files Source))
+
+-- the state's bytes, the prices and then the source's bytes: what a replay is to run
+abbrev pub accepted_source : RunRequest → FileMap → Result Task Refusal
+accepted_source names files = accepted_prices names files >>= (λ p. task_with p (given names files Source))
+
+-- these and then the log's bytes
+abbrev pub accepted_log : RunRequest → FileMap → Result (Task × List ℕ) Refusal
+accepted_log names files = accepted_source names files >>= (λ task. beside task (given names files Log))

@@ -10,18 +10,12 @@ use Rattle.rho_outside.specs.FileMap.{FileMap, Lacks, GivesAtLeast}
 use Rattle.rho_outside.specs.Causes.{Rose}
 use Rattle.rho_outside.specs.Told.{Told}
 use Rattle.command_words.specs.Commands.{RunRequest}
-use Rattle.rho_main.specs.Inputs.{Refusal, missing, too_large, unbuilt, bad_prices, bad_limit, priced, name_of, size_limit, accepted_state, accepted_limit, accepted}
-use Rattle.rho_main.specs.declared.status.Input.{Input}
-use Rattle.rho_main.specs.declared.status.Input.TheVariants.{State, Prices, Source, Log}
-use Rattle.rho_main.specs.declared.status.Status.{Status}
-use Rattle.rho_main.specs.declared.status.Status.TheVariants as status
-
--- each told input before this one was accepted; a deploy reads no log
-abbrev pub Reaches : Option FileMap → RunRequest → ℕ → Input → Type 0
-Reaches told names limit State = ⊤
-Reaches told names limit Prices = Told told (λ files. IsOk (accepted_state names files))
-Reaches told names limit Source = Told told (λ files. IsOk (accepted_limit names limit files))
-Reaches told names limit Log = ⊥
+use Rattle.run_inputs.specs.Inputs.{Refusal, missing, too_large, bad_prices, bad_limit, priced, name_of, size_limit, accepted_state, accepted_prices, accepted_limit, accepted}
+use Rattle.run_inputs.specs.Runnable.{HasState, MayHaveState, IsNoState}
+use Rattle.run_status.specs.declared.status.Input.{Input}
+use Rattle.run_status.specs.declared.status.Input.TheVariants.{State, Prices, Source, Log}
+use Rattle.run_status.specs.declared.status.Status.{Status}
+use Rattle.run_status.specs.declared.status.Status.TheVariants as status
 
 -- why one input gave no bytes, from the counts of failed fetches before and after
 abbrev pub InputCause : Option FileMap → List ℕ → ℕ → Input → ℕ → ℕ → Status → Type 0
@@ -50,6 +44,11 @@ PriceCause text (status.Prices f) = (r : Refusal) × (IsPriceFault f r × (price
 PriceCause text status.NoMemory = ⊤
 PriceCause text _ = ⊥
 
+-- why bytes are no state that is read so far
+abbrev pub StateCause : List ℕ → Status → Type 0
+StateCause bytes (status.Unbuilt input) = (input ≡ State) × IsNoState bytes
+StateCause bytes _ = ⊥
+
 -- a fault is what a source is refused for
 abbrev pub IsFaultOf : SourceFault → List ℕ → Type 0
 IsFaultOf f source = (r : sources.Refusal) × ((refusal_of f ≡ Some r) × sources.IsRefused source r)
@@ -60,14 +59,46 @@ SourceCause source (status.Source f) = IsFaultOf f source
 SourceCause source status.NoMemory = ⊤
 SourceCause source _ = ⊥
 
+-- the first refusal of the state and the prices, whose told state may be read
+abbrev pub IsPricesRefusal : RunRequest → FileMap → Refusal → Type 0
+IsPricesRefusal names files r = MayHaveState names files × (accepted_prices names files ≡ Err r)
+
+-- the first refusal of all that a deploy with this limit needs
+abbrev pub IsRefusal : RunRequest → ℕ → FileMap → Refusal → Type 0
+IsRefusal names limit files r = MayHaveState names files × (accepted names limit files ≡ Err r)
+
+-- each told input before this one of the two was accepted
+abbrev pub PricesReach : Option FileMap → RunRequest → Input → Type 0
+PricesReach told names State = ⊤
+PricesReach told names Prices = Told told (HasState names)
+PricesReach told names _ = ⊥
+
+-- each told input before this one was accepted; a deploy reads no log
+abbrev pub Reaches : Option FileMap → RunRequest → ℕ → Input → Type 0
+Reaches told names limit Source = Told told (λ files. HasState names files × IsOk (accepted_limit names limit files))
+Reaches told names limit input = PricesReach told names input
+
+-- the told state is within its size and is none
+abbrev pub LacksState : Option FileMap → RunRequest → Type 0
+LacksState told names = Told told (λ files. IsOkAnd (accepted_state names files) IsNoState)
+
+-- why the state or the prices are refused, from the counts of failed fetches before and after
+abbrev pub PricesRefusedFor : Option FileMap → RunRequest → ℕ → ℕ → Status → Type 0
+PricesRefusedFor told names before now (status.ReadFault input) = (Rose before now ⊎ Lacks told (name_of names input)) × PricesReach told names input
+PricesRefusedFor told names before now (status.TooLarge input seen max) = (max ≡ size_limit input) × ((max < seen) × (GivesAtLeast told (name_of names input) seen × Told told (λ files. IsPricesRefusal names files (too_large input))))
+PricesRefusedFor told names before now (status.Unbuilt input) = (input ≡ State) × LacksState told names
+PricesRefusedFor told names before now (status.Prices f) = Told told (λ files. (r : Refusal) × (IsPriceFault f r × IsPricesRefusal names files r))
+PricesRefusedFor told names before now status.NoMemory = ⊤
+PricesRefusedFor told names before now _ = ⊥
+
 -- why a deploy with this limit refuses its files, from the counts of failed fetches before and after
 abbrev pub RefusedFor : Option FileMap → RunRequest → ℕ → ℕ → ℕ → Status → Type 0
 RefusedFor told names limit before now (status.ReadFault input) = (Rose before now ⊎ Lacks told (name_of names input)) × Reaches told names limit input
-RefusedFor told names limit before now (status.TooLarge input seen max) = (max ≡ size_limit input) × ((max < seen) × (GivesAtLeast told (name_of names input) seen × Told told (λ files. accepted names limit files ≡ Err (too_large input))))
-RefusedFor told names limit before now (status.Unbuilt input) = Told told (λ files. accepted names limit files ≡ Err (unbuilt input))
-RefusedFor told names limit before now (status.Prices f) = Told told (λ files. (r : Refusal) × (IsPriceFault f r × (accepted names limit files ≡ Err r)))
-RefusedFor told names limit before now (status.Limit n most) = (n ≡ limit) × Told told (λ files. accepted names limit files ≡ Err (bad_limit most))
-RefusedFor told names limit before now (status.Source f) = Told told (λ files. IsOkAnd (accepted names limit files) (λ task. IsFaultOf f task.source))
+RefusedFor told names limit before now (status.TooLarge input seen max) = (max ≡ size_limit input) × ((max < seen) × (GivesAtLeast told (name_of names input) seen × Told told (λ files. IsRefusal names limit files (too_large input))))
+RefusedFor told names limit before now (status.Unbuilt input) = (input ≡ State) × LacksState told names
+RefusedFor told names limit before now (status.Prices f) = Told told (λ files. (r : Refusal) × (IsPriceFault f r × IsRefusal names limit files r))
+RefusedFor told names limit before now (status.Limit n most) = (n ≡ limit) × Told told (λ files. IsRefusal names limit files (bad_limit most))
+RefusedFor told names limit before now (status.Source f) = Told told (λ files. HasState names files × IsOkAnd (accepted names limit files) (λ task. IsFaultOf f task.source))
 RefusedFor told names limit before now status.NoMemory = ⊤
 RefusedFor told names limit before now _ = ⊥
 
@@ -76,10 +107,15 @@ abbrev pub Says : Refusal → Status → Type 0
 Says refusal status.NoMemory = ⊤
 Says (missing input) (status.ReadFault i) = i ≡ input
 Says (too_large input) (status.TooLarge i seen max) = i ≡ input
-Says (unbuilt input) (status.Unbuilt i) = i ≡ input
 Says (bad_prices r) (status.Prices f) = price_refusal f ≡ Some r
 Says (bad_limit most) (status.Limit limit m) = m ≡ most
 Says _ _ = ⊥
+
+-- a status says that a state is none that is read so far; want of memory may stand in its place
+abbrev pub SaysNoState : Status → Type 0
+SaysNoState (status.Unbuilt input) = input ≡ State
+SaysNoState status.NoMemory = ⊤
+SaysNoState _ = ⊥
 
 -- the status of a fault of a source: want of memory where it says no refusal
 abbrev pub StatusOf : SourceFault → Option sources.Refusal → Status → Type 0

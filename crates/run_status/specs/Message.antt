@@ -10,8 +10,8 @@ use Rattle.command_words.specs.declared.usage.Usage.{Usage}
 use Rattle.command_words.specs.declared.usage.Usage.TheVariants as usage
 use Rattle.event_log.specs.declared.fault.LogFault.{LogFault}
 use Rattle.event_log.specs.declared.fault.LogFault.TheVariants as logged
-use Rattle.log_replay.specs.declared.fault.ReplayFault.{ReplayFault}
-use Rattle.log_replay.specs.declared.fault.ReplayFault.TheVariants as replayed
+use Rattle.replay_faults.specs.declared.fault.ReplayFault.{ReplayFault}
+use Rattle.replay_faults.specs.declared.fault.ReplayFault.TheVariants as replayed
 use Rattle.phlo_meter.specs.declared.fault.PriceFault.{PriceFault}
 use Rattle.phlo_meter.specs.declared.fault.PriceFault.TheVariants as faults
 use Rattle.rho_lexer.specs.declared.token.LexFault.{LexFault}
@@ -22,10 +22,10 @@ use Rattle.scope_check.specs.declared.fault.ScopeFault.{ScopeFault}
 use Rattle.scope_check.specs.declared.fault.ScopeFault.TheVariants as scopes
 use Rattle.sources.specs.declared.fault.SourceFault.{SourceFault}
 use Rattle.sources.specs.declared.fault.SourceFault.TheVariants as source
-use Rattle.rho_main.specs.declared.status.Input.{Input}
-use Rattle.rho_main.specs.declared.status.Input.TheVariants as input
-use Rattle.rho_main.specs.declared.status.Status.{Status}
-use Rattle.rho_main.specs.declared.status.Status.TheVariants as status
+use Rattle.run_status.specs.declared.status.Input.{Input}
+use Rattle.run_status.specs.declared.status.Input.TheVariants as input
+use Rattle.run_status.specs.declared.status.Status.{Status}
+use Rattle.run_status.specs.declared.status.Status.TheVariants as status
 
 -- the number with which the program ends
 abbrev pub code_of : Status → ℕ

@@ -1,11 +1,13 @@
 ghost use Rattle.std.specs.Prelude.{◌≡◌, IfOk, string_bytes};
-ghost use Rattle.rho_main.specs.Message.{code_of, message_of};
+ghost use Rattle.run_status.specs.Endings.{status_of};
+ghost use Rattle.run_status.specs.Message.{code_of, message_of};
 
 use crate::wording::{log_text, price_text, replay_text, source_text, usage_text, verb_name};
 use command_words::{Usage, Verb};
 use event_log::LogFault;
-use log_replay::ReplayFault;
 use phlo_meter::PriceFault;
+use replay_faults::ReplayFault;
+use run_verdict::Verdict;
 use sources::SourceFault;
 use std::alloc::{AllocError, Global};
 use std::fmt;
@@ -57,7 +59,7 @@ pub enum Status {
 
 impl fmt::Display for Input {
     ghost use Rattle.std.specs.Prelude.{Some};
-    ghost use Rattle.rho_main.specs.Message.{input_name};
+    ghost use Rattle.run_status.specs.Message.{input_name};
 
     ghost output = { λ input. Some (input_name input) };
 
@@ -140,5 +142,16 @@ impl Status {
                 format!(in alloc; "rho: size: TooLarge input={input} seen={seen} max={max}")
             }
         }
+    }
+}
+
+/// The status that a verdict gives.
+pub fn status_of(verdict: Verdict) -> Status
+    ensures { result ≡ status_of verdict }
+{
+    match verdict {
+        Verdict::Done => Status::Done,
+        Verdict::Exhausted => Status::Exhausted,
+        Verdict::Faulted { .. } => Status::Faulted,
     }
 }

@@ -1,11 +1,11 @@
 ghost use Rattle.std.specs.Prelude.{◌≡◌, IfOk, string_bytes};
-ghost use Rattle.rho_main.specs.Message.{digest_text, digests_text, lex_text, log_text, parse_text, price_text, replay_text, scope_text, source_text, usage_text, verb_name};
+ghost use Rattle.run_status.specs.Message.{digest_text, digests_text, lex_text, log_text, parse_text, price_text, replay_text, scope_text, source_text, usage_text, verb_name};
 
 use calculus::Digest;
 use command_words::{Usage, Verb};
 use event_log::LogFault;
-use log_replay::ReplayFault;
 use phlo_meter::PriceFault;
+use replay_faults::ReplayFault;
 use rho_lexer::LexFault;
 use rho_parser::ParseFault;
 use scope_check::ScopeFault;

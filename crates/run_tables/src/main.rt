@@ -3,7 +3,6 @@
 #![tactic(auto)]
 
 mod place;
-mod plays;
 mod runs;
 
 use std::alloc::Global;
@@ -18,7 +17,6 @@ enum Kind {
     DeployFailing,
     DeployAndReplay,
     Replay,
-    Play,
 }
 
 impl Kind {
@@ -29,7 +27,6 @@ impl Kind {
             "deploy-failing" => Kind::DeployFailing,
             "deploy-and-replay" => Kind::DeployAndReplay,
             "replay" => Kind::Replay,
-            "play" => Kind::Play,
             _ => return None,
         })
     }
@@ -47,7 +44,6 @@ fn answer<R: Threads + Wait + Sync>(
         Kind::DeployFailing => runs::deploy_failing(rt, alloc, fields),
         Kind::DeployAndReplay => runs::deploy_and_replay(rt, alloc, fields),
         Kind::Replay => runs::replay(rt, alloc, fields),
-        Kind::Play => plays::play_of(alloc, fields),
     }
 }
 

@@ -1,42 +1,31 @@
-use Rattle.std.proofs.Common.{inr}
 use Rattle.command_words.specs.Answers.{run_of}
-use Rattle.rho_main.specs.Replaying.{ReplayLeaves}
-use Rattle.rho_main.proofs.Leaving.{on_verdict}
-use Rattle.rho_main.proofs.Replays.{stop_refused, replay_leaves_all, replay_leaves_some}
+use Rattle.run_inputs.specs.Inputs.{accepted_state, accepted_source, accepted_log}
+use Rattle.run_inputs.proofs.Exact.{if_ok}
+use Rattle.run_inputs.proofs.ReplayExact.{replay_exact, replay_state_exact, replay_source_exact, replay_log_exact, replay_known}
+use Rattle.rho_main.specs.Replaying.{IsSettled}
+use Rattle.rho_main.proofs.Answering.{tells_of, ends_if_run}
 use Rattle.rho_main.proofs.replay.replay.Goals as goal
 
-pub returns-in-Err-make_replay_plan-clause-refused : goal.returns-in-Err-make_replay_plan-clause-refused
-returns-in-Err-make_replay_plan-clause-refused g c =
-    stop_refused (g.S.Shelf.files c.args.shelf.now) (run_of c.args.run.now) c.in-Ok.inputs c.in-Ok.ensures.term c.in-Ok.ensures.accepted _ _ c.in-Err-make_replay_plan.status c.in-Err-make_replay_plan.ensures.stop
-
-pub returns-in-Ok-write_replay-clause-verdict : goal.returns-in-Ok-write_replay-clause-verdict
-returns-in-Ok-write_replay-clause-verdict g c =
+pub returns : goal.returns
+returns g c =
     let names = run_of c.args.run.now in
-    let old = g.S.Shelf.files c.args.shelf.now in
-    let new = g.S.Shelf.files c.write_replay.new.shelf in
-    let before = g.O.Sink.written c.args.out.now in
-    let after = g.O.Sink.written c.write_replay.new.out in
-    let s = c.status_of.result in
-    let w = c.in-Ok-write_replay.ensures in
-    on_verdict s (ReplayLeaves s names old new before after)
-    (replay_leaves_all old names c.in-Ok.inputs c.in-Ok.ensures.term c.in-Ok.ensures.accepted c.in-Ok-make_replay_plan.plan c.in-Ok-make_replay_plan.ensures.plan old (g.S.Shelf.files c.accept_replay.new.shelf) new before after c.in-Ok.ensures.files s c.status_of.ensures w.kept w.put)
-
-pub returns-in-Err-WriteFault-clause-part : goal.returns-in-Err-WriteFault-clause-part
-returns-in-Err-WriteFault-clause-part g c =
-    let names = run_of c.args.run.now in
-    let old = g.S.Shelf.files c.args.shelf.now in
-    let new = g.S.Shelf.files c.write_replay.new.shelf in
-    let before = g.O.Sink.written c.args.out.now in
-    let after = g.O.Sink.written c.write_replay.new.out in
-    let w = c.in-Err-WriteFault.ensures in
-    λ files h. inr (replay_leaves_some old names c.in-Ok.inputs c.in-Ok.ensures.term c.in-Ok.ensures.accepted c.in-Ok-make_replay_plan.plan c.in-Ok-make_replay_plan.ensures.plan old (g.S.Shelf.files c.accept_replay.new.shelf) new before after c.in-Ok.ensures.files w.part w.put_part files h)
-
-pub returns-clause-part : goal.returns-clause-part
-returns-clause-part g c =
-    let names = run_of c.args.run.now in
-    let old = g.S.Shelf.files c.args.shelf.now in
-    let new = g.S.Shelf.files c.write_replay.new.shelf in
-    let before = g.O.Sink.written c.args.out.now in
-    let after = g.O.Sink.written c.write_replay.new.out in
-    let w = c.in-Err-NoMemory.ensures in
-    λ files h. inr (replay_leaves_some old names c.in-Ok.inputs c.in-Ok.ensures.term c.in-Ok.ensures.accepted c.in-Ok-make_replay_plan.plan c.in-Ok-make_replay_plan.ensures.plan old (g.S.Shelf.files c.accept_replay.new.shelf) new before after c.in-Ok.ensures.files w.part w.put_part files h)
+    let told = g.S.Shelf.files c.args.shelf.now in
+    let before = g.S.Shelf.fetch_faults c.args.shelf.now in
+    let now = g.S.Shelf.fetch_faults c.replay_run.new.shelf in
+    let s = c.replay_run.result in
+    let d = c.replay_run.ensures in
+    record {
+      is_exact = record {
+        ends = d.ends;
+        exact = λ files e. replay_exact IsSettled told names before now files e s d.ends;
+        state_exact = λ files e. if_ok _ (accepted_state names files) (λ state a. replay_state_exact IsSettled told names before now files e s d.ends state a);
+        source_exact = λ files e has. if_ok _ (accepted_source names files) (λ task a n. replay_source_exact IsSettled told names before now files e task a n has s d.ends);
+        log_exact = λ files e has. if_ok _ (accepted_log names files) (λ inputs a run n. replay_log_exact IsSettled told names before now files e inputs a n has s d.ends run);
+        answer_exact = λ files e has. if_ok _ (accepted_log names files) (λ inputs a run n. tells_of inputs s (λ k. replay_known IsSettled told names before now files e inputs a n has s d.ends run k));
+      };
+      complete = λ files e has. if_ok _ (accepted_log names files) (λ inputs a run n k p. ends_if_run inputs s _ _ d.write_fault k p (tells_of inputs s (λ l. replay_known IsSettled told names before now files e inputs a n has s d.ends run l)));
+      stays = d.stays;
+      write_fault = d.write_fault;
+      verdict = d.verdict;
+      part = d.part;
+    }

@@ -3,9 +3,9 @@ use Rattle.std.specs.Prelude.{codes}
 use Rattle.std.specs.List.{join_by}
 use Rattle.std.proofs.lemmas.List.{take_all}
 use Rattle.std.proofs.lemmas.Result.{IfOk-weaker}
-use Rattle.rho_main.specs.Message.{digest_text}
-use Rattle.rho_main.proofs.Listing.{same_joined}
-use Rattle.rho_main.proofs.wording.digests_text.Goals as goal
+use Rattle.run_status.specs.Message.{digest_text}
+use Rattle.run_status.proofs.Listing.{same_joined}
+use Rattle.run_status.proofs.wording.digests_text.Goals as goal
 
 pub returns : goal.returns
 returns c =

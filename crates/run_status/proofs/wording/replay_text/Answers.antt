@@ -1,8 +1,8 @@
 use Rattle.std.proofs.Common.{◌++◌, ◌∙◌, ap, sym, string_bytes}
 use Rattle.std.specs.Prelude.{codes}
 use Rattle.std.proofs.lemmas.Result.{IfOk-weaker}
-use Rattle.rho_main.specs.Message.{digest_text, digests_text, replay_text}
-use Rattle.rho_main.proofs.wording.replay_text.Goals as goal
+use Rattle.run_status.specs.Message.{digest_text, digests_text, replay_text}
+use Rattle.run_status.proofs.wording.replay_text.Goals as goal
 
 pub returns-in_ok-taken-in-Reducible : goal.returns-in_ok-taken-in-Reducible
 returns-in_ok-taken-in-Reducible c =

@@ -1,3 +1,0 @@
-pub mod Partners
-pub mod Laws
-pub mod Examples

@@ -1,3 +1,0 @@
-pub mod Filed
-pub mod Becoming
-pub mod Rows

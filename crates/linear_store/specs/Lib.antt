@@ -1,4 +1,0 @@
-pub mod Channels
-pub mod Queues
-pub mod Meetings
-pub mod Laws

@@ -1,5 +1,0 @@
-pub mod Refusals
-pub mod Rows
-pub mod Least
-pub mod Courses
-pub mod Answers

@@ -1,0 +1,6 @@
+pub mod Inputs
+pub mod Runnable
+pub mod Refused
+pub mod Replaying
+pub mod Given
+pub mod Ended

@@ -1,0 +1,157 @@
+// The state, the prices and the limit, which a source follows.
+ghost use Rattle.std.specs.Prelude.{◌≡◌, ◌≤◌, Ok, IfOk, IfErr, length};
+ghost use Rattle.calculus.specs.Limits.{most_limit as greatest_limit};
+ghost use Rattle.rho_outside.specs.FileMap.{Gives};
+ghost use Rattle.rho_outside.specs.Told.{Told};
+ghost use Rattle.command_words.specs.Answers.{run_of};
+ghost use Rattle.run_inputs.specs.Inputs.{priced, accepted_state, accepted_prices, accepted_limit};
+ghost use Rattle.run_inputs.specs.Refused.{price_refusal, InputCause, PriceCause, PriceStatusOf, PricesRefusedFor, RefusedFor, StateCause};
+ghost use Rattle.run_inputs.specs.Runnable.{IsState, HasState};
+
+use command_words::Run;
+use phlo_meter::{PriceFault, read_prices};
+use price_table::{Prices, most_limit};
+use rho_outside::{FetchFault, Shelf};
+use run_status::{Input, Status};
+use std::alloc::Global;
+
+/// The greatest number of bytes of a state and of a price text.
+const STATE_MAX: u64 = 268_435_456;
+
+const PRICES_MAX: u64 = 65_536;
+
+/// The empty state: its name, the version, a root of zeros and no rows.
+pub const EMPTY_STATE: &[u8] =
+    b"RHOSTATE\x01\0\0\0\0\0\0\0\0\0\0\0\0\0\0\0\0\0\0\0\0\0\0\0\0\0\0\0\0\0\0\0\0\0\0\0\0\0\0\0\0";
+
+/// The bytes of one input, at most `max` of them.
+pub(crate) fn take<S: Shelf>(
+    alloc: Global,
+    shelf: &mut S,
+    name: &str,
+    input: Input,
+    max: u64,
+) -> Result<Vec<u8>, Status>
+    ensures files { S.files shelf.new ≡ S.files shelf.old }
+    ensures keep_faults { S.keep_faults shelf.new ≡ S.keep_faults shelf.old }
+    ensures fetch_faults { S.fetch_faults shelf.old ≤ S.fetch_faults shelf.new }
+    ensures taken { IfOk result (λ bytes. Gives (S.files shelf.old) name.now bytes.items) }
+    ensures within { IfOk result (λ bytes. length bytes.items ≤ max) }
+    ensures cause { IfErr result (InputCause (S.files shelf.old) name.now max input (S.fetch_faults shelf.old) (S.fetch_faults shelf.new)) }
+{
+    match shelf.fetch(alloc, name, max) {
+        Ok(bytes) => Ok(bytes),
+        Err(FetchFault::Missing | FetchFault::Failed) => Err(Status::ReadFault { input }),
+        Err(FetchFault::TooLarge { seen }) => Err(Status::TooLarge { input, seen, max }),
+        Err(FetchFault::NoMemory) => Err(Status::NoMemory),
+    }
+}
+
+/// Reads a state: so far the empty one alone.
+fn read_base(state: &[u8]) -> Result<(), Status>
+    ensures state { IfOk result (λ _. IsState state.now) }
+    ensures cause { IfErr result (StateCause state.now) }
+{
+    if state == EMPTY_STATE {
+        Ok(())
+    } else {
+        Err(Status::Unbuilt {
+            input: Input::State,
+        })
+    }
+}
+
+/// Fetches and checks the state.
+fn accept_state<S: Shelf>(alloc: Global, shelf: &mut S, run: &Run) -> Result<Vec<u8>, Status>
+    ensures files { S.files shelf.new ≡ S.files shelf.old }
+    ensures keep_faults { S.keep_faults shelf.new ≡ S.keep_faults shelf.old }
+    ensures fetch_faults { S.fetch_faults shelf.old ≤ S.fetch_faults shelf.new }
+    ensures accepted { IfOk result (λ state. Told (S.files shelf.old) (λ files. accepted_state (run_of run.now) files ≡ Ok state.items)) }
+    ensures state { IfOk result (λ state. IsState state.items) }
+    ensures refused { IfErr result (PricesRefusedFor (S.files shelf.old) (run_of run.now) (S.fetch_faults shelf.old) (S.fetch_faults shelf.new)) }
+{
+    let state = match take(alloc, shelf, run.state.as_str(), Input::State, STATE_MAX) {
+        Ok(state) => state,
+        Err(status) => return Err(status),
+    };
+    match read_base(state.as_slice()) {
+        Ok(()) => Ok(state),
+        Err(status) => Err(status),
+    }
+}
+
+/// The status of what a price text is refused for, or that memory is wanted.
+fn status_of_price_fault(fault: PriceFault) -> Status
+    ensures { PriceStatusOf fault (price_refusal fault) result }
+{
+    match fault {
+        PriceFault::NoMemory => Status::NoMemory,
+        fault => Status::Prices(fault),
+    }
+}
+
+/// The prices that a text gives.
+fn prices_in(alloc: Global, text: &[u8]) -> Result<Prices, Status>
+    ensures prices { IfOk result (λ prices. priced text.now ≡ Ok prices) }
+    ensures refused { IfErr result (PriceCause text.now) }
+{
+    match read_prices(alloc, text) {
+        Ok(prices) => Ok(prices),
+        Err(fault) => Err(status_of_price_fault(fault)),
+    }
+}
+
+/// Fetches and checks the prices, after the state. Gives the state's bytes with them.
+pub(crate) fn accept_prices<S: Shelf>(
+    alloc: Global,
+    shelf: &mut S,
+    run: &Run,
+) -> Result<(Vec<u8>, Prices), Status>
+    ensures files { S.files shelf.new ≡ S.files shelf.old }
+    ensures keep_faults { S.keep_faults shelf.new ≡ S.keep_faults shelf.old }
+    ensures fetch_faults { S.fetch_faults shelf.old ≤ S.fetch_faults shelf.new }
+    ensures accepted { IfOk result (λ p. Told (S.files shelf.old) (λ files. accepted_prices (run_of run.now) files ≡ Ok (p.0.items, p.1))) }
+    ensures state { IfOk result (λ p. IsState p.0.items) }
+    ensures told { IfOk result (λ _. Told (S.files shelf.old) (HasState (run_of run.now))) }
+    ensures refused { IfErr result (PricesRefusedFor (S.files shelf.old) (run_of run.now) (S.fetch_faults shelf.old) (S.fetch_faults shelf.new)) }
+{
+    let state = match accept_state(alloc, shelf, run) {
+        Ok(state) => state,
+        Err(status) => return Err(status),
+    };
+    let text = match take(alloc, shelf, run.prices.as_str(), Input::Prices, PRICES_MAX) {
+        Ok(text) => text,
+        Err(status) => return Err(status),
+    };
+    match prices_in(alloc, text.as_slice()) {
+        Ok(prices) => Ok((state, prices)),
+        Err(status) => Err(status),
+    }
+}
+
+/// Checks the limit, after the state and the prices.
+pub(crate) fn accept_limit<S: Shelf>(
+    alloc: Global,
+    shelf: &mut S,
+    run: &Run,
+    limit: u64,
+) -> Result<(Vec<u8>, Prices), Status>
+    ensures files { S.files shelf.new ≡ S.files shelf.old }
+    ensures keep_faults { S.keep_faults shelf.new ≡ S.keep_faults shelf.old }
+    ensures fetch_faults { S.fetch_faults shelf.old ≤ S.fetch_faults shelf.new }
+    ensures accepted { IfOk result (λ p. Told (S.files shelf.old) (λ files. accepted_limit (run_of run.now) limit files ≡ Ok (p.0.items, p.1))) }
+    ensures state { IfOk result (λ p. IsState p.0.items) }
+    ensures told { IfOk result (λ _. Told (S.files shelf.old) (HasState (run_of run.now))) }
+    ensures in_range { IfOk result (λ p. limit ≤ greatest_limit p.1) }
+    ensures refused { IfErr result (RefusedFor (S.files shelf.old) (run_of run.now) limit (S.fetch_faults shelf.old) (S.fetch_faults shelf.new)) }
+{
+    let (state, prices) = match accept_prices(alloc, shelf, run) {
+        Ok(given) => given,
+        Err(status) => return Err(status),
+    };
+    let most = most_limit(&prices);
+    if limit == 0 || limit > most {
+        return Err(Status::Limit { limit, most });
+    }
+    Ok((state, prices))
+}

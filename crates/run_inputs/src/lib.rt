@@ -1,0 +1,10 @@
+//! What a deploy and a replay need: their files are fetched and checked, each just before it is needed.
+//!
+//! The first refusal ends it, with the status that says it. Nothing is kept or put here.
+#![tactic(auto)]
+
+pub mod accept;
+mod fetch;
+
+pub use accept::{Inputs, ReplayInputs, accept, accept_replay};
+pub use fetch::EMPTY_STATE;

@@ -1,0 +1,9 @@
+//! How a call of the interpreter ended: its status, the exit status of the program, and the line for standard error.
+#![tactic(auto)]
+
+pub mod status;
+mod wording;
+
+pub use command_words::{Usage, Verb};
+pub use run_verdict::Verdict;
+pub use status::{Input, Status, status_of};
