@@ -4,3 +4,4 @@ pub mod Running
 pub mod Replays
 pub mod Answering
 pub mod ReplayEnding
+pub mod Kept

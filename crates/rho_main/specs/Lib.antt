@@ -8,3 +8,4 @@ pub mod Plan
 pub mod Replaying
 pub mod ReplayPlans
 pub mod Replays
+pub mod Laws

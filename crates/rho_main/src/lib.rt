@@ -3,6 +3,7 @@
 
 pub mod deploy;
 mod genesis;
+pub mod laws;
 mod next;
 pub mod replay;
 pub mod top;
