@@ -9,7 +9,7 @@ use Rattle.run_reports.specs.Stops.{StopsOnTheWay}
 use Rattle.run_status.specs.Endings.{OnHalt}
 use Rattle.run_status.specs.declared.status.Status.{Status}
 use Rattle.run_status.specs.declared.status.Status.TheVariants.{Done, WriteFault, NoMemory}
-use Rattle.rho_main.specs.World.{World}
+use Rattle.run_deploys.specs.World.{World}
 
 -- the file that is kept: the empty state under this name
 abbrev pub entries_of : List ℕ → List (List ℕ × List ℕ)

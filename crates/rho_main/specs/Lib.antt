@@ -1,11 +1,2 @@
 pub mod Words
-pub mod World
-pub mod Runs
-pub mod Ends
-pub mod Deploys
 pub mod Genesis
-pub mod Plan
-pub mod Replaying
-pub mod ReplayPlans
-pub mod Replays
-pub mod Laws

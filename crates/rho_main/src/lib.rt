@@ -1,11 +1,7 @@
 //! The interpreter's top call: from the words of a command line, through files and an output, to a status.
 #![tactic(auto)]
 
-pub mod deploy;
 mod genesis;
-pub mod laws;
-mod next;
-pub mod replay;
 pub mod top;
 
 pub use command_words::{Usage, Verb};

@@ -2,16 +2,16 @@ ghost use Rattle.std.specs.Prelude.{◌≡◌, ◌⊎◌, IfOk, IfErr, Some, Ok,
 ghost use Rattle.command_words.specs.Answers.{answer_of, request_of};
 ghost use Rattle.run_status.specs.Endings.{OnUsage, OnUnbuiltVerb, SaysUsage};
 ghost use Rattle.rho_main.specs.Words.{IsRefusal, IsSaidBy, IsUnbuiltIn, OnDeploy, OnGenesis, OnReplay, OnUnbuilt, Tells};
-ghost use Rattle.rho_main.specs.Deploys.{IsDeploy};
+ghost use Rattle.run_deploys.specs.Deploys.{IsDeploy};
 ghost use Rattle.rho_main.specs.Genesis.{IsGenesis};
-ghost use Rattle.rho_main.specs.Replays.{IsReplay};
-ghost use Rattle.rho_main.specs.World.{world};
+ghost use Rattle.run_replays.specs.Replays.{IsReplay};
+ghost use Rattle.run_deploys.specs.World.{world};
 
-use crate::deploy::deploy;
 use crate::genesis::genesis;
-use crate::replay::replay;
 use command_words::{Command, Usage, Verb, read_command};
 use rho_outside::{Gate, Shelf, Sink};
+use run_deploys::deploy;
+use run_replays::replay;
 use run_status::Status;
 use std::alloc::Global;
 use std::sync::Wait;

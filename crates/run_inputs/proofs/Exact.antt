@@ -32,7 +32,7 @@ ok_of P (Err e) h = absurd h
 -- a result that is accepted has a value
 pub ok_value : {A E : Type 0} (r : Result A E) → IsOk r → (x : A) × (r ≡ Ok x)
 ok_value (Ok x) h = (x, refl)
-ok_value (Err e) h = absurd h
+ok_value (Err e) h = absurd cc
 
 -- what holds of each value that is accepted holds if one is
 pub if_ok : {A E : Type 0} (P : A → Type 0) (r : Result A E) → ((x : A) → r ≡ Ok x → P x) → IfOk r P
@@ -123,28 +123,28 @@ module _ (told : Option FileMap) (names : RunRequest) (limit before now : ℕ) (
 
   -- a state that is none is said to be none
   pub deploy_state_exact : (s : Status) → DeployEnds told names limit before now s → (state : List ℕ) → accepted_state names files ≡ Ok state → ¬ (Rose before now) → IsNoState state → SaysNoState s
-  deploy_state_exact (status.ReadFault i) h state a n no = absurd (go i h.1 h.0)
+  deploy_state_exact (status.ReadFault i) h state a n other = absurd (go i h.1 h.0)
     where
       go : (i : Input) → Reaches told names limit i → Rose before now ⊎ Lacks told (name_of names i) → ⊥
       go i k (inl r) = n r
       go State k (inr l) = ok_err (accepted_state names files) state (missing State) a (given_missing names files State (subst (λ (t : Option FileMap). Lacks t (name_of names State)) e l))
-      go Prices k (inr l) = not_none names files state a (may_have names files (k files e)) no
-      go Source k (inr l) = not_none names files state a (may_have names files (k files e).0) no
+      go Prices k (inr l) = not_none names files state a (may_have names files (k files e)) other
+      go Source k (inr l) = not_none names files state a (may_have names files (k files e).0) other
       go Log k (inr l) = k
-  deploy_state_exact (status.TooLarge i seen max) h state a n no = absurd (not_none names files state a (h.1.1.1 files e).0 no)
-  deploy_state_exact (status.Unbuilt i) h state a n no = h.0
-  deploy_state_exact (status.Prices f) h state a n no = absurd (not_none names files state a (h files e).1.1.0 no)
-  deploy_state_exact (status.Limit m most) h state a n no = absurd (not_none names files state a (h.1 files e).0 no)
-  deploy_state_exact (status.Source f) h state a n no = absurd (not_none names files state a (may_have names files (h files e).0) no)
-  deploy_state_exact status.NoMemory h state a n no = tt
-  deploy_state_exact status.Done h state a n no = absurd (not_none names files state a (may_have names files (h files e).0) no)
-  deploy_state_exact status.Exhausted h state a n no = absurd (not_none names files state a (may_have names files (h files e).0) no)
-  deploy_state_exact status.Faulted h state a n no = absurd (not_none names files state a (may_have names files (h files e).0) no)
-  deploy_state_exact status.WriteFault h state a n no = absurd (not_none names files state a (may_have names files (h files e).0) no)
-  deploy_state_exact (status.Usage u) h state a n no = absurd h
-  deploy_state_exact (status.Log f) h state a n no = absurd h
-  deploy_state_exact (status.Replay f) h state a n no = absurd h
-  deploy_state_exact (status.UnbuiltVerb v) h state a n no = absurd h
+  deploy_state_exact (status.TooLarge i seen max) h state a n other = absurd (not_none names files state a (h.1.1.1 files e).0 other)
+  deploy_state_exact (status.Unbuilt i) h state a n other = h.0
+  deploy_state_exact (status.Prices f) h state a n other = absurd (not_none names files state a (h files e).1.1.0 other)
+  deploy_state_exact (status.Limit m most) h state a n other = absurd (not_none names files state a (h.1 files e).0 other)
+  deploy_state_exact (status.Source f) h state a n other = absurd (not_none names files state a (may_have names files (h files e).0) other)
+  deploy_state_exact status.NoMemory h state a n other = tt
+  deploy_state_exact status.Done h state a n other = absurd (not_none names files state a (may_have names files (h files e).0) other)
+  deploy_state_exact status.Exhausted h state a n other = absurd (not_none names files state a (may_have names files (h files e).0) other)
+  deploy_state_exact status.Faulted h state a n other = absurd (not_none names files state a (may_have names files (h files e).0) other)
+  deploy_state_exact status.WriteFault h state a n other = absurd (not_none names files state a (may_have names files (h files e).0) other)
+  deploy_state_exact (status.Usage u) h state a n other = absurd h
+  deploy_state_exact (status.Log f) h state a n other = absurd h
+  deploy_state_exact (status.Replay f) h state a n other = absurd h
+  deploy_state_exact (status.UnbuiltVerb v) h state a n other = absurd h
 
   module _ (task : Task) (a : accepted names limit files ≡ Ok task) (n : ¬ (Rose before now)) (has : HasState names files) where
     no-refusal : (r : Refusal) → accepted names limit files ≡ Err r → ⊥

@@ -1,6 +1,7 @@
 -- Why inputs are refused, from what each call found.
 use Rattle.std.proofs.Common.{◌≡◌, ◌∙◌, ℕ, ◌≤◌, ◌<◌, List, length, Result, Ok, Err, Option, Some, None, IfSome, ◌⊎◌, inl, inr, refl, sym, ap, subst, arith}
-use Rattle.std.specs.Prelude.{IsSomeAnd}
+use Rattle.std.specs.Prelude.{IsSomeAnd, min, ◌+◌, ◌-◌, ◌^◌}
+use Rattle.std.proofs.Math.Nat.{le-min, min-le_left, min-le_right}
 use Rattle.std.proofs.lemmas.Bool.{lt-leb}
 use Rattle.std.specs.Result.{IsOkAnd, IfOk, IsOk}
 use Rattle.calculus.specs.Outcome.{Prices as PriceTable}
@@ -24,7 +25,10 @@ use Rattle.run_status.specs.declared.status.Status.TheVariants as status
 
 -- a count that rose later rose
 pub rose_later : (before mid now : ℕ) → before ≤ mid → Rose mid now → Rose before now
-rose_later before mid now h r = omega (arith, h, r)
+rose_later before mid now h r =
+    let most = 2 ^ 64 - 1 in
+    let less : min (before + 1) most ≤ min (mid + 1) most = le-min (omega (arith, min-le_left (before + 1) most, h)) (min-le_right (before + 1) most) in
+    let rose : min (mid + 1) most ≤ now = r in omega (arith, less, rose)
 
 -- a result that is this value has what the value has
 pub ok_and : {A E : Type 0} (P : A → Type 0) (r : Result A E) (x : A) → r ≡ Ok x → P x → IsOkAnd r P

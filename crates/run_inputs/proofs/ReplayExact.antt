@@ -21,15 +21,16 @@ use Rattle.run_status.specs.declared.status.Input.TheVariants.{State, Prices, So
 use Rattle.run_status.specs.declared.status.Status.{Status}
 use Rattle.run_status.specs.declared.status.Status.TheVariants as status
 
--- of two equal results that are accepted so, one has what the other has
+-- equal values stand in equal results
+inside : {A : Type 0} (x y : A) → (let r : Result A Refusal = Ok x in r) ≡ Ok y → x ≡ y
+inside x y e = cc e
+
+-- a source is accepted before its log
 source-run : (names : RunRequest) (files : FileMap) (inputs : Task × List ℕ) → accepted_log names files ≡ Ok inputs → accepted_source names files ≡ Ok inputs.0
 source-run names files inputs a = go (accepted_source names files) refl
   where
     bare : (task : Task) (r : Result (List ℕ) Refusal) → beside task r ≡ Ok inputs → task ≡ inputs.0
-    bare task (Ok log) h = let k : Ok (task, log) ≡ Ok inputs = h in ap (λ (p : Task × List ℕ). p.0) (inside (task, log) inputs k)
-      where
-        inside : (x y : Task × List ℕ) → Ok x ≡ Ok y → x ≡ y
-        inside x y k = cc k
+    bare task (Ok log) h = ap (λ (p : Task × List ℕ). p.0) (inside (task, log) inputs h)
     bare task (Err r) h = absurd cc
 
     go : (r : Result Task Refusal) → accepted_source names files ≡ r → accepted_source names files ≡ Ok inputs.0
@@ -117,28 +118,28 @@ module _ (More : Status → Task × List ℕ → Type 0) (told : Option FileMap)
 
   -- a state that is none is said to be none
   pub replay_state_exact : (s : Status) → ReplayEnds More told names before now s → (state : List ℕ) → accepted_state names files ≡ Ok state → ¬ (Rose before now) → IsNoState state → SaysNoState s
-  replay_state_exact (status.ReadFault i) h state a n no = absurd (go i h.1 h.0)
+  replay_state_exact (status.ReadFault i) h state a n other = absurd (go i h.1 h.0)
     where
       go : (i : Input) → ReplayReaches told names i → Rose before now ⊎ Lacks told (name_of names i) → ⊥
       go i k (inl r) = n r
       go State k (inr l) = ok_err (accepted_state names files) state (missing State) a (given_missing names files State (subst (λ (t : Option FileMap). Lacks t (name_of names State)) e l))
-      go Prices k (inr l) = not_none names files state a (may_have names files (k files e)) no
-      go Source k (inr l) = not_none names files state a (may_have names files (k files e).0) no
-      go Log k (inr l) = not_none names files state a (may_have names files (k files e).0) no
-  replay_state_exact (status.TooLarge i seen max) h state a n no = absurd (not_none names files state a (h.1.1.1 files e).0 no)
-  replay_state_exact (status.Unbuilt i) h state a n no = h.0
-  replay_state_exact (status.Prices f) h state a n no = absurd (not_none names files state a (h files e).1.1.0 no)
-  replay_state_exact (status.Source f) h state a n no = absurd (not_none names files state a (may_have names files (h files e).0) no)
-  replay_state_exact (status.Log f) h state a n no = absurd (not_none names files state a (may_have names files (h files e).0) no)
-  replay_state_exact status.NoMemory h state a n no = tt
-  replay_state_exact status.Done h state a n no = absurd (not_none names files state a (may_have names files (h files e).0) no)
-  replay_state_exact status.Exhausted h state a n no = absurd (not_none names files state a (may_have names files (h files e).0) no)
-  replay_state_exact status.Faulted h state a n no = absurd (not_none names files state a (may_have names files (h files e).0) no)
-  replay_state_exact status.WriteFault h state a n no = absurd (not_none names files state a (may_have names files (h files e).0) no)
-  replay_state_exact (status.Replay f) h state a n no = absurd (not_none names files state a (may_have names files (h files e).0) no)
-  replay_state_exact (status.Usage u) h state a n no = absurd h
-  replay_state_exact (status.Limit m most) h state a n no = absurd h
-  replay_state_exact (status.UnbuiltVerb v) h state a n no = absurd h
+      go Prices k (inr l) = not_none names files state a (may_have names files (k files e)) other
+      go Source k (inr l) = not_none names files state a (may_have names files (k files e).0) other
+      go Log k (inr l) = not_none names files state a (may_have names files (k files e).0) other
+  replay_state_exact (status.TooLarge i seen max) h state a n other = absurd (not_none names files state a (h.1.1.1 files e).0 other)
+  replay_state_exact (status.Unbuilt i) h state a n other = h.0
+  replay_state_exact (status.Prices f) h state a n other = absurd (not_none names files state a (h files e).1.1.0 other)
+  replay_state_exact (status.Source f) h state a n other = absurd (not_none names files state a (may_have names files (h files e).0) other)
+  replay_state_exact (status.Log f) h state a n other = absurd (not_none names files state a (may_have names files (h files e).0) other)
+  replay_state_exact status.NoMemory h state a n other = tt
+  replay_state_exact status.Done h state a n other = absurd (not_none names files state a (may_have names files (h files e).0) other)
+  replay_state_exact status.Exhausted h state a n other = absurd (not_none names files state a (may_have names files (h files e).0) other)
+  replay_state_exact status.Faulted h state a n other = absurd (not_none names files state a (may_have names files (h files e).0) other)
+  replay_state_exact status.WriteFault h state a n other = absurd (not_none names files state a (may_have names files (h files e).0) other)
+  replay_state_exact (status.Replay f) h state a n other = absurd (not_none names files state a (may_have names files (h files e).0) other)
+  replay_state_exact (status.Usage u) h state a n other = absurd h
+  replay_state_exact (status.Limit m most) h state a n other = absurd h
+  replay_state_exact (status.UnbuiltVerb v) h state a n other = absurd h
 
   module _ (inputs : Task × List ℕ) (a : accepted_log names files ≡ Ok inputs) (n : ¬ (Rose before now)) (has : HasState names files) where
     no-replay-refusal : (r : Refusal) → IsReplayRefusal names files r → ⊥

@@ -1,6 +1,6 @@
 -- What is refused of the state and the prices is refused of a deploy and of a replay, and what comes after them.
 use Rattle.std.proofs.Common.{◌≡◌, ◌∙◌, ℕ, ◌≤◌, List, Result, Ok, Err, Option, Some, None, ◌⊎◌, inl, inr, refl, sym, ap, subst}
-use Rattle.std.specs.Result.{IsOkAnd, IsOk}
+use Rattle.std.specs.Result.{IsOkAnd, IfOk, IsOk}
 use Rattle.calculus.specs.Outcome.{Prices as PriceTable}
 use Rattle.rho_outside.specs.Causes.{Rose}
 use Rattle.rho_outside.specs.FileMap.{FileMap}
@@ -82,7 +82,7 @@ may-have names files h = go (accepted_state names files) h
     go (Err e) k = tt
 
 is-ok : {A : Type 0} (r : Result A Refusal) (x : A) → r ≡ Ok x → IsOk r
-is-ok r x e = subst (λ (q : Result _ Refusal). IsOk q) (sym e) tt
+is-ok r x e = subst (λ (q : Result _ Refusal). IsOk q) (sym e) refl
 
 module _ (told : Option FileMap) (names : RunRequest) (before mid now : ℕ) (later : before ≤ mid) (has : Told told (HasState names)) where
   module _ (limit : ℕ) (p : List ℕ × PriceTable) (accepted-limit : Told told (λ files. accepted_limit names limit files ≡ Ok p)) where

@@ -3,8 +3,8 @@ use Rattle.std.specs.Prelude.{◌≡◌, ℕ, List, map, Ok, Err, ⊤}
 use Rattle.event_log.specs.Reading.{log_of}
 use Rattle.event_log.specs.View.{header_of, step_of}
 use Rattle.run_inputs.specs.Inputs.{Task}
-use Rattle.run_inputs.specs.declared.accept.Inputs.{Inputs}
-use Rattle.run_inputs.specs.declared.accept.ReplayInputs.{ReplayInputs}
+use Rattle.run_inputs.specs.declared.acceptance.Inputs.{Inputs}
+use Rattle.run_inputs.specs.declared.acceptance.ReplayInputs.{ReplayInputs}
 use Rattle.run_status.specs.declared.status.Status.{Status}
 use Rattle.run_status.specs.declared.status.Status.TheVariants as status
 

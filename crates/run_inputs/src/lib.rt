@@ -3,8 +3,8 @@
 //! The first refusal ends it, with the status that says it. Nothing is kept or put here.
 #![tactic(auto)]
 
-pub mod accept;
+pub mod acceptance;
 mod fetch;
 
-pub use accept::{Inputs, ReplayInputs, accept, accept_replay};
+pub use acceptance::{Inputs, ReplayInputs, accept, accept_replay};
 pub use fetch::EMPTY_STATE;

@@ -1,0 +1,46 @@
+-- How a deploy ended, as far as its inputs tell.
+use Rattle.std.proofs.Common.{◌≡◌, ℕ, Option, Ok, sym, subst}
+use Rattle.calculus.specs.Tree.{Tree}
+use Rattle.rho_outside.specs.FileMap.{FileMap}
+use Rattle.rho_outside.specs.Told.{Told}
+use Rattle.command_words.specs.Commands.{RunRequest}
+use Rattle.sources.specs.Sources.{IsSourceOf}
+use Rattle.run_verdict.specs.declared.verdict.Verdict.{Verdict}
+use Rattle.run_verdict.specs.declared.verdict.Verdict.TheVariants as ending
+use Rattle.run_inputs.specs.Inputs.{Task, accepted}
+use Rattle.run_inputs.specs.Runnable.{IsState, IsRunnable, HasState}
+use Rattle.run_inputs.specs.Refused.{RefusedFor}
+use Rattle.run_inputs.specs.Ended.{IsAccepted, DeployEnds}
+use Rattle.run_status.specs.Endings.{status_of}
+use Rattle.run_status.specs.declared.status.Status.{Status}
+use Rattle.run_status.specs.declared.status.Status.TheVariants as status
+use Rattle.run_deploys.proofs.Leaving.{ok_and}
+
+module _ (told : Option FileMap) (names : RunRequest) (limit before now : ℕ) where
+  -- a refusal has its cause
+  pub refused_ends : (s : Status) → RefusedFor told names limit before now s → DeployEnds told names limit before now s
+  refused_ends (status.ReadFault i) h = h
+  refused_ends (status.TooLarge i n m) h = h
+  refused_ends (status.Unbuilt i) h = h
+  refused_ends (status.Prices f) h = h
+  refused_ends (status.Limit n m) h = h
+  refused_ends (status.Source f) h = h
+  refused_ends status.NoMemory h = h
+  refused_ends status.Done h = absurd h
+  refused_ends status.Exhausted h = absurd h
+  refused_ends status.Faulted h = absurd h
+  refused_ends status.WriteFault h = absurd h
+  refused_ends (status.Usage u) h = absurd h
+  refused_ends (status.Log f) h = absurd h
+  refused_ends (status.Replay f) h = absurd h
+  refused_ends (status.UnbuiltVerb v) h = absurd h
+
+  -- with a verdict all was accepted
+  pub verdict_ends : (v : Verdict) (s : Status) → s ≡ status_of v → IsAccepted told names limit → DeployEnds told names limit before now s
+  verdict_ends ending.Done s e h = subst (λ (x : Status). DeployEnds told names limit before now x) (sym e) h
+  verdict_ends ending.Exhausted s e h = subst (λ (x : Status). DeployEnds told names limit before now x) (sym e) h
+  verdict_ends (ending.Faulted step kind) s e h = subst (λ (x : Status). DeployEnds told names limit before now x) (sym e) h
+
+-- what a deploy accepted
+pub accepted_in : (told : Option FileMap) (names : RunRequest) (limit : ℕ) (task : Task) → Told told (λ files. accepted names limit files ≡ Ok task) → Told told (HasState names) → IsState task.state → (t : Tree) → IsSourceOf task.source t → IsAccepted told names limit
+accepted_in told names limit task there has is t spelt = λ files e. (has files e, ok_and IsRunnable (accepted names limit files) task (there files e) (is, (t, spelt)))

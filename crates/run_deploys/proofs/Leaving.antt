@@ -1,0 +1,71 @@
+-- What a written plan leaves of the told files and bytes.
+use Rattle.std.proofs.Common.{◌≡◌, ◌∙◌, ℕ, List, [], ◌∷◌, Option, Result, Ok, ap, sym, subst}
+use Rattle.std.specs.Result.{IsOkAnd}
+use Rattle.calculus.specs.Log.{log_text}
+use Rattle.rho_outside.specs.FileMap.{FileMap}
+use Rattle.rho_outside.specs.Put.{GrewBy}
+use Rattle.rho_outside.specs.Kept.{with_files}
+use Rattle.command_words.specs.Commands.{RunRequest}
+use Rattle.run_inputs.specs.Inputs.{Task}
+use Rattle.run_reports.specs.Stops.{StopsOnTheWay}
+use Rattle.run_status.specs.Endings.{OnVerdict, status_of}
+use Rattle.run_status.specs.declared.status.Status.{Status}
+use Rattle.run_status.specs.declared.status.Status.TheVariants.{Done, Usage, ReadFault, WriteFault, Source, Prices, Limit, Log, Replay, Unbuilt, UnbuiltVerb, Exhausted, Faulted, NoMemory, TooLarge}
+use Rattle.run_deploys.specs.Runs.{header_of}
+use Rattle.run_deploys.specs.Ends.{LeavesAll, LeavesSome, entries_of, bytes_of}
+use Rattle.run_deploys.specs.Plan.{IsPlan}
+use Rattle.run_deploys.specs.declared.deploys.Plan.{Plan}
+
+-- what holds anyhow holds where a run ended with a verdict
+pub on_verdict : (s : Status) (P : Type 0) → P → OnVerdict s P
+on_verdict Done P p = p
+on_verdict Exhausted P p = p
+on_verdict Faulted P p = p
+on_verdict (Usage u) P p = tt
+on_verdict (ReadFault i) P p = tt
+on_verdict WriteFault P p = tt
+on_verdict (Source f) P p = tt
+on_verdict (Prices f) P p = tt
+on_verdict (Limit n m) P p = tt
+on_verdict (Log f) P p = tt
+on_verdict (Replay f) P p = tt
+on_verdict (Unbuilt i) P p = tt
+on_verdict (UnbuiltVerb v) P p = tt
+on_verdict NoMemory P p = tt
+on_verdict (TooLarge i n m) P p = tt
+
+-- a result that is this value has what the value has
+pub ok_and : {A E : Type 0} (P : A → Type 0) (r : Result A E) (x : A) → r ≡ Ok x → P x → IsOkAnd r P
+ok_and P r x e p = let Q = λ (s : Result _ _). IsOkAnd s P in subst Q (sym e) p
+
+-- the entries of a plan, as they are kept
+abbrev planned : RunRequest → Plan → List (List ℕ × List ℕ)
+planned names p = (names.log, p.log.items) ∷ (names.next, p.next.items) ∷ []
+
+-- they are those of what is left
+same-entries : (names : RunRequest) (limit : ℕ) (task : Task) (p : Plan) (plan : IsPlan limit task p) → planned names p ≡ entries_of names plan.rows task limit plan.left
+same-entries names limit task p plan =
+    ap (λ (l : List ℕ). (names.log, l) ∷ (names.next, p.next.items) ∷ []) plan.log
+    ∙ ap (λ (n : List ℕ). (names.log, log_text (header_of plan.rows task limit) plan.left.steps) ∷ (names.next, n) ∷ []) plan.next
+
+-- a plan that was written is all that a deploy leaves
+pub leaves_all : (s : Status) (names : RunRequest) (limit : ℕ) (task : Task) (p : Plan) (old mid new : Option FileMap) (before after : Option (List ℕ))
+    → IsPlan limit task p → s ≡ status_of p.verdict → mid ≡ old
+    → new ≡ with_files ((names.log, p.log.items) ∷ (names.next, p.next.items) ∷ []) mid → GrewBy p.bytes.items before after
+    → LeavesAll s names limit old new before after task
+leaves_all s names limit task p old mid new before after plan e same kept put =
+    let entries = entries_of names plan.rows task limit plan.left in
+    let files : new ≡ with_files entries old = kept ∙ (ap (λ es. with_files es mid) (same-entries names limit task p plan) ∙ ap (with_files entries) same) in
+    (plan.rows, (plan.left, (record { run = plan.run; verdict = e ∙ ap status_of plan.verdict }, (files, subst (λ (l : List ℕ). GrewBy l before after) plan.bytes put))))
+
+-- a plan that was written in part is some of what a deploy leaves
+pub leaves_some : (names : RunRequest) (limit : ℕ) (task : Task) (p : Plan) (old mid new : Option FileMap) (faults_old faults_mid faults_new : ℕ) (before after : Option (List ℕ))
+    → IsPlan limit task p → mid ≡ old → faults_mid ≡ faults_old
+    → StopsOnTheWay ((names.log, p.log.items) ∷ (names.next, p.next.items) ∷ []) p.bytes.items mid new faults_mid faults_new before after
+    → LeavesSome names limit old new faults_old faults_new before after task
+leaves_some names limit task p old mid new f g h before after plan same count stops =
+    let F = λ (es : List (List ℕ × List ℕ)) (bytes : List ℕ) (m : Option FileMap) (k : ℕ). StopsOnTheWay es bytes m new k h before after in
+    let entries = entries_of names plan.rows task limit plan.left in
+    let all : F entries (bytes_of plan.left) old f =
+    subst (F entries (bytes_of plan.left) old) count (subst (λ m. F entries (bytes_of plan.left) m g) same (subst (λ b. F entries b mid g) plan.bytes (subst (λ es. F es p.bytes.items mid g) (same-entries names limit task p plan) stops))) in
+    (plan.rows, (plan.left, (plan.run, all)))

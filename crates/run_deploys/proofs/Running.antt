@@ -1,0 +1,96 @@
+-- What a run leaves, from what was played.
+use Rattle.std.proofs.Common.{◌≡◌, ◌≢◌, ◌≤◌, ◌⊎◌, inl, inr, ℕ, List, [], ◌∷◌, ◌++◌, length, get_or, map as each, replicate, refl, sym, ◌∙◌, ap, subst, arith}
+use Rattle.std.specs.Prelude.{All, IsPermutation}
+use Rattle.std.proofs.lemmas.List.{length-map}
+use Rattle.std.proofs.lemmas.List.Elements.{All-map}
+use Rattle.calculus.specs.declared.ids.Digest.{Digest}
+use Rattle.calculus.specs.Tree.{Tree}
+use Rattle.calculus.specs.Log.{Step}
+use Rattle.calculus.specs.Rows.{Row}
+use Rattle.calculus.specs.Root.{root}
+use Rattle.calculus.specs.Steps.{Bag, stored_rows}
+use Rattle.calculus.specs.Runs.{Deploy, State, IsLegal, IsRun, Verdict, done, verdict, next_rows}
+use Rattle.event_log.specs.declared.log.LogStep.{LogStep}
+use Rattle.event_log.specs.View as logged
+use Rattle.event_log.specs.View.{step_of}
+use Rattle.states.specs.States.{state_text}
+use Rattle.states.proofs.Groups.{root_ignores_order, text_ignores_order}
+use Rattle.sources.specs.Sources.{IsSourceOf}
+use Rattle.events.specs.Events.{AreFresh}
+use Rattle.events.proofs.Spending.{ids_are_spent_once}
+use Rattle.fresh_digests.specs.Numbers.{IsNumberable}
+use Rattle.fresh_digests.specs.Premises.{Collides}
+use Rattle.fresh_sources.proofs.Sources.{source_texts_are_numberable}
+use Rattle.run_verdict.specs.View.{verdict_of}
+use Rattle.run_verdict.specs.declared.verdict.Verdict.{Verdict as Ending}
+use Rattle.run_verdict.specs.declared.verdict.Verdict.TheVariants as ending
+use Rattle.worker_round.specs.Courses.{IsRunOf}
+use Rattle.run_deploys.specs.Runs.{printed, SpendsOnce, TakesInRange, ShowsAClash, IsLeftByRun}
+
+-- the root of no rows
+pub root_of_none : replicate 32 0 ≡ root []
+unfolding root
+root_of_none = refl
+
+-- along a run whose digests are fresh no id is spent twice
+spends-once : (deploy : Deploy) (ss : List Step) (a : State) → IsRun deploy ss a → AreFresh deploy ss → SpendsOnce deploy ss
+spends-once deploy ss a r f before between after s u id e h k =
+    let legal : IsLegal deploy (before ++ s ∷ (between ++ u ∷ after)) = subst (IsLegal deploy) e (a, r.leads) in
+    let fresh : AreFresh deploy (before ++ s ∷ (between ++ u ∷ after)) = subst (AreFresh deploy) e f in
+    ids_are_spent_once deploy before between after s u id legal fresh h k
+
+-- the root and the text of the rows that a run leaves, in any order where it is done
+module _ (b : Bag) (rows base : List Row) (digest text : List ℕ) where
+  ends-with : (v : Ending) → (verdict_of v ≡ done → IsPermutation rows (stored_rows b)) → (v ≡ ending.Done → (digest ≡ root rows) × (text ≡ state_text rows)) → (v ≢ ending.Done → (digest ≡ root base) × (text ≡ state_text base))
+      → (digest ≡ root (next_rows base (verdict_of v) b)) × (text ≡ state_text (next_rows base (verdict_of v) b))
+  ends-with ending.Done m d o = ((d refl).0 ∙ root_ignores_order _ _ (m refl), (d refl).1 ∙ text_ignores_order _ _ (m refl))
+  ends-with ending.Exhausted m d o = o (λ e. cc)
+  ends-with (ending.Faulted step kind) m d o = o (λ e. cc)
+
+-- what was played is what the run leaves, with the root and the text of its rows
+left-by-run : (deploy : Deploy) (steps : List Step) (v : Ending) (charge : ℕ) (rows : List Row) (output digest text : List ℕ) (count : ℕ)
+    → IsRunOf deploy steps (verdict_of v) charge rows output
+    → (v ≡ ending.Done → (digest ≡ root rows) × (text ≡ state_text rows)) → (v ≢ ending.Done → (digest ≡ root deploy.rows) × (text ≡ state_text deploy.rows))
+    → IsLeftByRun deploy (record { steps = steps; next = text; output = printed (verdict_of v) output; report = record { verdict = v; cost = charge; root = digest; steps = count } })
+left-by-run deploy steps v charge rows output digest text count r d o =
+    let Ends = λ (w : Verdict). (digest ≡ root (next_rows deploy.rows w r.state.bag)) × (text ≡ state_text (next_rows deploy.rows w r.state.bag)) in
+    let ends : Ends (verdict deploy.prices deploy.limit r.state) = subst Ends (sym r.verdict_is) (ends-with r.state.bag rows deploy.rows digest text v r.left d o) in
+    record {
+      state = r.state;
+      run = r.run;
+      once = spends-once deploy steps r.state r.run r.fresh;
+      verdict_is = sym r.verdict_is;
+      cost_is = sym r.cost_is;
+      root_is = ends.0;
+      next_is = ends.1;
+      output_is = ap (λ w. printed w output) (sym r.verdict_is) ∙ ap (printed (verdict deploy.prices deploy.limit r.state)) (sym r.output_is);
+    }
+
+-- or digests are shown to clash
+pub left_or_clash : (deploy : Deploy) (steps : List Step) (v : Ending) (charge : ℕ) (rows : List Row) (output digest text : List ℕ) (count : ℕ)
+    → IsRunOf deploy steps (verdict_of v) charge rows output ⊎ Collides deploy steps
+    → (v ≡ ending.Done → (digest ≡ root rows) × (text ≡ state_text rows)) → (v ≢ ending.Done → (digest ≡ root deploy.rows) × (text ≡ state_text deploy.rows))
+    → IsLeftByRun deploy (record { steps = steps; next = text; output = printed (verdict_of v) output; report = record { verdict = v; cost = charge; root = digest; steps = count } }) ⊎ ShowsAClash deploy steps
+left_or_clash deploy steps v charge rows output digest text count (inl r) d o = inl (left-by-run deploy steps v charge rows output digest text count r d o)
+left_or_clash deploy steps v charge rows output digest text count (inr k) d o = inr (inr k)
+
+-- with another verdict than done nothing is printed
+pub silent : (v : Ending) (output : List ℕ) → v ≢ ending.Done → printed (verdict_of v) output ≡ []
+silent ending.Done output n = absurd (n refl)
+silent ending.Exhausted output n = refl
+silent (ending.Faulted step kind) output n = refl
+
+-- four bytes number the parts and names of the process of a source
+pub numberable : (source : List ℕ) (t : Tree) → IsSourceOf source t → length source ≤ 1048576 → IsNumberable t
+numberable source t s few =
+    let spelt = s.accepted.spelt in
+    subst IsNumberable (sym s.normal) (source_texts_are_numberable _ source spelt.spanned s.process spelt.height spelt.tokens spelt.spells few)
+
+one-takes : (s : LogStep) → logged.TakesInRange s → TakesInRange (step_of s)
+one-takes s h =
+    let e = length-map s.taken.items (λ (id : Digest). id.0) in
+    record { some = omega (arith, e, h.0); few = omega (arith, e, h.1) }
+
+-- steps that take as many data as a log's may are such steps
+pub takes : (ss : List LogStep) → All logged.TakesInRange ss → All TakesInRange (each step_of ss)
+takes ss h = All-map TakesInRange step_of ss (λ k d lt. one-takes (get_or ss k d) (h k d lt))

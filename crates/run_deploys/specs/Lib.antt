@@ -1,0 +1,5 @@
+pub mod World
+pub mod Runs
+pub mod Ends
+pub mod Deploys
+pub mod Plan

@@ -1,0 +1,129 @@
+ghost use Rattle.std.specs.Prelude.{◌≡◌, ◌≤◌, ◌⊎◌, ◌∷◌, [], IfOk, length, string_bytes};
+ghost use Rattle.calculus.specs.Form.{IsClosed};
+ghost use Rattle.calculus.specs.Limits.{most_limit as greatest_limit};
+ghost use Rattle.sources.specs.Sources.{IsSourceOf};
+ghost use Rattle.rho_outside.specs.Causes.{Rose};
+ghost use Rattle.command_words.specs.Answers.{run_of};
+ghost use Rattle.run_inputs.specs.Given.{task_of};
+ghost use Rattle.run_inputs.specs.Ended.{DeployEnds};
+ghost use Rattle.run_inputs.specs.Runnable.{IsState};
+ghost use Rattle.run_status.specs.Endings.{OnRefusal, OnHalt, OnVerdict};
+ghost use Rattle.run_deploys.specs.Deploys.{IsDeploy};
+ghost use Rattle.run_deploys.specs.Ends.{Leaves, LeavesInPart};
+ghost use Rattle.run_deploys.specs.Plan.{IsPlan};
+ghost use Rattle.run_deploys.specs.World.{world};
+
+use crate::next::{next_state, printed};
+use channel_table::ChannelTable;
+use command_words::Run;
+use event_log::{Log, LogHeader, write_log};
+use name_seed::{EMPTY_ROOT, bytes_digest};
+use rho_outside::{Shelf, Sink};
+use run_inputs::{Inputs, accept};
+use run_reports::{Halt, keep_both_and_put, report};
+use run_status::{Status, status_of};
+use run_verdict::Verdict;
+use std::alloc::{AllocError, Global};
+use worker_round::{Played, play};
+
+/// All the bytes that a deploy writes, and how its run ended.
+#[derive(Drop)]
+pub struct Plan {
+    pub log: Vec<u8>,
+    pub next: Vec<u8>,
+    /// What is printed, and then the line of the report.
+    pub bytes: Vec<u8>,
+    pub verdict: Verdict,
+}
+
+/// Runs the source from the state, so far the empty one, and makes all bytes that are to be written.
+fn make_plan(alloc: Global, inputs: &Inputs, limit: u64) -> Result<Plan, AllocError>
+    requires limit { limit ≤ greatest_limit inputs.now.prices }
+    requires state { IsState inputs.now.state.items }
+    requires source { IsSourceOf inputs.now.source.items inputs.now.term }
+    requires short { length inputs.now.source.items ≤ 1048576 }
+    requires closed { IsClosed inputs.now.term }
+    ensures { IfOk result (IsPlan limit (task_of inputs.now)) }
+{
+    let source = bytes_digest(inputs.source.as_slice());
+    let Played {
+        verdict,
+        cost,
+        steps,
+        rows,
+        output,
+    } = play::<ChannelTable>(
+        alloc,
+        Vec::new(alloc),
+        &EMPTY_ROOT,
+        &inputs.term,
+        &source,
+        &inputs.prices,
+        limit,
+    )?;
+    let state = inputs.state.as_slice();
+    let (root, next) = next_state(alloc, verdict, rows.as_slice(), &EMPTY_ROOT, state)?;
+    let count = steps.len() as u32;
+    let line = report(alloc, verdict, cost, &root, count)?;
+    let mut bytes = printed(verdict, output);
+    bytes.extend_from_slice(line.as_slice())?;
+    let header = LogHeader {
+        base: EMPTY_ROOT,
+        source,
+        prices: inputs.prices.digest(),
+        limit,
+    };
+    let log = write_log(alloc, &Log { header, steps })?;
+    Ok(Plan {
+        log,
+        next,
+        bytes,
+        verdict,
+    })
+}
+
+/// Runs a source, as `deploy` does.
+fn deploy_run<S: Shelf, O: Sink>(
+    alloc: Global,
+    run: &Run,
+    limit: u64,
+    shelf: &mut S,
+    out: &mut O,
+) -> Status
+    ensures ends { DeployEnds (S.files shelf.old) (run_of run.now) limit (S.fetch_faults shelf.old) (S.fetch_faults shelf.new) result }
+    ensures stays { OnRefusal result ((S.files shelf.new ≡ S.files shelf.old) × (O.written out.new ≡ O.written out.old)) }
+    ensures write_fault { result ≡ Status.WriteFault → Rose (S.keep_faults shelf.old) (S.keep_faults shelf.new) ⊎ Rose (O.faults out.old) (O.faults out.new) }
+    ensures verdict { OnVerdict result (Leaves result (run_of run.now) limit (S.files shelf.old) (S.files shelf.new) (O.written out.old) (O.written out.new)) }
+    ensures part { OnHalt result (LeavesInPart (run_of run.now) limit (S.files shelf.old) (S.files shelf.new) (S.keep_faults shelf.old) (S.keep_faults shelf.new) (O.written out.old) (O.written out.new)) }
+{
+    let inputs = match accept(alloc, shelf, run, limit) {
+        Ok(inputs) => inputs,
+        Err(status) => return status,
+    };
+    let plan = match make_plan(alloc, &inputs, limit) {
+        Ok(plan) => plan,
+        Err(_) => return Status::NoMemory,
+    };
+    let log = (run.log.as_str(), plan.log.as_slice());
+    let next = (run.next.as_str(), plan.next.as_slice());
+    match keep_both_and_put(alloc, shelf, out, log, next, plan.bytes.as_slice()) {
+        Ok(()) => status_of(plan.verdict),
+        Err(Halt::WriteFault) => Status::WriteFault,
+        Err(Halt::NoMemory) => Status::NoMemory,
+    }
+}
+
+/// Runs a source: nothing is kept or put before all inputs are accepted and the run has ended.
+pub fn deploy<S: Shelf, O: Sink>(
+    alloc: Global,
+    run: &Run,
+    limit: u64,
+    shelf: &mut S,
+    out: &mut O,
+) -> Status
+    ensures { IsDeploy (run_of run.now) limit
+        (world (S.files shelf.old) (S.fetch_faults shelf.old) (S.keep_faults shelf.old) (O.written out.old) (O.faults out.old))
+        (world (S.files shelf.new) (S.fetch_faults shelf.new) (S.keep_faults shelf.new) (O.written out.new) (O.faults out.new)) result }
+{
+    deploy_run(alloc, run, limit, shelf, out)
+}

@@ -1,0 +1,8 @@
+//! Deploys: a source is run from a state, and what its run leaves is kept and put.
+#![tactic(auto)]
+
+pub mod deploys;
+pub mod next;
+
+pub use deploys::deploy;
+pub use next::{next_state, printed};

@@ -1,0 +1,45 @@
+// The next state of a run.
+ghost use Rattle.std.specs.Prelude.{◌≡◌, ◌≢◌, IfOk};
+ghost use Rattle.calculus.specs.Root.{root};
+ghost use Rattle.run_deploys.specs.Runs.{printed};
+ghost use Rattle.run_verdict.specs.View.{verdict_of};
+ghost use Rattle.states.specs.States.{state_text};
+
+use calculus::Digest;
+use row_texts::stored_rows;
+use run_verdict::Verdict;
+use space_row::Row;
+use state_writer::write_rows;
+use std::alloc::{AllocError, Global};
+
+/// What is printed: the output of a run that is done, and nothing else.
+pub fn printed(verdict: Verdict, mut output: Vec<u8>) -> Vec<u8>
+    ensures { result.items ≡ printed (verdict_of verdict) output.items }
+{
+    match verdict {
+        Verdict::Done => {}
+        _ => output.clear(),
+    }
+    output
+}
+
+/// The root and the bytes of the next state: those of these rows where the run is done, and else the old ones.
+pub fn next_state(
+    alloc: Global,
+    verdict: Verdict,
+    rows: &[Row],
+    base: &Digest,
+    state: &[u8],
+) -> Result<(Digest, Vec<u8>), AllocError>
+    ensures done { verdict ≡ Verdict.Done → IfOk result (λ next. (next.0.0 ≡ root rows.now) × (next.1.items ≡ state_text rows.now)) }
+    ensures old { verdict ≢ Verdict.Done → IfOk result (λ next. (next.0.0 ≡ base.now.0) × (next.1.items ≡ state.now)) }
+{
+    match verdict {
+        Verdict::Done => write_rows(alloc, stored_rows(alloc, rows)?),
+        _ => {
+            let mut kept = Vec::new(alloc);
+            kept.extend_from_slice(state)?;
+            Ok((*base, kept))
+        }
+    }
+}

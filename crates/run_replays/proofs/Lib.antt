@@ -1,0 +1,4 @@
+pub mod Replays
+pub mod Answering
+pub mod ReplayEnding
+pub mod Kept

@@ -1,0 +1,118 @@
+-- How a replay ended, and what it leaves of the told files and bytes.
+use Rattle.std.proofs.Common.{◌≡◌, ◌∙◌, ◌⊎◌, inl, inr, ℕ, List, [], ◌∷◌, refl, sym, ap, subst, Result, Ok, Err, Option}
+use Rattle.std.specs.Result.{IsOkAnd, IsOk}
+use Rattle.event_log.specs.Reading.{log_of}
+use Rattle.rho_outside.specs.FileMap.{FileMap}
+use Rattle.rho_outside.specs.Told.{Told}
+use Rattle.rho_outside.specs.Put.{GrewBy}
+use Rattle.rho_outside.specs.Kept.{with_files}
+use Rattle.command_words.specs.Commands.{RunRequest}
+use Rattle.sources.specs.Sources.{IsSourceOf}
+use Rattle.run_verdict.specs.declared.verdict.Verdict.{Verdict as Ending}
+use Rattle.run_verdict.specs.declared.verdict.Verdict.TheVariants as ending
+use Rattle.run_inputs.specs.Inputs.{Task, accepted_log}
+use Rattle.run_inputs.specs.Given.{task_of, IsGiven}
+use Rattle.run_inputs.specs.Runnable.{IsState, IsRunnable, HasState}
+use Rattle.run_inputs.specs.Replaying.{ReplayRefusedFor}
+use Rattle.run_inputs.specs.Ended.{IsReplayable, IsReplayAccepted, ReplayEnds}
+use Rattle.run_inputs.specs.declared.acceptance.ReplayInputs.{ReplayInputs}
+use Rattle.run_reports.specs.Stops.{StopsOnTheWay}
+use Rattle.run_status.specs.Endings.{status_of}
+use Rattle.run_status.specs.declared.status.Status.{Status}
+use Rattle.run_status.specs.declared.status.Status.TheVariants as status
+use Rattle.run_deploys.specs.Ends.{bytes_of}
+use Rattle.run_replays.specs.Replaying.{IsSettled, ReplayLeavesAll, ReplayLeavesSome}
+use Rattle.run_replays.specs.ReplayPlans.{IsReplayStop, IsReplayPlan}
+use Rattle.run_replays.specs.declared.replaying.ReplayPlan.{ReplayPlan}
+use Rattle.run_replays.proofs.Answering.{settled_refusal, settled_fault, settled_verdict, left_by_replay}
+
+-- what holds of an accepted value holds of more
+ok_more : {A E : Type 0} (P Q : A → Type 0) (v : Result A E) → ((x : A) → P x → Q x) → IsOkAnd v P → IsOkAnd v Q
+ok_more P Q (Ok x) h k = h x k
+ok_more P Q (Err e) h k = absurd k
+
+module _ (told : Option FileMap) (names : RunRequest) (before now : ℕ) where
+  -- a refusal has its cause
+  pub replay_refused_ends : (s : Status) → ReplayRefusedFor told names before now s → ReplayEnds IsSettled told names before now s
+  replay_refused_ends (status.ReadFault i) h = h
+  replay_refused_ends (status.TooLarge i n m) h = h
+  replay_refused_ends (status.Unbuilt i) h = h
+  replay_refused_ends (status.Prices f) h = h
+  replay_refused_ends (status.Source f) h = h
+  replay_refused_ends (status.Log f) h = h
+  replay_refused_ends status.NoMemory h = h
+  replay_refused_ends (status.Limit n m) h = absurd h
+  replay_refused_ends status.Done h = absurd h
+  replay_refused_ends status.Exhausted h = absurd h
+  replay_refused_ends status.Faulted h = absurd h
+  replay_refused_ends status.WriteFault h = absurd h
+  replay_refused_ends (status.Usage u) h = absurd h
+  replay_refused_ends (status.Replay f) h = absurd h
+  replay_refused_ends (status.UnbuiltVerb v) h = absurd h
+
+  module _ (r : ReplayInputs) (accepted : Told told (λ files. IsOkAnd (accepted_log names files) (IsGiven r))) (has : Told told (HasState names))
+      (state : IsState r.inputs.state.items) (spelt : IsSourceOf r.inputs.source.items r.inputs.term) where
+    accepted-so : (s : Status) → ((inputs : Task × List ℕ) → IsGiven r inputs → IsSettled s inputs) → IsReplayAccepted (IsSettled s) told names
+    accepted-so s known files e = (has files e, ok_more (IsGiven r) (IsReplayable (IsSettled s)) (accepted_log names files) one (accepted files e))
+      where
+        one : (inputs : Task × List ℕ) → IsGiven r inputs → IsReplayable (IsSettled s) inputs
+        one inputs i = record {
+          run = subst (λ (t : Task). IsRunnable t) (sym i.task) (state, (r.inputs.term, spelt));
+          read = subst (λ (l : Result _ _). IsOk l) (sym i.log) refl;
+          more = known inputs i;
+        }
+
+    -- a log that is refused
+    pub stop_ends : (s : Status) → IsReplayStop state.0 r s → ReplayEnds IsSettled told names before now s
+    stop_ends (status.Replay f) h = accepted-so (status.Replay f) (λ inputs i. settled_refusal state.0 r inputs i state.1 spelt f h)
+    stop_ends status.NoMemory h = tt
+    stop_ends status.Done h = absurd h
+    stop_ends (status.Usage u) h = absurd h
+    stop_ends (status.ReadFault i) h = absurd h
+    stop_ends status.WriteFault h = absurd h
+    stop_ends (status.Source f) h = absurd h
+    stop_ends (status.Log f) h = absurd h
+    stop_ends (status.Prices f) h = absurd h
+    stop_ends (status.Limit n m) h = absurd h
+    stop_ends (status.Unbuilt i) h = absurd h
+    stop_ends (status.UnbuiltVerb v) h = absurd h
+    stop_ends status.Exhausted h = absurd h
+    stop_ends status.Faulted h = absurd h
+    stop_ends (status.TooLarge i n m) h = absurd h
+
+    module _ (p : ReplayPlan) (plan : IsReplayPlan state.0 r p) where
+      -- a failed write
+      pub fault_ends : ReplayEnds IsSettled told names before now status.WriteFault
+      fault_ends = accepted-so status.WriteFault (λ inputs i. settled_fault state.0 r inputs i state.1 spelt p plan)
+
+      -- a verdict
+      pub replay_verdict_ends : (s : Status) → s ≡ status_of p.verdict → ReplayEnds IsSettled told names before now s
+      replay_verdict_ends s e = subst (λ (x : Status). ReplayEnds IsSettled told names before now x) (sym e) (go p.verdict refl)
+        where
+          known : (v : Ending) → p.verdict ≡ v → IsReplayAccepted (IsSettled (status_of v)) told names
+          known v k = accepted-so (status_of v) (λ inputs i. subst (λ (w : Ending). IsSettled (status_of w) inputs) k (settled_verdict state.0 r inputs i state.1 spelt p plan))
+
+          go : (v : Ending) → p.verdict ≡ v → ReplayEnds IsSettled told names before now (status_of v)
+          go ending.Done k = known ending.Done k
+          go ending.Exhausted k = known ending.Exhausted k
+          go (ending.Faulted step kind) k = known (ending.Faulted step kind) k
+
+      module _ (old mid new : Option FileMap) (output after : Option (List ℕ)) (same : mid ≡ old) where
+        -- a plan that was written is all that a replay leaves
+        pub replay_leaves_all : (s : Status) → s ≡ status_of p.verdict → new ≡ with_files ((names.next, p.next.items) ∷ []) mid → GrewBy p.bytes.items output after
+            → Told told (λ files. IsOkAnd (accepted_log names files) (ReplayLeavesAll s names old new output after))
+        replay_leaves_all s e kept put files h =
+            let F = λ (n : List ℕ) (m : Option FileMap). with_files ((names.next, n) ∷ []) m in
+            let there : new ≡ F plan.left.next old = kept ∙ (ap (λ n. F n mid) plan.next ∙ ap (λ m. F plan.left.next m) same) in
+            ok_more (IsGiven r) (ReplayLeavesAll s names old new output after) (accepted_log names files) (λ inputs i.
+            (plan.left, (record { replay = left_by_replay state.0 r inputs i state.1 spelt p plan; verdict = e ∙ ap status_of plan.verdict }, (there, subst (λ (l : List ℕ). GrewBy l output after) plan.bytes put)))) (accepted files h)
+
+        -- and one that was written in part is some of it
+        pub replay_leaves_some : (f g h : ℕ) → g ≡ f → StopsOnTheWay ((names.next, p.next.items) ∷ []) p.bytes.items mid new g h output after
+            → Told told (λ files. IsOkAnd (accepted_log names files) (ReplayLeavesSome names old new f h output after))
+        replay_leaves_some f g h count stops files e =
+            let F = λ (n bytes : List ℕ) (m : Option FileMap) (k : ℕ). StopsOnTheWay ((names.next, n) ∷ []) bytes m new k h output after in
+            let all : F plan.left.next (bytes_of plan.left) old f =
+            subst (F plan.left.next (bytes_of plan.left) old) count (subst (λ m. F plan.left.next (bytes_of plan.left) m g) same (subst (λ b. F plan.left.next b mid g) plan.bytes (subst (λ n. F n p.bytes.items mid g) plan.next stops))) in
+            ok_more (IsGiven r) (ReplayLeavesSome names old new f h output after) (accepted_log names files) (λ inputs i.
+            (plan.left, (left_by_replay state.0 r inputs i state.1 spelt p plan, all))) (accepted files e)

@@ -1,0 +1,4 @@
+pub mod Replaying
+pub mod ReplayPlans
+pub mod Replays
+pub mod Laws

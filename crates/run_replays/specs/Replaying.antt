@@ -1,0 +1,129 @@
+-- The answer to a log, and what its replay leaves.
+use Rattle.std.specs.Prelude.{◌≡◌, ◌≢◌, ◌⊎◌, ℕ, List, [], ◌∷◌, length, Ok, IsOkAnd, Option, Some, None, ⊤}
+use Rattle.sha2.specs.Sha256.{sha256}
+use Rattle.calculus.specs.Tree.{Tree}
+use Rattle.calculus.specs.Log.{Header, Step}
+use Rattle.calculus.specs.Root.{root}
+use Rattle.calculus.specs.Rows.{Row}
+use Rattle.calculus.specs.Runs.{Verdict, done, exhausted, faulted}
+use Rattle.states.specs.States.{state_text}
+use Rattle.replays.specs.Replays.{Given, Outcome, Answer, refused, replayed, header_refusal, deploy_under, Answers}
+use Rattle.event_log.specs.Reading.{log_of}
+use Rattle.sources.specs.Sources.{IsSourceOf}
+use Rattle.run_verdict.specs.View.{verdict_of}
+use Rattle.run_verdict.specs.declared.verdict.Verdict.TheVariants as ending
+use Rattle.replay_faults.specs.Refusals.{refusal_of}
+use Rattle.ordered_replay.specs.Answers.{Clashes}
+use Rattle.ordered_replay.specs.Bases.{asked}
+use Rattle.rho_outside.specs.FileMap.{FileMap}
+use Rattle.rho_outside.specs.Told.{Told}
+use Rattle.rho_outside.specs.Put.{GrewBy}
+use Rattle.rho_outside.specs.Kept.{with_files}
+use Rattle.command_words.specs.Commands.{RunRequest}
+use Rattle.run_inputs.specs.Inputs.{Task, accepted_log}
+use Rattle.run_inputs.specs.Runnable.{IsStateOf}
+use Rattle.run_reports.specs.Stops.{StopsOnTheWay}
+use Rattle.run_status.specs.Endings.{status_of}
+use Rattle.run_status.specs.declared.status.Status.{Status}
+use Rattle.run_status.specs.declared.status.Status.TheVariants as status
+use Rattle.run_deploys.specs.Runs.{Left}
+use Rattle.run_deploys.specs.Ends.{bytes_of}
+
+-- what is given to the replay of a log: the rows of the state, the process, the digest of the source and the prices
+abbrev pub given_in : List Row → Task → Tree → Given
+given_in rows task t = asked rows t (sha256 task.source) task.prices
+
+-- these inputs are read as this: the rows of the state, the process of the source, and the header and the steps of the log
+pub record AreReadAs (inputs : Task × List ℕ) (rows : List Row) (t : Tree) (header : Header) (steps : List Step) : Type 0 where
+  pub state : IsStateOf inputs.0.state rows
+  pub spelt : IsSourceOf inputs.0.source t
+  pub log : log_of inputs.1 ≡ Ok (header, steps)
+
+-- this is the answer to the log of these inputs
+pub record IsAnswerTo (inputs : Task × List ℕ) (answer : Answer) : Type 0 where
+  pub rows : List Row
+  pub process : Tree
+  pub header : Header
+  pub steps : List Step
+  pub read : AreReadAs inputs rows process header steps
+  pub is : Answers (given_in rows inputs.0 process) header steps answer
+
+-- the header of their log is right, and digests clash along a legal beginning of its steps
+pub record HasClash (inputs : Task × List ℕ) : Type 0 where
+  pub rows : List Row
+  pub process : Tree
+  pub header : Header
+  pub steps : List Step
+  pub read : AreReadAs inputs rows process header steps
+  pub right : header_refusal (given_in rows inputs.0 process) header ≡ None
+  pub clash : Clashes (deploy_under header.limit (given_in rows inputs.0 process)) steps
+
+-- the status that a verdict of the calculus gives
+abbrev pub status_for : Verdict → Status
+status_for done = status.Done
+status_for exhausted = status.Exhausted
+status_for (faulted step kind) = status.Faulted
+
+-- a status says this answer: its refusal, or its verdict; a failed write may stand in the place of a verdict
+abbrev pub SaysAnswer : Answer → Status → Type 0
+SaysAnswer (refused r) (status.Replay f) = refusal_of f ≡ Some r
+SaysAnswer (refused r) _ = ⊥
+SaysAnswer (replayed o) status.WriteFault = ⊤
+SaysAnswer (replayed o) s = s ≡ status_for o.verdict
+
+-- the answer to the log of these inputs is one that a status says, or digests clash
+abbrev pub IsSettled : Status → Task × List ℕ → Type 0
+IsSettled s inputs = ((answer : Answer) × (SaysAnswer answer s × IsAnswerTo inputs answer)) ⊎ HasClash inputs
+
+-- what is left is what a replayed run came to: its verdict, its cost, the root of the rows that it leaves, whose text is the next state, and its output
+pub record IsLeftByOutcome (outcome : Outcome) (left : Left) : Type 0 where
+  pub verdict_is : verdict_of left.report.verdict ≡ outcome.verdict
+  pub cost_is : left.report.cost ≡ outcome.cost
+  pub root_is : left.report.root ≡ root outcome.rows
+  pub next_is : left.next ≡ state_text outcome.rows
+  pub output_is : left.output ≡ outcome.output
+
+-- what is left is what the answer to a log came to, or digests clash
+abbrev pub IsLeftByAnswer : Given → Header → Left → Type 0
+IsLeftByAnswer given header left = ((outcome : Outcome) × (Answers given header left.steps (replayed outcome) × IsLeftByOutcome outcome left))
+    ⊎ Clashes (deploy_under header.limit given) left.steps
+
+-- what is left is what the replay of the log of these inputs came to: its header is right, and what is left is what its answer came to, or digests clash. In either case the report counts the log's steps, and with another verdict than done the next state is the old one and nothing is printed
+pub record IsLeftByReplay (inputs : Task × List ℕ) (left : Left) : Type 0 where
+  pub rows : List Row
+  pub process : Tree
+  pub header : Header
+  pub read : AreReadAs inputs rows process header left.steps
+  pub right : header_refusal (given_in rows inputs.0 process) header ≡ None
+  pub answer : IsLeftByAnswer (given_in rows inputs.0 process) header left
+  pub steps : left.report.steps ≡ length left.steps
+  pub old : left.report.verdict ≢ ending.Done → left.next ≡ inputs.0.state
+  pub silent : left.report.verdict ≢ ending.Done → left.output ≡ []
+
+-- the file that is kept
+abbrev pub replay_entries : RunRequest → Left → List (List ℕ × List ℕ)
+replay_entries names left = (names.next, left.next) ∷ []
+
+-- what was left is what the replay came to, and a status says its verdict
+pub record IsReplayedBy (s : Status) (inputs : Task × List ℕ) (left : Left) : Type 0 where
+  pub replay : IsLeftByReplay inputs left
+  pub verdict : s ≡ status_of left.report.verdict
+
+-- the files and bytes are those that a replay leaves which ended with this status: the entry was set, and all bytes were put
+abbrev pub ReplayLeavesAll : Status → RunRequest → Option FileMap → Option FileMap → Option (List ℕ) → Option (List ℕ) → Task × List ℕ → Type 0
+ReplayLeavesAll s names old new before after inputs = (left : Left)
+    × (IsReplayedBy s inputs left × ((new ≡ with_files (replay_entries names left) old) × GrewBy (bytes_of left) before after))
+
+-- the files and bytes are those that a replay leaves which stopped on its way
+abbrev pub ReplayLeavesSome : RunRequest → Option FileMap → Option FileMap → ℕ → ℕ → Option (List ℕ) → Option (List ℕ) → Task × List ℕ → Type 0
+ReplayLeavesSome names old new faults_before faults_after before after inputs = (left : Left)
+    × (IsLeftByReplay inputs left × StopsOnTheWay (replay_entries names left) (bytes_of left) old new faults_before faults_after before after)
+
+-- where files are told, they are accepted, and what is left is all that a replay leaves
+abbrev pub ReplayLeaves : Status → RunRequest → Option FileMap → Option FileMap → Option (List ℕ) → Option (List ℕ) → Type 0
+ReplayLeaves s names old new before after = Told old (λ files. IsOkAnd (accepted_log names files) (ReplayLeavesAll s names old new before after))
+
+-- where files are told, all is as it was, or they are accepted and some of what a replay leaves is there
+abbrev pub ReplayLeavesInPart : RunRequest → Option FileMap → Option FileMap → ℕ → ℕ → Option (List ℕ) → Option (List ℕ) → Type 0
+ReplayLeavesInPart names old new faults_before faults_after before after = Told old (λ files.
+    ((new ≡ old) × (after ≡ before)) ⊎ IsOkAnd (accepted_log names files) (ReplayLeavesSome names old new faults_before faults_after before after))

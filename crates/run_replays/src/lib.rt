@@ -1,0 +1,7 @@
+//! Replays: a log is repeated from a state, and what it came to is kept and put, or it is refused.
+#![tactic(auto)]
+
+pub mod laws;
+pub mod replaying;
+
+pub use replaying::replay;

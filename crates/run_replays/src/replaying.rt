@@ -1,0 +1,146 @@
+ghost use Rattle.std.specs.Prelude.{◌≡◌, ◌≤◌, ◌⊎◌, List, length, IfOk, IfErr};
+ghost use Rattle.calculus.specs.Form.{IsClosed};
+ghost use Rattle.calculus.specs.Rows.{Row as StoredRow};
+ghost use Rattle.rho_outside.specs.Causes.{Rose};
+ghost use Rattle.sources.specs.Sources.{IsSourceOf};
+ghost use Rattle.replay_faults.specs.Refusals.{refusal_of};
+ghost use Rattle.command_words.specs.Answers.{run_of};
+ghost use Rattle.run_inputs.specs.Ended.{ReplayEnds};
+ghost use Rattle.run_inputs.specs.Runnable.{IsState, IsStateOf};
+ghost use Rattle.run_status.specs.Endings.{OnRefusal, OnHalt, OnVerdict};
+ghost use Rattle.run_replays.specs.Replaying.{IsSettled, ReplayLeaves, ReplayLeavesInPart};
+ghost use Rattle.run_replays.specs.ReplayPlans.{IsPlanned, IsReplayPlan, IsReplayStop, ReplayStatusOf};
+ghost use Rattle.run_replays.specs.Replays.{IsReplay};
+ghost use Rattle.run_deploys.specs.World.{world};
+
+use run_deploys::{next_state, printed};
+use command_words::Run;
+use event_log::MOST_STEPS;
+use name_seed::{EMPTY_ROOT, bytes_digest};
+use ordered_replay::{Replayed, replay as replay_log};
+use replay_faults::ReplayFault;
+use rho_outside::{Shelf, Sink};
+use run_inputs::{ReplayInputs, accept_replay};
+use run_reports::{Halt, keep_and_put, report};
+use run_status::{Status, status_of};
+use run_verdict::Verdict;
+use space_row::Row;
+use std::alloc::{AllocError, Global};
+
+/// All the bytes that a replay writes, and how its run ended.
+#[derive(Drop)]
+pub struct ReplayPlan {
+    pub next: Vec<u8>,
+    /// What is printed, and then the line of the report.
+    pub bytes: Vec<u8>,
+    pub verdict: Verdict,
+}
+
+/// Makes all bytes that are to be written of what a log's replay came to.
+fn plan_of(
+    alloc: Global,
+    inputs: &ReplayInputs,
+    replayed: Replayed,
+) -> Result<ReplayPlan, AllocError>
+    requires few { length inputs.now.log.steps.items ≤ 1048608 }
+    ensures { IfOk result (IsPlanned inputs.now replayed) }
+{
+    let Replayed {
+        verdict,
+        cost,
+        rows,
+        output,
+    } = replayed;
+    let state = inputs.inputs.state.as_slice();
+    let (root, next) = next_state(alloc, verdict, rows.as_slice(), &EMPTY_ROOT, state)?;
+    let count = inputs.log.steps.len() as u32;
+    let line = report(alloc, verdict, cost, &root, count)?;
+    let mut bytes = printed(verdict, output);
+    bytes.extend_from_slice(line.as_slice())?;
+    Ok(ReplayPlan {
+        next,
+        bytes,
+        verdict,
+    })
+}
+
+/// The status of what a log is refused for, or that memory is wanted.
+fn status_of_fault(fault: ReplayFault) -> Status
+    ensures { ReplayStatusOf fault (refusal_of fault) result }
+{
+    match fault {
+        ReplayFault::NoMemory => Status::NoMemory,
+        fault => Status::Replay(fault),
+    }
+}
+
+/// Replays the log from the state, so far the empty one, and makes all bytes that are to be written.
+fn make_replay_plan(alloc: Global, inputs: &ReplayInputs) -> Result<ReplayPlan, Status>
+    requires state { IsState inputs.now.inputs.state.items }
+    requires source { IsSourceOf inputs.now.inputs.source.items inputs.now.inputs.term }
+    requires short { length inputs.now.inputs.source.items ≤ 1048576 }
+    requires closed { IsClosed inputs.now.inputs.term }
+    ensures plan { IfOk result (λ p. (rows : List StoredRow) → IsStateOf inputs.now.inputs.state.items rows → IsReplayPlan rows inputs.now p) }
+    ensures stop { IfErr result (λ s. (rows : List StoredRow) → IsStateOf inputs.now.inputs.state.items rows → IsReplayStop rows inputs.now s) }
+{
+    if inputs.log.steps.len() > MOST_STEPS {
+        return Err(Status::NoMemory);
+    }
+    let given = &inputs.inputs;
+    let source = bytes_digest(given.source.as_slice());
+    let base: Vec<Row> = Vec::new(alloc);
+    let replayed = match replay_log(
+        alloc,
+        base.as_slice(),
+        &EMPTY_ROOT,
+        &given.term,
+        &source,
+        &given.prices,
+        &inputs.log,
+    ) {
+        Ok(replayed) => replayed,
+        Err(fault) => return Err(status_of_fault(fault)),
+    };
+    match plan_of(alloc, inputs, replayed) {
+        Ok(plan) => Ok(plan),
+        Err(_) => Err(Status::NoMemory),
+    }
+}
+
+/// Replays a log, as `replay` does.
+fn replay_run<S: Shelf, O: Sink>(alloc: Global, run: &Run, shelf: &mut S, out: &mut O) -> Status
+    ensures ends { ReplayEnds IsSettled (S.files shelf.old) (run_of run.now) (S.fetch_faults shelf.old) (S.fetch_faults shelf.new) result }
+    ensures stays { OnRefusal result ((S.files shelf.new ≡ S.files shelf.old) × (O.written out.new ≡ O.written out.old)) }
+    ensures write_fault { result ≡ Status.WriteFault → Rose (S.keep_faults shelf.old) (S.keep_faults shelf.new) ⊎ Rose (O.faults out.old) (O.faults out.new) }
+    ensures verdict { OnVerdict result (ReplayLeaves result (run_of run.now) (S.files shelf.old) (S.files shelf.new) (O.written out.old) (O.written out.new)) }
+    ensures part { OnHalt result (ReplayLeavesInPart (run_of run.now) (S.files shelf.old) (S.files shelf.new) (S.keep_faults shelf.old) (S.keep_faults shelf.new) (O.written out.old) (O.written out.new)) }
+{
+    let inputs = match accept_replay(alloc, shelf, run) {
+        Ok(inputs) => inputs,
+        Err(status) => return status,
+    };
+    let plan = match make_replay_plan(alloc, &inputs) {
+        Ok(plan) => plan,
+        Err(status) => return status,
+    };
+    let next = (run.next.as_str(), plan.next.as_slice());
+    match keep_and_put(alloc, shelf, out, next, plan.bytes.as_slice()) {
+        Ok(()) => status_of(plan.verdict),
+        Err(Halt::WriteFault) => Status::WriteFault,
+        Err(Halt::NoMemory) => Status::NoMemory,
+    }
+}
+
+/// Replays a log: nothing is kept or put before all inputs are accepted and the replay has ended.
+pub fn replay<S: Shelf, O: Sink>(
+    alloc: Global,
+    run: &Run,
+    shelf: &mut S,
+    out: &mut O,
+) -> Status
+    ensures { IsReplay (run_of run.now)
+        (world (S.files shelf.old) (S.fetch_faults shelf.old) (S.keep_faults shelf.old) (O.written out.old) (O.faults out.old))
+        (world (S.files shelf.new) (S.fetch_faults shelf.new) (S.keep_faults shelf.new) (O.written out.new) (O.faults out.new)) result }
+{
+    replay_run(alloc, run, shelf, out)
+}
