@@ -5,8 +5,8 @@ ghost use Rattle.run_deploys.specs.Runs.{printed};
 ghost use Rattle.run_verdict.specs.View.{verdict_of};
 ghost use Rattle.states.specs.States.{state_text};
 
+use crate::texts::stored_rows;
 use calculus::Digest;
-use row_texts::stored_rows;
 use run_verdict::Verdict;
 use space_row::Row;
 use state_writer::write_rows;

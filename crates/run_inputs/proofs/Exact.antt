@@ -1,21 +1,19 @@
 -- A deploy ends as its inputs tell: each refusal is the one that they have.
-use Rattle.std.proofs.Common.{◌≡◌, ◌≢◌, ◌∙◌, ℕ, List, Result, Ok, Err, Option, Some, None, ◌⊎◌, inl, inr, refl, sym, ap, subst}
+use Rattle.std.proofs.Common.{◌≡◌, ◌∙◌, ℕ, List, Result, Ok, Err, Option, Some, None, ◌⊎◌, inl, inr, refl, sym, ap, subst}
 use Rattle.std.specs.Result.{IsOkAnd, IfOk, IsOk}
 use Rattle.calculus.specs.Outcome.{Prices as PriceTable}
 use Rattle.calculus.specs.Tree.{Tree}
 use Rattle.rho_outside.specs.Causes.{Rose}
 use Rattle.rho_outside.specs.FileMap.{FileMap, Lacks}
-use Rattle.sources.specs.Faults.{refusal_of}
-use Rattle.sources.specs.Sources as sources
-use Rattle.sources.specs.Sources.{IsSourceOf, IsRefused}
+use Rattle.sources.specs.Sources.{IsSourceOf}
 use Rattle.sources.specs.declared.fault.SourceFault.{SourceFault}
 use Rattle.sources.proofs.Answering.{one_refusal, not_both}
 use Rattle.states.proofs.Computed.{state_examples}
 use Rattle.states.specs.States.{state_text}
 use Rattle.command_words.specs.Commands.{RunRequest}
-use Rattle.run_inputs.specs.Inputs.{Refusal, missing, too_large, bad_prices, bad_limit, Task, name_of, size_limit, within, given, ◌>>=◌, beside, task_with, priced, accepted_state, accepted_prices, accepted_limit, accepted}
-use Rattle.run_inputs.specs.Runnable.{empty_state, IsStateOf, IsState, IsNoState, IsRunnable, HasProcess, HasState, MayHaveState}
-use Rattle.run_inputs.specs.Refused.{IsPriceFault, IsFaultOf, Reaches, RefusedFor, IsRefusal, Says, SaysNoState, SaysSource, SaysOf, IsFree}
+use Rattle.run_inputs.specs.Inputs.{Refusal, missing, too_large, bad_prices, bad_limit, Task, name_of, size_limit, within, given, beside, task_with, priced, accepted_state, accepted_prices, accepted_limit, accepted}
+use Rattle.run_inputs.specs.Runnable.{empty_state, IsState, IsNoState, IsRunnable, HasProcess, HasState, MayHaveState}
+use Rattle.run_inputs.specs.Refused.{IsPriceFault, IsFaultOf, Reaches, IsRefusal, Says, SaysNoState, SaysOf, IsFree}
 use Rattle.run_inputs.specs.Ended.{DeployEnds}
 use Rattle.run_inputs.proofs.Refusing.{bind-err, bind-ok}
 use Rattle.run_status.specs.Endings.{HasEnded}

@@ -1,5 +1,4 @@
 pub mod Pricing
 pub mod Refusing
-pub mod Stages
 pub mod Exact
 pub mod ReplayExact

@@ -1,5 +1,5 @@
 -- A replay ends as its inputs tell: each refusal is the one that they have.
-use Rattle.std.proofs.Common.{◌≡◌, ◌∙◌, ℕ, List, Result, Ok, Err, Option, Some, None, ◌⊎◌, inl, inr, refl, sym, ap, subst}
+use Rattle.std.proofs.Common.{◌≡◌, ◌∙◌, ℕ, List, Result, Ok, Err, Option, Some, ◌⊎◌, inl, inr, refl, sym, ap, subst}
 use Rattle.std.specs.Result.{IsOkAnd, IsOk}
 use Rattle.calculus.specs.Outcome.{Prices as PriceTable}
 use Rattle.rho_outside.specs.Causes.{Rose}
@@ -9,10 +9,10 @@ use Rattle.sources.specs.Sources.{IsSourceOf}
 use Rattle.sources.specs.declared.fault.SourceFault.{SourceFault}
 use Rattle.event_log.specs.declared.fault.LogFault.{LogFault}
 use Rattle.command_words.specs.Commands.{RunRequest}
-use Rattle.run_inputs.specs.Inputs.{Refusal, missing, too_large, Task, name_of, given, ◌>>=◌, beside, task_with, priced, accepted_state, accepted_prices, accepted_source, accepted_log}
-use Rattle.run_inputs.specs.Runnable.{IsState, IsNoState, IsRunnable, HasProcess, HasState}
-use Rattle.run_inputs.specs.Refused.{IsPriceFault, IsFaultOf, Says, SaysNoState, SaysOf}
-use Rattle.run_inputs.specs.Replaying.{ReplayReaches, IsReplayRefusal, IsLogFault, ReplayRefusedFor, SaysLog}
+use Rattle.run_inputs.specs.Inputs.{Refusal, missing, too_large, Task, name_of, given, beside, task_with, priced, accepted_state, accepted_prices, accepted_source, accepted_log}
+use Rattle.run_inputs.specs.Runnable.{IsState, IsNoState, IsRunnable, HasState}
+use Rattle.run_inputs.specs.Refused.{IsFaultOf, Says, SaysNoState, SaysOf}
+use Rattle.run_inputs.specs.Replaying.{ReplayReaches, IsReplayRefusal, IsLogFault, SaysLog}
 use Rattle.run_inputs.specs.Ended.{IsReplayable, ReplayEnds}
 use Rattle.run_inputs.proofs.Refusing.{bind-err, bind-ok, none-yet}
 use Rattle.run_inputs.proofs.Exact.{ok_of, ok_value, ok_err, same_err, same_ok, ok_holds, given_missing, not_none, may_have, run_free, fault_says, price_says}
@@ -74,16 +74,18 @@ module _ (More : Status → Task × List ℕ → Type 0) (told : Option FileMap)
       go : (i : Input) → ReplayReaches told names i → given names files i ≡ Err (missing i) → IsReplayRefusal names files (missing i)
       go State k g = (none-yet names files (missing State) g, inl (prices-gone State (bind-err (accepted_state names files) _ (missing State) g)))
       go Prices k g =
-          let s = ok_of IsState (accepted_state names files) (k files e) in
-          (may_have names files (k files e),
-          inl (prices-gone Prices (bind-ok (accepted_state names files) _ s.0 s.1.0 ∙ ap (λ (r : Result PriceTable Refusal). beside s.0 r) (bind-err (given names files Prices) priced (missing Prices) g))))
+          let s = ok_of IsState (accepted_state names files) (k files e) in (
+            may_have names files (k files e),
+            inl (prices-gone Prices (bind-ok (accepted_state names files) _ s.0 s.1.0 ∙ ap (λ (r : Result PriceTable Refusal). beside s.0 r) (bind-err (given names files Prices) priced (missing Prices) g))),
+          )
       go Source k g =
           let p = ok_value (accepted_prices names files) (k files e).1 in
           (may_have names files (k files e).0, inl (bind-ok (accepted_prices names files) _ p.0 p.1 ∙ ap (task_with p.0) g))
       go Log k g =
-          let t = ok_of IsRunnable (accepted_source names files) (k files e).1 in
-          (may_have names files (k files e).0,
-          inr ((k files e).1, bind-ok (accepted_source names files) _ t.0 t.1.0 ∙ ap (beside t.0) g))
+          let t = ok_of IsRunnable (accepted_source names files) (k files e).1 in (
+            may_have names files (k files e).0,
+            inr ((k files e).1, bind-ok (accepted_source names files) _ t.0 t.1.0 ∙ ap (beside t.0) g),
+          )
 
   source-refused : (f : SourceFault) → IsOkAnd (accepted_source names files) (λ task. IsFaultOf f task.source) → (r : Refusal) → IsReplayRefusal names files r → ⊥
   source-refused f h r k = go k.1

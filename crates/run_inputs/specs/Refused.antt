@@ -13,7 +13,7 @@ use Rattle.command_words.specs.Commands.{RunRequest}
 use Rattle.run_inputs.specs.Inputs.{Refusal, missing, too_large, bad_prices, bad_limit, priced, name_of, size_limit, accepted_state, accepted_prices, accepted_limit, accepted}
 use Rattle.run_inputs.specs.Runnable.{HasState, MayHaveState, IsNoState}
 use Rattle.run_status.specs.declared.status.Input.{Input}
-use Rattle.run_status.specs.declared.status.Input.TheVariants.{State, Prices, Source, Log}
+use Rattle.run_status.specs.declared.status.Input.TheVariants.{State, Prices, Source}
 use Rattle.run_status.specs.declared.status.Status.{Status}
 use Rattle.run_status.specs.declared.status.Status.TheVariants as status
 

@@ -10,7 +10,7 @@ use Rattle.run_inputs.specs.Inputs.{Refusal, too_large, Task, name_of, size_limi
 use Rattle.run_inputs.specs.Runnable.{IsRunnable, HasState, MayHaveState}
 use Rattle.run_inputs.specs.Refused.{IsFaultOf, IsPriceFault, PricesReach, LacksState}
 use Rattle.run_status.specs.declared.status.Input.{Input}
-use Rattle.run_status.specs.declared.status.Input.TheVariants.{State, Prices, Source, Log}
+use Rattle.run_status.specs.declared.status.Input.TheVariants.{State, Source, Log}
 use Rattle.run_status.specs.declared.status.Status.{Status}
 use Rattle.run_status.specs.declared.status.Status.TheVariants as status
 

@@ -1,5 +1,5 @@
 -- Which states and sources are run.
-use Rattle.std.specs.Prelude.{◌≡◌, ◌≢◌, ◌∷◌, ◌++◌, [], ℕ, List, Result, IsOkAnd, IfOk, codes, replicate}
+use Rattle.std.specs.Prelude.{◌≡◌, ◌≢◌, ◌∷◌, ◌++◌, [], ℕ, List, IsOkAnd, IfOk, codes, replicate}
 use Rattle.calculus.specs.Rows.{Row}
 use Rattle.calculus.specs.Tree.{Tree}
 use Rattle.states.specs.States.{state_text}

@@ -52,12 +52,14 @@ kept_logs_are_answered rows task limit left l m s =
     go (inl r) =
         inl (
           outcome_of (deploy_in rows task limit s.process) r.state,
-          (by_end right r.run.leads r.run.ends,
-          record {
-            verdict_is = r.verdict_is;
-            cost_is = r.cost_is;
-            root_is = r.root_is;
-            next_is = r.next_is;
-            output_is = r.output_is ∙ printed-out (verdict (deploy_in rows task limit s.process).prices (deploy_in rows task limit s.process).limit r.state) r.state.output;
-          }),
+          (
+            by_end right r.run.leads r.run.ends,
+            record {
+              verdict_is = r.verdict_is;
+              cost_is = r.cost_is;
+              root_is = r.root_is;
+              next_is = r.next_is;
+              output_is = r.output_is ∙ printed-out (verdict (deploy_in rows task limit s.process).prices (deploy_in rows task limit s.process).limit r.state) r.state.output;
+            },
+          ),
         )

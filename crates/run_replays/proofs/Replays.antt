@@ -124,14 +124,19 @@ module _ (rows : List Row) (r : ReplayInputs) (state : IsStateOf r.inputs.state.
       outcome a =
           let ends =
           outcome-rows x.rows.items a.outcome.rows rows planned.digest p.next.items x.verdict a.outcome.verdict a.verdict_is a.left (λ n. (a.lost n).0)
-          planned.done (λ n. ((planned.old n).0 ∙ base-root, (planned.old n).1 ∙ state.text)) in
-          (a.outcome, (a.answer, record {
-            verdict_is = sym a.verdict_is;
-            cost_is = sym a.cost_is;
-            root_is = ends.0;
-            next_is = ends.1;
-            output_is = printed-is x.verdict a.outcome.verdict x.output.items a.outcome.output a.verdict_is a.output_is (quiet (given_of rows r) (header_in r) (steps_in r) (replayed a.outcome) a.answer);
-          }))
+          planned.done (λ n. ((planned.old n).0 ∙ base-root, (planned.old n).1 ∙ state.text)) in (
+            a.outcome,
+            (
+              a.answer,
+              record {
+                verdict_is = sym a.verdict_is;
+                cost_is = sym a.cost_is;
+                root_is = ends.0;
+                next_is = ends.1;
+                output_is = printed-is x.verdict a.outcome.verdict x.output.items a.outcome.output a.verdict_is a.output_is (quiet (given_of rows r) (header_in r) (steps_in r) (replayed a.outcome) a.answer);
+              },
+            ),
+          )
 
       go : IsAnswered (given_of rows r) (header_in r) (steps_in r) result ⊎ ClashIn rows r → IsLeftByAnswer (given_of rows r) (header_in r) left
       go (inl a) = inl (outcome (subst (λ (v : Result Replayed ReplayFault). IsAnswered (given_of rows r) (header_in r) (steps_in r) v) is a))

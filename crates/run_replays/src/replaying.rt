@@ -13,13 +13,13 @@ ghost use Rattle.run_replays.specs.ReplayPlans.{IsPlanned, IsReplayPlan, IsRepla
 ghost use Rattle.run_replays.specs.Replays.{IsReplay};
 ghost use Rattle.run_deploys.specs.World.{world};
 
-use run_deploys::{next_state, printed};
 use command_words::Run;
 use event_log::MOST_STEPS;
 use name_seed::{EMPTY_ROOT, bytes_digest};
 use ordered_replay::{Replayed, replay as replay_log};
 use replay_faults::ReplayFault;
 use rho_outside::{Shelf, Sink};
+use run_deploys::{next_state, printed};
 use run_inputs::{ReplayInputs, accept_replay};
 use run_reports::{Halt, keep_and_put, report};
 use run_status::{Status, status_of};
@@ -132,12 +132,7 @@ fn replay_run<S: Shelf, O: Sink>(alloc: Global, run: &Run, shelf: &mut S, out: &
 }
 
 /// Replays a log: nothing is kept or put before all inputs are accepted and the replay has ended.
-pub fn replay<S: Shelf, O: Sink>(
-    alloc: Global,
-    run: &Run,
-    shelf: &mut S,
-    out: &mut O,
-) -> Status
+pub fn replay<S: Shelf, O: Sink>(alloc: Global, run: &Run, shelf: &mut S, out: &mut O) -> Status
     ensures { IsReplay (run_of run.now)
         (world (S.files shelf.old) (S.fetch_faults shelf.old) (S.keep_faults shelf.old) (O.written out.old) (O.faults out.old))
         (world (S.files shelf.new) (S.fetch_faults shelf.new) (S.keep_faults shelf.new) (O.written out.new) (O.faults out.new)) result }

@@ -30,10 +30,10 @@ returns-in-Err-clause-stop c =
     let A : List Row → List ℕ → Type 0 = λ rows s. IsAnswered (asked rows r.inputs.term s r.inputs.prices) (header_in r) (steps_in r) c.replay.result ⊎ Clashes (deploy_under (header_in r).limit (asked rows r.inputs.term s r.inputs.prices)) (steps_in r) in
     let source : c.bytes_digest-source.result.0 ≡ sha256 r.inputs.source.items = c.bytes_digest-source.ensures ∙ ap sha256 c.as_slice.ensures.value in
     λ rows state.
-        let base = c.as_slice-2.ensures.value ∙ (c.new-base.ensures.items ∙ sym state.none) in
-        let header : H rows (sha256 r.inputs.source.items) = subst (λ (s : List ℕ). H rows s) source (subst (λ (rs : List Row). H rs c.bytes_digest-source.result.0) base c.replay.ensures.refused) in
-        let answered : A rows (sha256 r.inputs.source.items) = subst (λ (s : List ℕ). A rows s) source (subst (λ (rs : List Row). A rs c.bytes_digest-source.result.0) base c.replay.ensures.answered) in
-        replay_stop rows r state c.replay.result header answered c.in-Err.fault c.in-Err.is (refusal_of c.in-Err.fault) refl c.status_of_fault.result c.status_of_fault.ensures
+    let base = c.as_slice-2.ensures.value ∙ (c.new-base.ensures.items ∙ sym state.none) in
+    let header : H rows (sha256 r.inputs.source.items) = subst (λ (s : List ℕ). H rows s) source (subst (λ (rs : List Row). H rs c.bytes_digest-source.result.0) base c.replay.ensures.refused) in
+    let answered : A rows (sha256 r.inputs.source.items) = subst (λ (s : List ℕ). A rows s) source (subst (λ (rs : List Row). A rs c.bytes_digest-source.result.0) base c.replay.ensures.answered) in
+    replay_stop rows r state c.replay.result header answered c.in-Err.fault c.in-Err.is (refusal_of c.in-Err.fault) refl c.status_of_fault.result c.status_of_fault.ensures
 
 pub returns-in-Ok-plan_of-clause-plan : goal.returns-in-Ok-plan_of-clause-plan
 returns-in-Ok-plan_of-clause-plan c =
@@ -42,7 +42,7 @@ returns-in-Ok-plan_of-clause-plan c =
     let A : List Row → List ℕ → Type 0 = λ rows s. IsAnswered (asked rows r.inputs.term s r.inputs.prices) (header_in r) (steps_in r) c.replay.result ⊎ Clashes (deploy_under (header_in r).limit (asked rows r.inputs.term s r.inputs.prices)) (steps_in r) in
     let source : c.bytes_digest-source.result.0 ≡ sha256 r.inputs.source.items = c.bytes_digest-source.ensures ∙ ap sha256 c.as_slice.ensures.value in
     λ rows state.
-        let base = c.as_slice-2.ensures.value ∙ (c.new-base.ensures.items ∙ sym state.none) in
-        let header : H rows (sha256 r.inputs.source.items) = subst (λ (s : List ℕ). H rows s) source (subst (λ (rs : List Row). H rs c.bytes_digest-source.result.0) base c.replay.ensures.refused) in
-        let answered : A rows (sha256 r.inputs.source.items) = subst (λ (s : List ℕ). A rows s) source (subst (λ (rs : List Row). A rs c.bytes_digest-source.result.0) base c.replay.ensures.answered) in
-        replay_plan rows r state c.replay.result header answered c.in-Ok.replayed c.in-Ok.is c.in-Ok-plan_of.plan c.in-Ok-plan_of.ensures
+    let base = c.as_slice-2.ensures.value ∙ (c.new-base.ensures.items ∙ sym state.none) in
+    let header : H rows (sha256 r.inputs.source.items) = subst (λ (s : List ℕ). H rows s) source (subst (λ (rs : List Row). H rs c.bytes_digest-source.result.0) base c.replay.ensures.refused) in
+    let answered : A rows (sha256 r.inputs.source.items) = subst (λ (s : List ℕ). A rows s) source (subst (λ (rs : List Row). A rs c.bytes_digest-source.result.0) base c.replay.ensures.answered) in
+    replay_plan rows r state c.replay.result header answered c.in-Ok.replayed c.in-Ok.is c.in-Ok-plan_of.plan c.in-Ok-plan_of.ensures
