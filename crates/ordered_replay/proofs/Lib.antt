@@ -1,0 +1,12 @@
+pub mod Differing
+pub mod Filing
+pub mod Headers
+pub mod Finding
+pub mod Deciding
+pub mod Standing
+pub mod Counting
+pub mod Stepping
+pub mod Beginning
+pub mod Ending
+pub mod Replaying
+pub mod Lawful
