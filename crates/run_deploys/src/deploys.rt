@@ -1,8 +1,11 @@
-ghost use Rattle.std.specs.Prelude.{◌≡◌, ◌≤◌, ◌⊎◌, ◌∷◌, [], IfOk, length, string_bytes};
+ghost use Rattle.std.specs.Prelude.{◌≡◌, ◌≤◌, ◌⊎◌, ◌∷◌, [], IfOk, OnOk, OnErr, IsErrOf, length, string_bytes};
 ghost use Rattle.calculus.specs.Form.{IsClosed};
 ghost use Rattle.calculus.specs.Limits.{most_limit as greatest_limit};
 ghost use Rattle.sources.specs.Sources.{IsSourceOf};
 ghost use Rattle.rho_outside.specs.Causes.{Rose};
+ghost use Rattle.rho_outside.specs.Put.{GrewBy};
+ghost use Rattle.rho_outside.specs.Kept.{with_files};
+ghost use Rattle.run_reports.specs.Stops.{StopsOnTheWay};
 ghost use Rattle.command_words.specs.Answers.{run_of};
 ghost use Rattle.run_inputs.specs.Given.{task_of};
 ghost use Rattle.run_inputs.specs.Ended.{DeployEnds};
@@ -82,6 +85,26 @@ fn make_plan(alloc: Global, inputs: &Inputs, limit: u64) -> Result<Plan, AllocEr
     })
 }
 
+/// Keeps the log and then the next state, and then puts what is printed and the report.
+fn write_plan<S: Shelf, O: Sink>(
+    alloc: Global,
+    run: &Run,
+    plan: &Plan,
+    shelf: &mut S,
+    out: &mut O,
+) -> Result<(), Halt>
+    ensures kept { OnOk result (S.files shelf.new ≡ with_files ((string_bytes run.now.log, plan.now.log.items) ∷ (string_bytes run.now.next, plan.now.next.items) ∷ []) (S.files shelf.old)) }
+    ensures put { OnOk result (GrewBy plan.now.bytes.items (O.written out.old) (O.written out.new)) }
+    ensures part { OnErr result (StopsOnTheWay ((string_bytes run.now.log, plan.now.log.items) ∷ (string_bytes run.now.next, plan.now.next.items) ∷ []) plan.now.bytes.items
+        (S.files shelf.old) (S.files shelf.new) (S.keep_faults shelf.old) (S.keep_faults shelf.new) (O.written out.old) (O.written out.new)) }
+    ensures cause { IsErrOf result Halt.WriteFault → Rose (S.keep_faults shelf.old) (S.keep_faults shelf.new) ⊎ Rose (O.faults out.old) (O.faults out.new) }
+    ensures fetch_faults { S.fetch_faults shelf.new ≡ S.fetch_faults shelf.old }
+{
+    let log = (run.log.as_str(), plan.log.as_slice());
+    let next = (run.next.as_str(), plan.next.as_slice());
+    keep_both_and_put(alloc, shelf, out, log, next, plan.bytes.as_slice())
+}
+
 /// Runs a source, as `deploy` does.
 fn deploy_run<S: Shelf, O: Sink>(
     alloc: Global,
@@ -104,9 +127,7 @@ fn deploy_run<S: Shelf, O: Sink>(
         Ok(plan) => plan,
         Err(_) => return Status::NoMemory,
     };
-    let log = (run.log.as_str(), plan.log.as_slice());
-    let next = (run.next.as_str(), plan.next.as_slice());
-    match keep_both_and_put(alloc, shelf, out, log, next, plan.bytes.as_slice()) {
+    match write_plan(alloc, run, &plan, shelf, out) {
         Ok(()) => status_of(plan.verdict),
         Err(Halt::WriteFault) => Status::WriteFault,
         Err(Halt::NoMemory) => Status::NoMemory,

@@ -1,7 +1,10 @@
-ghost use Rattle.std.specs.Prelude.{◌≡◌, ◌≤◌, ◌⊎◌, List, length, IfOk, IfErr};
+ghost use Rattle.std.specs.Prelude.{◌≡◌, ◌≤◌, ◌⊎◌, ◌∷◌, [], List, length, IfOk, IfErr, OnOk, OnErr, IsErrOf, string_bytes};
 ghost use Rattle.calculus.specs.Form.{IsClosed};
 ghost use Rattle.calculus.specs.Rows.{Row as StoredRow};
 ghost use Rattle.rho_outside.specs.Causes.{Rose};
+ghost use Rattle.rho_outside.specs.Put.{GrewBy};
+ghost use Rattle.rho_outside.specs.Kept.{with_files};
+ghost use Rattle.run_reports.specs.Stops.{StopsOnTheWay};
 ghost use Rattle.sources.specs.Sources.{IsSourceOf};
 ghost use Rattle.replay_faults.specs.Refusals.{refusal_of};
 ghost use Rattle.command_words.specs.Answers.{run_of};
@@ -107,6 +110,25 @@ fn make_replay_plan(alloc: Global, inputs: &ReplayInputs) -> Result<ReplayPlan, 
     }
 }
 
+/// Keeps the next state, and then puts what is printed and the report.
+fn write_replay<S: Shelf, O: Sink>(
+    alloc: Global,
+    run: &Run,
+    plan: &ReplayPlan,
+    shelf: &mut S,
+    out: &mut O,
+) -> Result<(), Halt>
+    ensures kept { OnOk result (S.files shelf.new ≡ with_files ((string_bytes run.now.next, plan.now.next.items) ∷ []) (S.files shelf.old)) }
+    ensures put { OnOk result (GrewBy plan.now.bytes.items (O.written out.old) (O.written out.new)) }
+    ensures part { OnErr result (StopsOnTheWay ((string_bytes run.now.next, plan.now.next.items) ∷ []) plan.now.bytes.items
+        (S.files shelf.old) (S.files shelf.new) (S.keep_faults shelf.old) (S.keep_faults shelf.new) (O.written out.old) (O.written out.new)) }
+    ensures cause { IsErrOf result Halt.WriteFault → Rose (S.keep_faults shelf.old) (S.keep_faults shelf.new) ⊎ Rose (O.faults out.old) (O.faults out.new) }
+    ensures fetch_faults { S.fetch_faults shelf.new ≡ S.fetch_faults shelf.old }
+{
+    let next = (run.next.as_str(), plan.next.as_slice());
+    keep_and_put(alloc, shelf, out, next, plan.bytes.as_slice())
+}
+
 /// Replays a log, as `replay` does.
 fn replay_run<S: Shelf, O: Sink>(alloc: Global, run: &Run, shelf: &mut S, out: &mut O) -> Status
     ensures ends { ReplayEnds IsSettled (S.files shelf.old) (run_of run.now) (S.fetch_faults shelf.old) (S.fetch_faults shelf.new) result }
@@ -123,8 +145,7 @@ fn replay_run<S: Shelf, O: Sink>(alloc: Global, run: &Run, shelf: &mut S, out: &
         Ok(plan) => plan,
         Err(status) => return status,
     };
-    let next = (run.next.as_str(), plan.next.as_slice());
-    match keep_and_put(alloc, shelf, out, next, plan.bytes.as_slice()) {
+    match write_replay(alloc, run, &plan, shelf, out) {
         Ok(()) => status_of(plan.verdict),
         Err(Halt::WriteFault) => Status::WriteFault,
         Err(Halt::NoMemory) => Status::NoMemory,

@@ -1,6 +1,7 @@
 use Rattle.std.proofs.Common.{◌≡◌, ◌≢◌, ◌∙◌, ◌⊎◌, ℕ, List, [], map, replicate, ap, sym, refl, rules, subst, arith}
 use Rattle.std.proofs.lemmas.List.{length-map}
 use Rattle.sha2.specs.Sha256.{sha256}
+use Rattle.calculus.specs.Limits.{price_digest}
 use Rattle.calculus.specs.Log.{Step, log_text}
 use Rattle.calculus.specs.Rows.{Row}
 use Rattle.calculus.specs.Root.{root}
@@ -55,7 +56,7 @@ returns c =
         old = λ n. (next.old n).1 ∙ c.as_slice-state.ensures.value;
         silent = silent o.verdict o.output.items;
       };
-      log = c.in_ok-log.ensures ∙ (ap (λ s. F (replicate 32 0) s c.digest.result.0) source ∙ (ap (λ p. F (replicate 32 0) (sha256 bytes) p) digest ∙ ap (λ b. F b (sha256 bytes) _) root_is));
+      log = c.in_ok-log.ensures ∙ (ap (λ s. F (replicate 32 0) s c.digest.result.0) source ∙ (ap (λ p. F (replicate 32 0) (sha256 bytes) p) digest ∙ ap (λ b. F b (sha256 bytes) (price_digest i.prices)) root_is));
       next = refl;
       bytes = search rules;
       verdict = refl;

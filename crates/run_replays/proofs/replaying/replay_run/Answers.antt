@@ -6,17 +6,17 @@ use Rattle.run_replays.proofs.ReplayEnding.{replay_refused_ends, stop_ends, faul
 use Rattle.run_replays.proofs.replaying.replay_run.Goals as goal
 
 pub returns-in-Err-clause-ends : goal.returns-in-Err-clause-ends
-returns-in-Err-clause-ends g c = replay_refused_ends (g.S.Shelf.files c.args.shelf.now) (run_of c.args.run.now) _ _ c.in-Err.status c.in-Err.ensures.refused
+returns-in-Err-clause-ends g c = replay_refused_ends (g.S.Shelf.files c.args.shelf.now) (run_of c.args.run.now) (g.S.Shelf.fetch_faults c.args.shelf.now) (g.S.Shelf.fetch_faults c.accept_replay.new.shelf) c.in-Err.status c.in-Err.ensures.refused
 
 pub returns-in-Err-make_replay_plan-clause-ends : goal.returns-in-Err-make_replay_plan-clause-ends
 returns-in-Err-make_replay_plan-clause-ends g c =
     let a = c.in-Ok.ensures in
-    stop_ends (g.S.Shelf.files c.args.shelf.now) (run_of c.args.run.now) _ _ c.in-Ok.inputs a.accepted a.told a.state a.term c.in-Err-make_replay_plan.status (c.in-Err-make_replay_plan.ensures.stop a.state.0 a.state.1)
+    stop_ends (g.S.Shelf.files c.args.shelf.now) (run_of c.args.run.now) (g.S.Shelf.fetch_faults c.args.shelf.now) (g.S.Shelf.fetch_faults c.accept_replay.new.shelf) c.in-Ok.inputs a.accepted a.told a.state a.term c.in-Err-make_replay_plan.status (c.in-Err-make_replay_plan.ensures.stop a.state.0 a.state.1)
 
-pub returns-in-Ok-keep_and_put-clause-ends : goal.returns-in-Ok-keep_and_put-clause-ends
-returns-in-Ok-keep_and_put-clause-ends g c =
+pub returns-in-Ok-write_replay-clause-ends : goal.returns-in-Ok-write_replay-clause-ends
+returns-in-Ok-write_replay-clause-ends g c =
     let a = c.in-Ok.ensures in
-    replay_verdict_ends (g.S.Shelf.files c.args.shelf.now) (run_of c.args.run.now) _ _ c.in-Ok.inputs a.accepted a.told a.state a.term
+    replay_verdict_ends (g.S.Shelf.files c.args.shelf.now) (run_of c.args.run.now) (g.S.Shelf.fetch_faults c.args.shelf.now) (g.S.Shelf.fetch_faults c.write_replay.new.shelf) c.in-Ok.inputs a.accepted a.told a.state a.term
     c.in-Ok-make_replay_plan.plan (c.in-Ok-make_replay_plan.ensures.plan a.state.0 a.state.1) c.status_of.result c.status_of.ensures
 
 pub returns-in-Err-WriteFault-clause-ends : goal.returns-in-Err-WriteFault-clause-ends
@@ -25,16 +25,16 @@ returns-in-Err-WriteFault-clause-ends g c =
     fault_ends (g.S.Shelf.files c.args.shelf.now) (run_of c.args.run.now) 0 0 c.in-Ok.inputs a.accepted a.told a.state a.term
     c.in-Ok-make_replay_plan.plan (c.in-Ok-make_replay_plan.ensures.plan a.state.0 a.state.1)
 
-pub returns-in-Ok-keep_and_put-clause-verdict : goal.returns-in-Ok-keep_and_put-clause-verdict
-returns-in-Ok-keep_and_put-clause-verdict g c =
+pub returns-in-Ok-write_replay-clause-verdict : goal.returns-in-Ok-write_replay-clause-verdict
+returns-in-Ok-write_replay-clause-verdict g c =
     let names = run_of c.args.run.now in
     let old = g.S.Shelf.files c.args.shelf.now in
-    let new = g.S.Shelf.files c.keep_and_put.new.shelf in
+    let new = g.S.Shelf.files c.write_replay.new.shelf in
     let before = g.O.Sink.written c.args.out.now in
-    let after = g.O.Sink.written c.keep_and_put.new.out in
+    let after = g.O.Sink.written c.write_replay.new.out in
     let s = c.status_of.result in
     let a = c.in-Ok.ensures in
-    let w = c.in-Ok-keep_and_put.ensures in
+    let w = c.in-Ok-write_replay.ensures in
     on_verdict s (ReplayLeaves s names old new before after)
     (replay_leaves_all old names 0 0 c.in-Ok.inputs a.accepted a.told a.state a.term c.in-Ok-make_replay_plan.plan (c.in-Ok-make_replay_plan.ensures.plan a.state.0 a.state.1)
     old (g.S.Shelf.files c.accept_replay.new.shelf) new before after a.files s c.status_of.ensures w.kept w.put)
@@ -43,9 +43,9 @@ pub returns-in-Err-WriteFault-clause-part : goal.returns-in-Err-WriteFault-claus
 returns-in-Err-WriteFault-clause-part g c =
     let names = run_of c.args.run.now in
     let old = g.S.Shelf.files c.args.shelf.now in
-    let new = g.S.Shelf.files c.keep_and_put.new.shelf in
+    let new = g.S.Shelf.files c.write_replay.new.shelf in
     let before = g.O.Sink.written c.args.out.now in
-    let after = g.O.Sink.written c.keep_and_put.new.out in
+    let after = g.O.Sink.written c.write_replay.new.out in
     let a = c.in-Ok.ensures in
     λ files h. inr (replay_leaves_some old names 0 0 c.in-Ok.inputs a.accepted a.told a.state a.term c.in-Ok-make_replay_plan.plan (c.in-Ok-make_replay_plan.ensures.plan a.state.0 a.state.1)
     old (g.S.Shelf.files c.accept_replay.new.shelf) new before after a.files _ _ _ a.keep_faults c.in-Err-WriteFault.ensures.part files h)
@@ -54,9 +54,9 @@ pub returns-clause-part : goal.returns-clause-part
 returns-clause-part g c =
     let names = run_of c.args.run.now in
     let old = g.S.Shelf.files c.args.shelf.now in
-    let new = g.S.Shelf.files c.keep_and_put.new.shelf in
+    let new = g.S.Shelf.files c.write_replay.new.shelf in
     let before = g.O.Sink.written c.args.out.now in
-    let after = g.O.Sink.written c.keep_and_put.new.out in
+    let after = g.O.Sink.written c.write_replay.new.out in
     let a = c.in-Ok.ensures in
     λ files h. inr (replay_leaves_some old names 0 0 c.in-Ok.inputs a.accepted a.told a.state a.term c.in-Ok-make_replay_plan.plan (c.in-Ok-make_replay_plan.ensures.plan a.state.0 a.state.1)
     old (g.S.Shelf.files c.accept_replay.new.shelf) new before after a.files _ _ _ a.keep_faults c.in-Err-NoMemory.ensures.part files h)
