@@ -1,5 +1,5 @@
 -- What is promised of a deploy.
-use Rattle.std.specs.Prelude.{◌≡◌, ◌⊎◌, ℕ, List, IfOk}
+use Rattle.std.specs.Prelude.{◌≡◌, ◌⊎◌, ℕ, IfOk}
 use Rattle.rho_outside.specs.Causes.{Rose}
 use Rattle.rho_outside.specs.Told.{Told}
 use Rattle.command_words.specs.Commands.{RunRequest}

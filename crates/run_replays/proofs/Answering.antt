@@ -1,30 +1,27 @@
 -- What a replay that accepts its inputs says of the answer to its log.
-use Rattle.std.proofs.Common.{◌≡◌, ◌∙◌, ◌⊎◌, inl, inr, ℕ, List, [], ◌∷◌, refl, sym, ap, subst, Result, Ok, Err, Option, Some, None}
-use Rattle.std.specs.Result.{IsOkAnd, IsOk}
-use Rattle.sha2.specs.Sha256.{sha256}
+use Rattle.std.proofs.Common.{◌≡◌, ◌∙◌, ◌⊎◌, inl, inr, ℕ, List, refl, sym, ap, subst, Result, Ok, None}
+use Rattle.std.specs.Result.{IsOk}
 use Rattle.calculus.specs.Log.{Step, Header}
 use Rattle.calculus.specs.Rows.{Row}
 use Rattle.calculus.specs.Runs.{Verdict, done, exhausted, faulted}
 use Rattle.calculus.specs.Tree.{Tree}
-use Rattle.replays.specs.Replays.{Given, Refusal, Outcome, Answer, refused, replayed, header_refusal, deploy_under, Answers}
+use Rattle.replays.specs.Replays.{Outcome, Answer, refused, replayed, header_refusal, deploy_under, Answers}
 use Rattle.replays.proofs.Answering.{one_answer}
 use Rattle.sources.specs.Sources.{IsSourceOf}
 use Rattle.sources.proofs.Answering.{one_term}
 use Rattle.event_log.specs.Reading.{log_of}
 use Rattle.ordered_replay.specs.Answers.{Clashes}
-use Rattle.replay_faults.specs.Refusals.{refusal_of}
 use Rattle.replay_faults.specs.declared.fault.ReplayFault.{ReplayFault}
 use Rattle.run_verdict.specs.View.{verdict_of}
 use Rattle.run_verdict.specs.declared.verdict.Verdict.{Verdict as Ending}
 use Rattle.run_verdict.specs.declared.verdict.Verdict.TheVariants as ending
 use Rattle.run_inputs.specs.Inputs.{Task}
-use Rattle.run_inputs.specs.Given.{task_of, IsGiven}
-use Rattle.run_inputs.specs.Runnable.{IsStateOf, IsState, IsRunnable}
+use Rattle.run_inputs.specs.Given.{IsGiven}
+use Rattle.run_inputs.specs.Runnable.{IsStateOf}
 use Rattle.run_inputs.specs.declared.acceptance.ReplayInputs.{ReplayInputs}
 use Rattle.run_status.specs.Endings.{status_of, HasEnded}
 use Rattle.run_status.specs.declared.status.Status.{Status}
 use Rattle.run_status.specs.declared.status.Status.TheVariants as status
-use Rattle.run_deploys.specs.Runs.{Left}
 use Rattle.run_replays.specs.Replaying.{given_in, AreReadAs, IsAnswerTo, HasClash, SaysAnswer, IsSettled, status_for, IsLeftByOutcome, IsLeftByAnswer, IsLeftByReplay}
 use Rattle.run_replays.specs.ReplayPlans.{given_of, header_in, steps_in, ClashIn, IsRefusedBy, IsReplayPlan}
 use Rattle.run_replays.specs.Replays.{TellsAnswer, EndsIfRun}

@@ -1,7 +1,6 @@
 -- The log of a deploy is answered by what the deploy left.
-use Rattle.std.proofs.Common.{◌≡◌, ◌∙◌, ◌≤◌, ◌⊎◌, inl, inr, ℕ, List, Option, Some, None, refl, sym, ap}
-use Rattle.std.specs.Prelude.{cond, leb, ◌&&◌, true}
-use Rattle.std.specs.Str.{bytes_eq}
+use Rattle.std.proofs.Common.{◌≡◌, ◌∙◌, ◌≤◌, ◌⊎◌, inl, inr, ℕ, List, Option, Some, None, refl, ap}
+use Rattle.std.specs.Prelude.{cond, leb, ◌&&◌}
 use Rattle.std.proofs.lemmas.Bool.{le-leb}
 use Rattle.std.proofs.lemmas.Slice.Eq.{bytes_eq-Decides}
 use Rattle.sha2.specs.Sha256.{sha256}
@@ -10,9 +9,9 @@ use Rattle.calculus.specs.Root.{root}
 use Rattle.calculus.specs.Rows.{Row}
 use Rattle.calculus.specs.Runs.{Verdict, done, exhausted, faulted, verdict}
 use Rattle.calculus.specs.Tree.{Tree}
-use Rattle.replays.specs.Replays.{Outcome, Refusal, replayed, header_refusal, unless_equal, wrong_limit, deploy_under, outcome_of, output_of, Answers, by_end}
+use Rattle.replays.specs.Replays.{Outcome, Refusal, replayed, header_refusal, unless_equal, wrong_limit, outcome_of, output_of, Answers, by_end}
 use Rattle.run_inputs.specs.Inputs.{Task}
-use Rattle.run_deploys.specs.Runs.{Left, header_of, deploy_in, printed, ShowsAClash, IsLeftByRun, IsLeftBySource}
+use Rattle.run_deploys.specs.Runs.{header_of, deploy_in, printed, ShowsAClash, IsLeftByRun}
 use Rattle.run_replays.specs.Replaying.{given_in, IsLeftByOutcome}
 use Rattle.run_replays.specs.Laws.{KeptLogsAreAnswered}
 

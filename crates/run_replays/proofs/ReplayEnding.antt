@@ -1,7 +1,6 @@
 -- How a replay ended, and what it leaves of the told files and bytes.
-use Rattle.std.proofs.Common.{◌≡◌, ◌∙◌, ◌⊎◌, inl, inr, ℕ, List, [], ◌∷◌, refl, sym, ap, subst, Result, Ok, Err, Option}
+use Rattle.std.proofs.Common.{◌≡◌, ◌∙◌, ℕ, List, [], ◌∷◌, refl, sym, ap, subst, Result, Ok, Err, Option}
 use Rattle.std.specs.Result.{IsOkAnd, IsOk}
-use Rattle.event_log.specs.Reading.{log_of}
 use Rattle.rho_outside.specs.FileMap.{FileMap}
 use Rattle.rho_outside.specs.Told.{Told}
 use Rattle.rho_outside.specs.Put.{GrewBy}
@@ -11,7 +10,7 @@ use Rattle.sources.specs.Sources.{IsSourceOf}
 use Rattle.run_verdict.specs.declared.verdict.Verdict.{Verdict as Ending}
 use Rattle.run_verdict.specs.declared.verdict.Verdict.TheVariants as ending
 use Rattle.run_inputs.specs.Inputs.{Task, accepted_log}
-use Rattle.run_inputs.specs.Given.{task_of, IsGiven}
+use Rattle.run_inputs.specs.Given.{IsGiven}
 use Rattle.run_inputs.specs.Runnable.{IsState, IsRunnable, HasState}
 use Rattle.run_inputs.specs.Replaying.{ReplayRefusedFor}
 use Rattle.run_inputs.specs.Ended.{IsReplayable, IsReplayAccepted, ReplayEnds}

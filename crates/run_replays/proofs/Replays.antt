@@ -1,5 +1,5 @@
 -- What a replay came to.
-use Rattle.std.proofs.Common.{◌≡◌, ◌≢◌, ◌∙◌, ◌⊎◌, inl, inr, ℕ, List, [], ◌∷◌, ◌++◌, map as each, replicate, length, refl, sym, ap, subst, Result, Ok, Err, Option, Some, None, IfSome}
+use Rattle.std.proofs.Common.{◌≡◌, ◌≢◌, ◌∙◌, ◌⊎◌, inl, inr, ℕ, List, [], replicate, length, refl, sym, ap, subst, Result, Ok, Err, Option, Some, None, IfSome}
 use Rattle.std.specs.Prelude.{IsErrAnd, IsPermutation, ⊤}
 use Rattle.std.proofs.lemmas.List.{length-map}
 use Rattle.calculus.specs.Log.{Step, Header}
@@ -15,14 +15,14 @@ use Rattle.run_verdict.specs.declared.verdict.Verdict.{Verdict as Ending}
 use Rattle.run_verdict.specs.declared.verdict.Verdict.TheVariants as ending
 use Rattle.replay_faults.specs.Refusals.{refusal_of}
 use Rattle.replay_faults.specs.declared.fault.ReplayFault.{ReplayFault}
-use Rattle.ordered_replay.specs.Answers.{Clashes, IsReplayed, IsAnswered}
+use Rattle.ordered_replay.specs.Answers.{IsReplayed, IsAnswered}
 use Rattle.ordered_replay.specs.declared.replayed.Replayed.{Replayed}
 use Rattle.run_inputs.specs.Runnable.{IsStateOf}
 use Rattle.run_inputs.specs.declared.acceptance.ReplayInputs.{ReplayInputs}
 use Rattle.run_status.specs.declared.status.Status.{Status}
 use Rattle.run_deploys.specs.Runs.{Left, printed}
 use Rattle.run_replays.specs.Replaying.{IsLeftByOutcome, IsLeftByAnswer}
-use Rattle.run_replays.specs.ReplayPlans.{given_of, header_in, steps_in, ClashIn, IsRefusedBy, ReplayStatusOf, IsReplayStop, IsReplayPlan, IsPlanned}
+use Rattle.run_replays.specs.ReplayPlans.{given_of, header_in, steps_in, ClashIn, ReplayStatusOf, IsReplayStop, IsReplayPlan, IsPlanned}
 use Rattle.run_replays.specs.declared.replaying.ReplayPlan.{ReplayPlan}
 use Rattle.run_deploys.proofs.Running.{root_of_none, silent}
 

@@ -13,7 +13,6 @@ use Rattle.ordered_replay.specs.declared.replayed.Replayed.{Replayed}
 use Rattle.run_verdict.specs.View.{verdict_of}
 use Rattle.run_verdict.specs.declared.verdict.Verdict.TheVariants.{Done}
 use Rattle.run_inputs.specs.Given.{task_of}
-use Rattle.run_inputs.specs.Runnable.{IsStateOf}
 use Rattle.run_inputs.specs.declared.acceptance.ReplayInputs.{ReplayInputs}
 use Rattle.run_reports.specs.Report.{report_line}
 use Rattle.run_status.specs.declared.status.Status.{Status}

@@ -2,7 +2,6 @@ use Rattle.std.proofs.Common.{inr}
 use Rattle.command_words.specs.Answers.{run_of}
 use Rattle.run_inputs.specs.Given.{task_of}
 use Rattle.run_inputs.specs.Inputs.{accepted}
-use Rattle.run_status.specs.declared.status.Status.TheVariants.{WriteFault}
 use Rattle.run_deploys.specs.Ends.{Leaves, LeavesAll, LeavesSome}
 use Rattle.run_deploys.proofs.Leaving.{on_verdict, ok_and, leaves_all, leaves_some}
 use Rattle.run_deploys.proofs.Ending.{refused_ends, verdict_ends, accepted_in}

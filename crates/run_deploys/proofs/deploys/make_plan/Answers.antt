@@ -15,7 +15,7 @@ use Rattle.run_verdict.specs.View.{verdict_of}
 use Rattle.run_verdict.specs.declared.verdict.Verdict.TheVariants.{Done}
 use Rattle.worker_round.specs.Courses.{IsRunOf}
 use Rattle.worker_round.proofs.Bases.{from-nothing}
-use Rattle.run_deploys.specs.Runs.{printed, Left, header_of}
+use Rattle.run_deploys.specs.Runs.{printed, Left}
 use Rattle.run_deploys.proofs.Running.{left_or_clash, numberable, root_of_none, silent, takes}
 use Rattle.run_deploys.proofs.deploys.make_plan.Goals as goal
 

@@ -1,4 +1,4 @@
-use Rattle.std.proofs.Common.{◌≡◌, ◌∙◌, ◌⊎◌, List, ℕ, None, Some, true, refl, sym, ap, subst, map}
+use Rattle.std.proofs.Common.{◌≡◌, ◌∙◌, ◌⊎◌, List, ℕ, Some, refl, sym, ap, subst}
 use Rattle.std.specs.Prelude.{IsErrAnd}
 use Rattle.sha2.specs.Sha256.{sha256}
 use Rattle.calculus.specs.Rows.{Row}

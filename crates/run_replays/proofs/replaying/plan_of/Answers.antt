@@ -1,4 +1,4 @@
-use Rattle.std.proofs.Common.{◌≡◌, ◌∙◌, List, ℕ, refl, rules, subst}
+use Rattle.std.proofs.Common.{◌≡◌, ◌∙◌, List, refl, rules, subst}
 use Rattle.calculus.specs.Rows.{Row}
 use Rattle.calculus.specs.Root.{root}
 use Rattle.states.specs.States.{state_text}
