@@ -10,6 +10,7 @@ use Rattle.replays.proofs.Answering.{one_answer}
 use Rattle.sources.specs.Sources.{IsSourceOf}
 use Rattle.sources.proofs.Answering.{one_term}
 use Rattle.event_log.specs.Reading.{log_of}
+use Rattle.event_log.specs.declared.fault.LogFault.{LogFault}
 use Rattle.ordered_replay.specs.Answers.{Clashes}
 use Rattle.replay_faults.specs.declared.fault.ReplayFault.{ReplayFault}
 use Rattle.run_verdict.specs.View.{verdict_of}
@@ -27,15 +28,16 @@ use Rattle.run_replays.specs.ReplayPlans.{given_of, header_in, steps_in, ClashIn
 use Rattle.run_replays.specs.Replays.{TellsAnswer, EndsIfRun}
 use Rattle.run_replays.specs.declared.replaying.ReplayPlan.{ReplayPlan}
 
+-- one log stands in equal results
+same-log : (x y : Header × List Step) → (let r : Result (Header × List Step) LogFault = Ok x in r) ≡ Ok y → x ≡ y
+same-log x y e = cc e
+
 -- inputs are read in one way
 module _ (inputs : Task × List ℕ) where
   pub one_reading : (q r : List Row) (t u : Tree) (h k : Header) (ss ts : List Step) → AreReadAs inputs q t h ss → AreReadAs inputs r u k ts → (q ≡ r) × ((t ≡ u) × ((h ≡ k) × (ss ≡ ts)))
   one_reading q r t u h k ss ts a b =
       let logs = same-log (h, ss) (k, ts) (sym a.log ∙ b.log) in
       (a.state.none ∙ sym b.state.none, (one_term inputs.0.source t u a.spelt b.spelt, (ap (λ (p : Header × List Step). p.0) logs, ap (λ (p : Header × List Step). p.1) logs)))
-    where
-      same-log : (x y : Header × List Step) → (let r : Result (Header × List Step) _ = Ok x in r) ≡ Ok y → x ≡ y
-      same-log x y e = cc e
 
   -- their log has one answer
   pub one_answer_to : (x y : Answer) → IsAnswerTo inputs x → IsAnswerTo inputs y → x ≡ y

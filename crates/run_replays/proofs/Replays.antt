@@ -27,7 +27,7 @@ use Rattle.run_replays.specs.declared.replaying.ReplayPlan.{ReplayPlan}
 use Rattle.run_deploys.proofs.Running.{root_of_none, silent}
 
 -- an outcome that is not done has no output
-IsQuiet : Answer → Type 0
+abbrev IsQuiet : Answer → Type 0
 IsQuiet (refused r) = ⊤
 IsQuiet (replayed o) = o.verdict ≢ done → o.output ≡ []
 

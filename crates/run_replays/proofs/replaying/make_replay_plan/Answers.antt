@@ -3,25 +3,20 @@ use Rattle.std.specs.Prelude.{IsErrAnd}
 use Rattle.sha2.specs.Sha256.{sha256}
 use Rattle.calculus.specs.Rows.{Row}
 use Rattle.calculus.specs.Root.{root}
-use Rattle.calculus.specs.Steps.{differ}
 use Rattle.replays.specs.Replays.{Refusal, header_refusal, deploy_under}
 use Rattle.ordered_replay.specs.Answers.{Clashes, IsAnswered}
 use Rattle.ordered_replay.specs.Bases.{asked}
-use Rattle.ordered_replay.specs.Rows.{ids_of}
 use Rattle.replay_faults.specs.Refusals.{refusal_of}
 use Rattle.run_replays.specs.ReplayPlans.{header_in, steps_in}
 use Rattle.run_deploys.proofs.Running.{numberable, root_of_none}
 use Rattle.run_replays.proofs.Replays.{replay_stop, replay_plan}
 use Rattle.run_replays.proofs.replaying.make_replay_plan.Goals as goal
 
-pub replay-requires-root : goal.replay-requires-root
-replay-requires-root c = ap root (c.as_slice-2.ensures.value ∙ c.new-base.ensures.items) ∙ sym root_of_none
+pub replay-requires-clause-root : goal.replay-requires-clause-root
+replay-requires-clause-root c = ap root (c.as_slice-2.ensures.value ∙ c.new-base.ensures.items) ∙ sym root_of_none
 
-pub replay-requires-ids : goal.replay-requires-ids
-replay-requires-ids c = ap (λ (rs : List Row). differ (ids_of rs)) (c.as_slice-2.ensures.value ∙ c.new-base.ensures.items)
-
-pub replay-requires-numberable : goal.replay-requires-numberable
-replay-requires-numberable c = numberable c.args.inputs.now.inputs.source.items c.args.inputs.now.inputs.term c.requires.source c.requires.short
+pub replay-requires-clause-numberable : goal.replay-requires-clause-numberable
+replay-requires-clause-numberable c = numberable c.args.inputs.now.inputs.source.items c.args.inputs.now.inputs.term c.requires.source c.requires.short
 
 pub returns-in-Err-clause-stop : goal.returns-in-Err-clause-stop
 returns-in-Err-clause-stop c =
