@@ -1,12 +1,12 @@
 -- Codes of the rows of a key, one row after another and in another order.
-use Rattle.std.proofs.Common.{◌≡◌, ℕ, zero, suc, ◌<◌, ◌+◌, Bool, true, false, cond, List, [], ◌∷◌, ◌++◌, length, map as each, take, drop, get_or, refl, ap, sym, ◌∙◌, subst, arith, append-nil, inl, inr, ⊎_elim}
+use Rattle.std.proofs.Common.{◌≡◌, ℕ, suc, ◌<◌, ◌+◌, Bool, true, false, cond, List, [], ◌∷◌, ◌++◌, length, map as each, take, drop, get_or, refl, ap, sym, ◌∙◌, subst, arith, append-nil, inl, inr}
 use Rattle.std.specs.Prelude.{◌⊎◌, IsPermutation, All}
 use Rattle.std.specs.Str.{bytes_eq}
 use Rattle.std.proofs.Math.Seq.{drop-cons}
 use Rattle.std.proofs.lemmas.List.{take_more}
 use Rattle.std.proofs.lemmas.List.Elements.{All-head, All-tail, All-cons}
 use Rattle.list_laws.specs.Exchanges.{Exchanges, nothing, under, neighbours, then}
-use Rattle.list_laws.proofs.Permutations.{exchanges, permuted, keep, join, unmoved, exchange}
+use Rattle.list_laws.proofs.Permutations.{exchanges, keep, join, unmoved, exchange}
 use Rattle.calculus.specs.Order.{sorted, up_to, IsAscending, IsBelowFirst}
 use Rattle.calculus.specs.Rows.{Row, row_code}
 use Rattle.calculus.specs.Root.{key}

@@ -3,7 +3,3 @@ pub mod Sorting
 pub mod Adding
 pub mod Nothing
 pub mod Ordering
-pub mod Placing
-pub mod Ids
-pub mod Misplaced
-pub mod Beginning

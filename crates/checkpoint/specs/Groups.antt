@@ -1,5 +1,5 @@
 -- Rows with the keys of their groups, and groups that were added to a tree.
-use Rattle.std.specs.Prelude.{◌≡◌, All, cond, ℕ, List, [], map as each}
+use Rattle.std.specs.Prelude.{◌≡◌, All, cond, List, [], map as each}
 use Rattle.std.specs.Str.{bytes_eq}
 use Rattle.calculus.specs.Order.{IsAscending}
 use Rattle.calculus.specs.Rows.{Row}

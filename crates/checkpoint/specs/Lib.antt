@@ -1,5 +1,3 @@
 pub mod Kept
 pub mod Groups
 pub mod Texts
-pub mod Files
-pub mod Reading

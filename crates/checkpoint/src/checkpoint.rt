@@ -1,5 +1,6 @@
 ghost use Rattle.std.specs.Prelude.{◌≡◌, [], IfOk};
 ghost use Rattle.calculus.specs.Root.{root};
+ghost use Rattle.radix_root.specs.Leaves.{groups_of, Keeps};
 ghost use Rattle.checkpoint.specs.Kept.{AreKept};
 
 use crate::groups::tree_of;
@@ -55,6 +56,15 @@ impl Checkpoint {
     {
         let tree = tree_of(alloc, rows.as_slice())?;
         Ok(Checkpoint { rows, tree })
+    }
+
+    /// The checkpoint of these rows, whose groups the tree has.
+    pub fn with_tree(rows: Vec<Row>, tree: RadixTree) -> Checkpoint
+        requires kept { AreKept rows.items }
+        requires tree { Keeps tree (groups_of rows.items) }
+        ensures { result ≡ rows.items }
+    {
+        Checkpoint { rows, tree }
     }
 
     /// Its rows.

@@ -95,7 +95,7 @@ fn rows_by_key<'a>(alloc: Global, rows: &'a [Row]) -> Result<Vec<KeyedRow<'a>>, 
 }
 
 /// The tree of the groups of these rows. Want of memory is the one error.
-pub(crate) fn tree_of(alloc: Global, rows: &[Row]) -> Result<RadixTree, AllocError>
+pub fn tree_of(alloc: Global, rows: &[Row]) -> Result<RadixTree, AllocError>
     ensures { IfOk result (λ t. Keeps t (groups_of rows.now)) }
 {
     let keyed = rows_by_key(alloc, rows)?;

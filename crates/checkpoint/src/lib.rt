@@ -2,15 +2,12 @@
 #![tactic(auto)]
 
 mod checkpoint;
-pub mod fault;
-pub mod front;
 mod groups;
 mod outcome;
-mod read;
 mod text;
 
 pub use checkpoint::Checkpoint;
-pub use fault::StateFault;
+pub use groups::tree_of;
 pub use outcome::Outcome;
 pub use run_verdict::Verdict;
-pub use text::write_state;
+pub use text::{state_of, write_state};

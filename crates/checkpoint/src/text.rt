@@ -1,10 +1,13 @@
 ghost use Rattle.std.specs.Prelude.{◌≡◌, ◌++◌, map, IfOk, OnOk};
 ghost use Rattle.calculus.specs.Bytes.{be64, joined};
+ghost use Rattle.calculus.specs.Order.{sorted};
+ghost use Rattle.calculus.specs.Root.{root};
 ghost use Rattle.calculus.specs.Rows.{row_code as code_of_row};
 ghost use Rattle.states.specs.States.{state_text};
-ghost use Rattle.checkpoint.specs.Texts.{text_with};
+ghost use Rattle.checkpoint.specs.Texts.{head_with, text_with};
 
 use crate::checkpoint::Checkpoint;
+use crate::groups::tree_of;
 use calculus::Digest;
 use space_row::{Row, row_code};
 use std::alloc::{AllocError, Global};
@@ -24,12 +27,20 @@ pub fn write_state(alloc: Global, checkpoint: &Checkpoint) -> Result<Vec<u8>, Al
 fn write_text(alloc: Global, root: &Digest, rows: &[Row]) -> Result<Vec<u8>, AllocError>
     ensures { IfOk result (λ v. v.items ≡ text_with root.now.0 (map code_of_row rows.now)) }
 {
+    let mut text = head_text(alloc, root, rows.len())?;
+    write_rows(alloc, &mut text, rows)?;
+    Ok(text)
+}
+
+// What stands before the codes in the text of a state with this root and so many rows.
+fn head_text(alloc: Global, root: &Digest, number: usize) -> Result<Vec<u8>, AllocError>
+    ensures { IfOk result (λ v. v.items ≡ head_with root.now.0 number) }
+{
     let mut text = Vec::new(alloc);
     text.extend_from_slice(b"RHOSTATE")?;
     text.push(VERSION)?;
     text.extend_from_slice(&root.0)?;
-    text.extend_from_slice(&eight_bytes(rows.len() as u64))?;
-    write_rows(alloc, &mut text, rows)?;
+    text.extend_from_slice(&eight_bytes(number as u64))?;
     Ok(text)
 }
 
@@ -49,4 +60,48 @@ fn write_rows(alloc: Global, text: &mut Vec<u8>, rows: &[Row]) -> Result<(), All
         text.extend_from_slice(code.as_slice())?;
     }
     Ok(())
+}
+
+/// The root of these rows, which may stand in any order, and the text of the state that holds them. Want of
+/// memory is the one error.
+pub fn state_of(alloc: Global, rows: Vec<Row>) -> Result<(Digest, Vec<u8>), AllocError>
+    ensures root { IfOk result (λ p. p.0.0 ≡ root rows.items) }
+    ensures text { IfOk result (λ p. p.1.items ≡ state_text rows.items) }
+{
+    let tree = tree_of(alloc, rows.as_slice())?;
+    let root = tree.root();
+    let codes = codes_in_order(alloc, rows)?;
+    let text = text_of_codes(alloc, &root, codes)?;
+    Ok((root, text))
+}
+
+// The codes of these rows, ascending.
+fn codes_in_order(alloc: Global, rows: Vec<Row>) -> Result<Vec<Vec<u8>>, AllocError>
+    ensures { IfOk result (λ v. map (λ c. c.items) v.items ≡ sorted (map code_of_row rows.items)) }
+{
+    let mut codes = codes_of_rows(alloc, rows)?;
+    codes.sort_by(|a, b| a.cmp(b))?;
+    Ok(codes)
+}
+
+// The codes of these rows, as they stand.
+fn codes_of_rows(alloc: Global, rows: Vec<Row>) -> Result<Vec<Vec<u8>>, AllocError>
+    ensures { IfOk result (λ v. map (λ c. c.items) v.items ≡ map code_of_row rows.items) }
+{
+    let mut codes = Vec::new(alloc);
+    for row in rows {
+        codes.push(row_code(alloc, &row)?)?;
+    }
+    Ok(codes)
+}
+
+// The text of a state with this root and these codes, as they stand.
+fn text_of_codes(alloc: Global, root: &Digest, codes: Vec<Vec<u8>>) -> Result<Vec<u8>, AllocError>
+    ensures { IfOk result (λ v. v.items ≡ text_with root.now.0 (map (λ c. c.items) codes.items)) }
+{
+    let mut text = head_text(alloc, root, codes.len())?;
+    for code in codes {
+        text.extend_from_slice(code.as_slice())?;
+    }
+    Ok(text)
 }

@@ -1,7 +1,7 @@
 //! The end of a hub.
 ghost use Rattle.std.specs.Prelude.{◌≡◌, ℕ, ◌+◌, ◌*◌, ◌<◌, ◌≤◌, [], ◌++◌, Some, IfOk, OnOk, IfErr, IfSome, IsSome, max, length, slice_get, vec_capacity, ◌%◌, ◌^◌, List};
 ghost use Rattle.std.specs.List.{All};
-ghost use Rattle.group_locks.specs.Counts.{all_of, total, Each};
+ghost use Rattle.group_locks.specs.Counts.{all_of, count, once_below, total, Each};
 ghost use Rattle.group_locks.specs.Meaning.{Ran};
 ghost use Rattle.group_locks.specs.Works.{LiesOn, FilledFrom};
 ghost use Rattle.group_locks.specs.Stops.{FaultOf, FaultCause};
@@ -192,6 +192,7 @@ fn end_in_order<S: Scene>(hub: Hub<S>, seats: Vec<Seat<S>>, room: Room<S>) -> Cl
     requires order { (length room.places.items ≡ total (λ s. length (drawn_by s.state)) seats.items) × (room.entries.items ≡ []) × (length room.places.items ≤ vec_capacity room.entries) }
     ensures count { length result.entries.items ≡ total (λ s. length (drawn_by s.state)) seats.items }
     ensures drawn { All (λ s. Each (λ n e. slice_get result.entries.items n ≡ Some e) (drawn_by s.state)) seats.items }
+    ensures once { (n : ℕ) → count n (all_of (λ s. drawn_by s.state) seats.items) ≡ once_below n (length result.entries.items) }
     ensures shards { length result.shards.items ≡ 64 }
     ensures ran { Ran S.meaning (opened_shards hub.table.shared.key) (opened_works hub.table.shared.key) result.entries.items result.shards.items result.left.items (all_of (λ s. hand_of s.state) seats.items) }
     ensures empty { All (λ s. 0 < empty_of s.state → (result.left.items ≡ []) × (all_of (λ t. hand_of t.state) seats.items ≡ [])) seats.items }
@@ -238,6 +239,7 @@ impl<S: Scene> Hub<S> {
         requires count { length seats.items ≡ seat_count self.table.shared.key }
         ensures count { IfOk result (λ r. length r.entries.items ≡ total (λ s. length (drawn_by s.state)) seats.items) }
         ensures drawn { IfOk result (λ r. All (λ s. Each (λ n e. slice_get r.entries.items n ≡ Some e) (drawn_by s.state)) seats.items) }
+        ensures once { IfOk result (λ r. (n : ℕ) → count n (all_of (λ s. drawn_by s.state) seats.items) ≡ once_below n (length r.entries.items)) }
         ensures shards { IfOk result (λ r. length r.shards.items ≡ 64) }
         ensures ran { IfOk result (λ r. Ran S.meaning (opened_shards self.table.shared.key) (opened_works self.table.shared.key) r.entries.items r.shards.items r.left.items (all_of (λ s. hand_of s.state) seats.items)) }
         ensures empty { IfOk result (λ r. All (λ s. 0 < empty_of s.state → (r.left.items ≡ []) × (all_of (λ t. hand_of t.state) seats.items ≡ [])) seats.items) }

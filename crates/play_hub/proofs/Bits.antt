@@ -1,5 +1,5 @@
 -- Bits of a number.
-use Rattle.std.proofs.Common.{◌≡◌, ℕ, zero, suc, ◌<◌, ◌/◌, ◌%◌, ◌^◌, Bool, true, false, ◌&&◌, refl, ap, sym, ◌∙◌, arith, eqb, nat_lt}
+use Rattle.std.proofs.Common.{◌≡◌, ℕ, zero, suc, ◌<◌, ◌/◌, ◌%◌, ◌^◌, Bool, true, false, ◌&&◌, refl, ap, sym, ◌∙◌, arith, eqb, eqb-true, nat_lt}
 use Rattle.std.specs.Int.{bit_at}
 use Rattle.std.proofs.lemmas.Bool.Decides.{nat_tests}
 use Rattle.group_locks.specs.Counts.{one_if}
@@ -24,3 +24,20 @@ bits n k lt =
   where
     remainder : (m : ℕ) → m % 2 < 2
     remainder m = omega arith
+
+-- a bit that is set
+pub is-set : (n k : ℕ) → has_bit n k ≡ true → bit_at n k ≡ 1
+is-set n k e = go (nat_lt k 64) (eqb (bit_at n k) 1) refl e
+  where
+    go : (b c : Bool) → eqb (bit_at n k) 1 ≡ c → b && c ≡ true → bit_at n k ≡ 1
+    go true true d e = eqb-true (bit_at n k) 1 d
+    go true false d e = cc e
+    go false c d e = cc e
+
+-- a bit that is not 0, of the low 64, is set
+pub set-is : (n k : ℕ) → k < 64 → (bit_at n k ≡ 0 → ⊥) → has_bit n k ≡ true
+set-is n k lt h = go (has_bit n k) refl
+  where
+    go : (b : Bool) → has_bit n k ≡ b → has_bit n k ≡ true
+    go true d = d
+    go false d = absurd (h (bits n k lt ∙ ap one_if d))

@@ -5,61 +5,54 @@ use Rattle.std.specs.List.{list_any}
 use Rattle.list_laws.proofs.Members.{Member, member-split, member-left, member-right}
 use Rattle.calculus.specs.Log.{Step}
 use Rattle.calculus.specs.Rows.{Row}
-use Rattle.calculus.specs.Runs.{Deploy}
-use Rattle.events.specs.Found.{Among, AreAtHand}
+use Rattle.calculus.specs.Runs.{Deploy, Work}
+use Rattle.events.specs.Found.{Among}
 use Rattle.events.proofs.Making.{among, member}
 use Rattle.group_locks.specs.Counts.{one_if, count, Each}
 use Rattle.run_entries.specs.Entries.{Making, steps_of}
-use Rattle.run_entries.specs.Allowed.{AreAmong, IdsTell, rows_at_hand}
+use Rattle.run_entries.specs.Allowed.{AreAmong, MakesStep}
 use Rattle.shard_rows.specs.Shards.{stands_in}
 use Rattle.shard_rows.specs.Hands.{hears, shows, rows_of_all, is_in_hand}
-use Rattle.shard_rows.specs.Laws.{IsShownBy}
 use Rattle.shard_rows.proofs.Standing.{any-true, any-one}
-use Rattle.shard_rows.proofs.Holding.{beside, at-hand, of-hand}
 use Rattle.play_scene.specs.Plays.{entries_of}
+use Rattle.play_scene.specs.Scene.{IsShownHere}
 use Rattle.play_scene.specs.Pulled.{seen_at}
+use Rattle.play_scene.proofs.Apart.{hand-more, tell-fewer}
 use Rattle.play_scene.proofs.Carrying.{Now, now_of, carried}
 use Rattle.play_hub.specs.Values.{entry_of, hub_meaning}
 use Rattle.play_hub.specs.Endings.{play_of}
-use Rattle.play_hub.specs.Drawing.{IsInHand, DrawsAreTold, DrawsCarry}
+use Rattle.group_locks.specs.Rule.{Carries}
+use Rattle.shard_tables.specs.Hands.{IsInHand, AreInHand}
+use Rattle.play_hub.specs.declared.entry.PlayEntry.{PlayEntry}
+use Rattle.play_hub.specs.Drawing.{DrawsAreTold, DrawsCarry}
 
--- rows at hand among some are at hand among more
-hand-more : (rows more : List Row) (o : Row) → AreAmong rows more → (qs : List Row) → AreAtHand rows o qs → AreAtHand more o qs
-hand-more rows more o a qs h = at-hand more o qs (λ z m. go z (of-hand rows o qs h z m))
-  where
-    go : (z : Row) → Member z rows ⊎ Member z (beside o) → Member z (more ++ beside o)
-    go z (inl k) = member-left z more (beside o) (member z more (a z (among z rows k)))
-    go z (inr k) = member-right z more (beside o) k
-
-tell-fewer : (rows more : List Row) (o : Row) → AreAmong rows more → IdsTell (rows_at_hand more o) → IdsTell (rows_at_hand rows o)
-tell-fewer rows more o a t q r b c e = t q r (go q b) (go r c) e
-  where
-    go : (z : Row) → Among z (rows_at_hand rows o) → Among z (rows_at_hand more o)
-    go z i = (hand-more rows more o a (z ∷ []) (i, tt)).0
+-- a step with some rows is a step with the same in another order
+step-same : (deploy : Deploy) (rows others : List Row) (made : List Step) (o : Row) (x : Making) (w : Work) → AreAmong rows others → AreAmong others rows → MakesStep deploy rows made o x w → MakesStep deploy others made o x w
+step-same deploy rows others made o x w a b k = record {
+  receiver = k.receiver;
+  sends = k.sends;
+  at_hand = hand-more rows others o a (k.receiver ∷ k.sends) k.at_hand;
+  part = k.part;
+  differs = λ t. k.differs (tell-fewer rows others o a t);
+  found = k.found;
+  meets = k.meets;
+  step = k.step;
+  gone = k.gone;
+  line = k.line;
+  room = k.room;
+  work = k.work;
+  offers = k.offers;
+  price = k.price;
+  fault = k.fault;
+}
 
 -- what is so of some rows is so of the same in another order
-shown-same : (deploy : Deploy) (rows others : List Row) (made : List Step) (o : Row) (x : Option Making) → AreAmong rows others → AreAmong others rows → IsShownBy deploy rows made o x → IsShownBy deploy others made o x
-shown-same deploy rows others made o None a b n = λ r sends hand part d. n r sends (hand-more others rows o b (r ∷ sends) hand) part d
-shown-same deploy rows others made o (Some m) a b k = (
-  k.0,
-  record {
-    receiver = k.1.receiver;
-    sends = k.1.sends;
-    at_hand = hand-more rows others o a (k.1.receiver ∷ k.1.sends) k.1.at_hand;
-    part = k.1.part;
-    differs = λ t. k.1.differs (tell-fewer rows others o a t);
-    found = k.1.found;
-    meets = k.1.meets;
-    step = k.1.step;
-    gone = k.1.gone;
-    line = k.1.line;
-    room = k.1.room;
-    work = k.1.work;
-    offers = k.1.offers;
-    price = k.1.price;
-    fault = k.1.fault;
-  },
-)
+shown-same : (deploy : Deploy) (rows others : List Row) (made : List Step) (o : Row) (x : Option Making) → AreAmong rows others → AreAmong others rows → IsShownHere deploy rows made o x → IsShownHere deploy others made o x
+unfolding step-same
+shown-same deploy rows others made o None a b (inl n) = inl (λ r sends hand part d. n r sends (hand-more others rows o b (r ∷ sends) hand) part d)
+shown-same deploy rows others made o None a b (inr n) = absurd n
+shown-same deploy rows others made o (Some m) a b (inl k) = inl (k.0, step-same deploy rows others made o m k.0 a b k.1)
+shown-same deploy rows others made o (Some m) a b (inr k) = inr (k.0, step-same deploy rows others [] o m k.0 a b k.1, k.2)
 
 -- fewer rows show fewer shards
 shows-fewer : (rows more : List Row) (o : Row) (k : ℕ) → AreAmong rows more → shows rows o k ≡ true → shows more o k ≡ true
@@ -113,12 +106,15 @@ module _ {X : Type 0} (rows : X → List Row) where
   draws_are_told deploy source in_hand since held all took e c s = (
     now.before,
     now.follows,
-    record {
-      held = λ k h. found k (s.held k (shows-fewer (rows_of_all shards) all o k back h));
-      touches = λ k h. s.touches k (shows-fewer (rows_of_all shards) all o k back h);
-      shown = shown-same deploy all (rows_of_all shards) (steps_of (entries_of (play_of took))) o (entry_of e).entry.making to back s.shown;
-      cheap = s.cheap;
-    },
+    (
+      record {
+        held = λ k h. found k (s.held k (shows-fewer (rows_of_all shards) all o k back h));
+        touches = λ k h. s.touches k (shows-fewer (rows_of_all shards) all o k back h);
+        shown = λ t. shown-same deploy all (rows_of_all shards) (steps_of (entries_of (play_of took))) o (entry_of e).entry.making to back (s.shown (tell-fewer all (rows_of_all shards) o to t));
+        cheap = s.priced.cheap;
+      },
+      s.priced,
+    ),
   )
     where
       o : Row
@@ -163,3 +159,31 @@ module _ {X : Type 0} (rows : X → List Row) where
 
   pub draws_carry : DrawsCarry rows
   draws_carry deploy source old new since held e c h = carried (hub_meaning deploy source rows) old new e since held h.here h.absent c
+
+  -- the rows of the shards in hand
+  pub hands-are : (deploy : Deploy) (source : Work) (in_hand : ℕ → Option X) (since : List PlayEntry) (held : List (ℕ × X)) → Carries (hub_meaning deploy source rows) since held in_hand → (all : List Row) × AreInHand rows in_hand all
+  hands-are deploy source in_hand since held c = (rows_of_all shards, λ r. (λ m. there rows in_hand now.before now.are r (member r (rows_of_all shards) m), to r))
+    where
+      now : Now (hub_meaning deploy source rows) in_hand since held
+      now = now_of (hub_meaning deploy source rows) in_hand since held c.0
+
+      shards : List (ℕ × List Row)
+      shards = each (seen_at rows) now.before
+
+      to : (r : Row) → IsInHand rows in_hand r → Among r (rows_of_all shards)
+      to r h = go (count h.0 held) refl
+        where
+          go : (n : ℕ) → count h.0 held ≡ n → Among r (rows_of_all shards)
+          go zero z = absurd (clash (sym (c.1 h.0 z) ∙ h.2))
+            where
+              clash : None ≡ Some h.1 → ⊥
+              clash f = cc f
+          go (suc n) z =
+              let y = at rows in_hand now.before now.are h.0 (now.there h.0 (omega (arith, z))).2 in
+              let both : Some y.0 ≡ Some h.1 = sym y.1 ∙ h.2 in
+              let same : y.0 ≡ h.1 = cc both in
+              among r (rows_of_all shards) (y.3 r (subst (λ q. Member r (rows q)) (sym same) (member r (rows h.1) h.3)))
+
+  -- the shard of a number whose turn is held
+  pub held-is : (deploy : Deploy) (source : Work) (in_hand : ℕ → Option X) (since : List PlayEntry) (held : List (ℕ × X)) → Carries (hub_meaning deploy source rows) since held in_hand → (k : ℕ) → 0 < count k held → is_some (in_hand k) ≡ true
+  held-is deploy source in_hand since held c k lt = ap is_some ((now_of (hub_meaning deploy source rows) in_hand since held c.0).there k lt).1

@@ -1,32 +1,29 @@
 -- What a worker shows of an entry before it draws it, and how the shards in hand are carried over it.
-use Rattle.std.specs.Prelude.{◌≡◌, ◌≤◌, ◌↔◌, ℕ, true, List, [], ◌∷◌, ◌++◌, Option, Some, None, is_some}
+use Rattle.std.specs.Prelude.{◌≡◌, ℕ, true, List, [], ◌∷◌, ◌++◌, Option, Some, None, is_some}
 use Rattle.calculus.specs.Rows.{Row}
 use Rattle.calculus.specs.Runs.{Deploy, Work}
-use Rattle.events.specs.Found.{Among}
 use Rattle.group_locks.specs.Meaning.{Passes, AllFollow}
 use Rattle.group_locks.specs.Rule.{Carries}
-use Rattle.run_entries.specs.Entries.{price_in, steps_of}
+use Rattle.run_entries.specs.Entries.{steps_of}
+use Rattle.run_entries.specs.Allowed.{IdsTell, rows_at_hand}
 use Rattle.shard_rows.specs.Hands.{shows}
-use Rattle.shard_rows.specs.Laws.{IsShownBy}
-use Rattle.play_scene.specs.Plays.{entries_of, most_price}
+use Rattle.shard_tables.specs.Hands.{AreInHand}
+use Rattle.play_scene.specs.Plays.{entries_of, IsPriced}
+use Rattle.play_scene.specs.Scene.{IsShownHere}
 use Rattle.play_hub.specs.declared.entry.PlayEntry.{PlayEntry}
 use Rattle.play_hub.specs.Values.{entry_of, hub_meaning}
 use Rattle.play_hub.specs.Endings.{play_of}
 
 module _ {X : Type 0} (rows : X → List Row) where
   module _ (in_hand : ℕ → Option X) where
-    -- a row stands in a shard in hand
-    abbrev pub IsInHand : Row → Type 0
-    IsInHand r = (k : ℕ) × (x : X) × (in_hand k ≡ Some x) × Among r (rows x)
-
     -- What a worker shows: these are the rows in hand, in any order and as often as may be; all shards that they show for the operation are in hand and touched; what the
-    -- entry says of its step is so with them, after the steps that were drawn on the operation since it was taken; and its price is within the greatest.
+    -- entry says of its step is so with them, after the steps that were drawn on the operation since it was taken, if ids tell the rows at hand; and it is priced.
     pub record ShowsEntry (deploy : Deploy) (all : List Row) (took : List PlayEntry) (e : PlayEntry) : Type 0 where
-      pub are : (r : Row) → Among r all ↔ IsInHand r
+      pub are : AreInHand rows in_hand all
       pub held : (k : ℕ) → shows all (entry_of e).entry.operation k ≡ true → is_some (in_hand k) ≡ true
       pub touches : (k : ℕ) → shows all (entry_of e).entry.operation k ≡ true → (entry_of e).touched k ≡ true
-      pub shown : IsShownBy deploy all (steps_of (entries_of (play_of took))) (entry_of e).entry.operation (entry_of e).entry.making
-      pub cheap : price_in (entry_of e).entry.making ≤ most_price
+      pub shown : IdsTell (rows_at_hand all (entry_of e).entry.operation) → IsShownHere deploy all (steps_of (entries_of (play_of took))) (entry_of e).entry.operation (entry_of e).entry.making
+      pub priced : IsPriced deploy (entry_of e)
 
   -- what a worker shows is what a draw asks for
   abbrev pub DrawsAreTold : Type 0

@@ -1,5 +1,5 @@
 -- What the entries of a hub over these values come to. Each law stands in the contract of a public function that does nothing.
-use Rattle.std.specs.Prelude.{◌≡◌, ◌<◌, ◌⊎◌, ℕ, ◌+◌, true, List, [], map as each}
+use Rattle.std.specs.Prelude.{◌≡◌, ◌<◌, ◌⊎◌, ℕ, ◌+◌, true, List, [], map as each, All}
 use Rattle.calculus.specs.Rows.{Row}
 use Rattle.calculus.specs.Steps.{differ}
 use Rattle.calculus.specs.Runs.{Deploy, Work, work_price}
@@ -9,7 +9,8 @@ use Rattle.group_locks.specs.Meaning.{Ran}
 use Rattle.group_locks.specs.Stops.{FaultOf}
 use Rattle.run_entries.specs.Entries.{prices_of, steps_of}
 use Rattle.run_entries.specs.Allowed.{ShowsAnId}
-use Rattle.play_scene.specs.Plays.{TouchingEntry, entries_of, IsPlay}
+use Rattle.events.specs.Laws.{Begins}
+use Rattle.play_scene.specs.Plays.{TouchingEntry, entries_of, IsPriced, IsPlay}
 use Rattle.play_scene.specs.Laws.{HasEnded, PlaysRun}
 use Rattle.play_hub.specs.declared.entry.PlayEntry.{PlayEntry}
 use Rattle.play_hub.specs.Values.{entry_of, hub_meaning}
@@ -30,16 +31,17 @@ module _ (deploy : Deploy) (source : Work) {X : Type 0} (rows : X → List Row) 
   ComesToAPlayFromNothing =
       deploy.rows ≡ [] → FitsInTexts deploy (steps_of (entries_of (play_of es))) → PlaysRun deploy source (play_of es) (each rows closed) left hands ⊎ Collides deploy (steps_of (entries_of (play_of es)))
 
-  -- what is so in each case: entries that might be drawn, with the prices of their steps
-  abbrev pub IsPricedPlay : Type 0
-  IsPricedPlay = IsPlay deploy source (play_of es) × (total (hub_meaning deploy source rows).price es ≡ prices_of (entries_of (play_of es)))
+  -- what is so in each case: each entry is priced, and they cost what their steps do
+  abbrev pub ArePriced : Type 0
+  ArePriced = All (λ e. IsPriced deploy (entry_of e)) es × (total (hub_meaning deploy source rows).price es ≡ prices_of (entries_of (play_of es)))
 
 module _ {X : Type 0} (rows : X → List Row) where
-  -- the entries of a hub that ran are such a play, and come to one
+  -- the entries of a hub that ran are priced, and where the deploy begins so they might be drawn one after another and come to a play
   abbrev pub HubsComeToPlays : Type 0
   HubsComeToPlays = (deploy : Deploy) (source : Work) (opened : List X) (works : List Row) (es : List PlayEntry) (closed : List X) (left : List Row) (hands : List (ℕ × Row))
       → Ran (hub_meaning deploy source rows) opened works es closed left hands
-      → IsPricedPlay deploy source rows es closed left hands × ComesToAPlay deploy source rows es closed left hands × ComesToAPlayFromNothing deploy source rows es closed left hands
+      → ArePriced deploy source rows es closed left hands
+      × (Begins deploy source → IsPlay deploy source (play_of es) × ComesToAPlay deploy source rows es closed left hands × ComesToAPlayFromNothing deploy source rows es closed left hands)
 
   -- a fault among the entries, or prices above the limit, end the hub
   abbrev pub CausesEndHubs : Type 0

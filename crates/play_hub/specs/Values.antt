@@ -10,7 +10,8 @@ use Rattle.calculus.specs.Runs.{Deploy, Work, deploy_of}
 use Rattle.group_locks.specs.Meaning.{Meaning, Lawful}
 use Rattle.run_entries.specs.Entries.{Making}
 use Rattle.event_log.specs.View.{step_of}
-use Rattle.play_scene.specs.Plays.{TouchingEntry}
+use Rattle.events.specs.Laws.{Begins}
+use Rattle.play_scene.specs.Plays.{TouchingEntry, IsPriced}
 use Rattle.play_scene.specs.Scene.{play_meaning}
 use Rattle.play_scene.specs.Pulled.{pulled}
 use Rattle.play_scene.proofs.Telling.{play_is_lawful}
@@ -46,10 +47,10 @@ abbrev pub entry_of : PlayEntry → TouchingEntry
 entry_of e = record { entry = record { operation = e.operation.value; making = option_map making_of e.made }; touched = has_bit e.touched }
 
 module _ (deploy : Deploy) (source : Work) {X : Type 0} (rows : X → List Row) where
-  -- the scene of a play over these values
+  -- the scene of a play over these values, where the deploy begins so; that each entry is priced is known in any case
   abbrev pub hub_meaning : Meaning (List TouchingEntry) PlayEntry X Row
-  hub_meaning = pulled (play_meaning deploy source) entry_of rows
+  hub_meaning = pulled (play_meaning deploy source) entry_of rows (Begins deploy source) (λ e. IsPriced deploy (entry_of e))
 
   -- it is lawful
   pub hub_lawful : Lawful hub_meaning
-  hub_lawful = lawful-seen (play_meaning deploy source) entry_of rows (play_is_lawful deploy source)
+  hub_lawful = lawful-seen (play_meaning deploy source) entry_of rows (Begins deploy source) (λ e. IsPriced deploy (entry_of e)) (play_is_lawful deploy source)

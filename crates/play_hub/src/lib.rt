@@ -4,10 +4,8 @@
 mod entry;
 pub mod laws;
 mod scene;
-mod tables;
 mod terms;
 
 pub use crate::entry::{MadeStep, PlayEntry};
 pub use crate::scene::PlayScene;
-pub use crate::tables::PlayTables;
 pub use crate::terms::PlayTerms;

@@ -4,9 +4,9 @@ ghost use Rattle.play_scene.specs.Plays.{TouchingEntry};
 ghost use Rattle.play_hub.specs.Values.{hub_meaning, hub_lawful};
 
 use crate::entry::PlayEntry;
-use crate::tables::PlayTables;
 use crate::terms::PlayTerms;
 use group_locks::Scene;
+use shard_tables::ShardTables;
 use space_row::Row;
 use std::marker::PhantomData;
 
@@ -27,7 +27,7 @@ impl<J, T> PlayScene<J, T> {
     }
 }
 
-impl<J: PlayTerms + Sync, T: PlayTables + Sync> Scene for PlayScene<J, T> {
+impl<J: PlayTerms + Sync, T: ShardTables + Sync> Scene for PlayScene<J, T> {
     type Entry = PlayEntry;
 
     type Work = Row;

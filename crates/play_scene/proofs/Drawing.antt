@@ -7,12 +7,13 @@ use Rattle.events.specs.Events.{AreFresh}
 use Rattle.run_entries.specs.Entries.{Space, first_space, after, after_all}
 use Rattle.run_entries.specs.Allowed.{AreAllowedFrom}
 use Rattle.run_entries.proofs.Growing.{after-both, fresh_digests_were_fresh}
-use Rattle.shard_rows.specs.Shards.{rows_in, IsProjection, Becomes}
+use Rattle.shard_rows.specs.Shards.{rows_in, IsProjection}
 use Rattle.shard_rows.proofs.Following.{untouched_shards_stay, projections_follow}
 use Rattle.shard_rows.proofs.Telling.{ids_tell_stored_rows}
 use Rattle.play_scene.specs.Plays.{TouchingEntry, entries_of, MayBeDrawn, AreDrawnFrom, space_after_all, IsPlay}
-use Rattle.play_scene.specs.Scene.{Projects}
+use Rattle.play_scene.specs.Scene.{MayBecome, Projects}
 use Rattle.play_scene.specs.Laws.{PlaysAreAllowed}
+use Rattle.play_scene.proofs.Apart.{apart-in}
 
 pub entries-both : (es fs : List TouchingEntry) → entries_of (es ++ fs) ≡ entries_of es ++ entries_of fs
 entries-both [] fs = refl
@@ -60,10 +61,13 @@ module _ (deploy : Deploy) (source : Work) where
       subst (λ l. IsPermutation l rows) (sym stays) (is (play-less es e h) g)
 
   -- what it makes of a shard is the projection after it
-  pub follows : (es : List TouchingEntry) (e : TouchingEntry) (k : ℕ) (rows later : List Row) → Projects deploy source es k rows → Becomes k e.entry.operation e.entry.making rows later → Projects deploy source (es ++ e ∷ []) k later
+  pub follows : (es : List TouchingEntry) (e : TouchingEntry) (k : ℕ) (rows later : List Row) → Projects deploy source es k rows → MayBecome k e.entry.operation e.entry.making rows later → Projects deploy source (es ++ e ∷ []) k later
   follows es e k rows later is to h f =
       let p = play-less es e h in
       let g = fresh-less es e f in
       let space = space_after_all deploy source es in
-      let ids = (ids_tell_stored_rows deploy source (entries_of es) space (plays_are_allowed deploy source es p) g).0 in
-      subst (λ s. IsProjection s.store k later) (sym (space-more es e)) (projections_follow space e.entry.operation e.entry.making k rows later ids (is p g) to)
+      let a = plays_are_allowed deploy source es p in
+      let ids = (ids_tell_stored_rows deploy source (entries_of es) space a g).0 in
+      let there = ((last-drawn es e h).allowed g).pending in
+      let differs = apart-in deploy source (entries_of es) space a g e.entry.operation there k rows (is p g) in
+      subst (λ s. IsProjection s.store k later) (sym (space-more es e)) (projections_follow space e.entry.operation e.entry.making k rows later ids (is p g) (to differs))

@@ -1,8 +1,10 @@
 pub mod Logs
+pub mod Apart
 pub mod Drawing
 pub mod Reaching
 pub mod Waiting
 pub mod Owning
+pub mod Firsts
 pub mod Telling
 pub mod Emptied
 pub mod Ending

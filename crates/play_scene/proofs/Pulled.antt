@@ -1,6 +1,7 @@
 -- A meaning seen through values of other types keeps the laws.
 use Rattle.std.proofs.Common.{◌≡◌, ℕ, zero, suc, ◌+◌, Bool, true, false, ◌&&◌, List, [], ◌∷◌, ◌++◌, length, map, refl, sym, ap, subst, ◌∙◌, arith, eqb, Some}
-use Rattle.std.specs.Prelude.{slice_get}
+use Rattle.std.specs.Prelude.{slice_get, All}
+use Rattle.std.proofs.lemmas.List.Elements.{All-nil, All-cons}
 use Rattle.group_locks.specs.Counts.{one_if, count, once_below, things_of, total, Each, Projected}
 use Rattle.group_locks.specs.Meaning.{Meaning, Lawful, store_after, offered, ended, taking, if_wanted, Pending, MayFollow, Allowed, AllowedAfter, Ran, ArePending}
 use Rattle.group_locks.specs.Stops.{FaultOf}
@@ -20,9 +21,9 @@ unseen f [] i b e = absurd (cc e)
 unseen f (x ∷ xs) zero b e = let same : f x ≡ b = cc e in (x, refl, same)
 unseen f (x ∷ xs) (suc i) b e = unseen f xs i b e
 
-module _ {Store E X W D Y : Type 0} (m : Meaning Store E X W) (entry : D → E) (shard : Y → X) where
+module _ {Store E X W D Y : Type 0} (m : Meaning Store E X W) (entry : D → E) (shard : Y → X) (holds : Type 0) (known : D → Type 0) where
   abbrev far : Meaning Store D Y W
-  far = pulled m entry shard
+  far = pulled m entry shard holds known
 
   -- a log, seen
   abbrev pub seen : List (ℕ × D) → List (ℕ × E)
@@ -58,37 +59,40 @@ module _ {Store E X W D Y : Type 0} (m : Meaning Store E X W) (entry : D → E) 
   pending-seen : (works : List W) (log : List (ℕ × D)) (i : ℕ) (w : W) → Pending far works log i w → Pending m works (seen log) i w
   pending-seen works log i w k = (ap (λ l. slice_get l i) (offered-seen log works) ∙ k.0, ended-seen log i ∙ k.1)
 
-  may-seen : (st : Store) (works : List W) (log : List (ℕ × D)) (q : ℕ × D) → MayFollow far st works log q → MayFollow m st works (seen log) (seen_at entry q)
-  may-seen st works log q k = (pending-seen works log q.0 (m.takes (entry q.1)) k.0, subst (λ s. m.allows s (entry q.1)) (sym (now-seen log st)) k.1)
+  may-seen : holds → (st : Store) (works : List W) (log : List (ℕ × D)) (q : ℕ × D) → MayFollow far st works log q → MayFollow m st works (seen log) (seen_at entry q)
+  may-seen h st works log q k = (pending-seen works log q.0 (m.takes (entry q.1)) k.0, subst (λ s. m.allows s (entry q.1)) (sym (now-seen log st)) (k.1.0 h))
 
-  after-seen : (st : Store) (works : List W) (before log : List (ℕ × D)) → AllowedAfter far st works before log → AllowedAfter m st works (seen before) (seen log)
-  after-seen st works before [] k = tt
-  after-seen st works before (q ∷ log) k = (
-    may-seen st works before q k.0,
-    subst (λ l. AllowedAfter m st works l (seen log)) (map-both (seen_at entry) before (q ∷ [])) (after-seen st works (before ++ q ∷ []) log k.1),
+  after-seen : holds → (st : Store) (works : List W) (before log : List (ℕ × D)) → AllowedAfter far st works before log → AllowedAfter m st works (seen before) (seen log)
+  after-seen h st works before [] k = tt
+  after-seen h st works before (q ∷ log) k = (
+    may-seen h st works before q k.0,
+    subst (λ l. AllowedAfter m st works l (seen log)) (map-both (seen_at entry) before (q ∷ [])) (after-seen h st works (before ++ q ∷ []) log k.1),
   )
 
-  allowed-seen : (st : Store) (works : List W) (log : List (ℕ × D)) → Allowed far st works log → Allowed m st works (seen log)
-  allowed-seen st works log k = after-seen st works [] log k
+  allowed-seen : holds → (st : Store) (works : List W) (log : List (ℕ × D)) → Allowed far st works log → Allowed m st works (seen log)
+  allowed-seen h st works log k = after-seen h st works [] log k
 
-  each-seen : (st : Store) (xs : List (ℕ × Y)) → Each (far.projects st) xs → Each (m.projects st) (map (seen_at shard) xs)
-  each-seen st [] k = tt
-  each-seen st (x ∷ xs) k = (k.0, each-seen st xs k.1)
+  each-seen : holds → (st : Store) (xs : List (ℕ × Y)) → Each (far.projects st) xs → Each (m.projects st) (map (seen_at shard) xs)
+  each-seen h st [] k = tt
+  each-seen h st (x ∷ xs) k = (k.0 h, each-seen h st xs k.1)
 
   -- the laws
   pub lawful-seen : Lawful m → Lawful far
   lawful-seen laws = record {
-    untouched = λ st e k x n is. laws.untouched st (entry e) k (shard x) n is;
-    projection = λ st e k x y may hit is to. laws.projection st (entry e) k (shard x) (shard y) may hit is to;
-    told = λ st works log shards i e opens legal pends all tells. subst (λ s. m.allows s (entry e)) (now-seen log st)
-        (laws.told st works (seen log) (map (seen_at shard) shards) i (entry e) opens (allowed-seen st works log legal) (pending-seen works log i (m.takes (entry e)) pends)
-        (subst (λ s. Each (m.projects s) (map (seen_at shard) shards)) (sym (now-seen log st)) (each-seen (store_after far st (things_of log)) shards all))
-        (subst (λ es. m.tells (map (seen_at shard) shards) es (entry e)) (sym (taking-seen log i)) tells));
+    untouched = λ st e k x n is h. laws.untouched st (entry e) k (shard x) n (is h);
+    projection = λ st e k x y may hit is to h. laws.projection st (entry e) k (shard x) (shard y) (may.0 h) hit (is h) to;
+    told = λ st works log shards i e opens legal pends all tells. (
+      (λ h. subst (λ s. m.allows s (entry e)) (now-seen log st)
+          (laws.told st works (seen log) (map (seen_at shard) shards) i (entry e) (opens h) (allowed-seen h st works log legal) (pending-seen works log i (m.takes (entry e)) pends)
+          (subst (λ s. Each (m.projects s) (map (seen_at shard) shards)) (sym (now-seen log st)) (each-seen h (store_after far st (things_of log)) shards all))
+          (subst (λ es. m.tells (map (seen_at shard) shards) es (entry e)) (sym (taking-seen log i)) tells.0))),
+      tells.1,
+    );
     cheap = λ e. laws.cheap (entry e);
   }
 
-  projected-seen : (st : Store) (xs : List Y) → Projected far.projects st xs → Projected m.projects st (map shard xs)
-  projected-seen st xs k i x e = let u = unseen shard xs i x e in subst (m.projects st i) u.2 (k i u.0 u.1)
+  projected-seen : holds → (st : Store) (xs : List Y) → Projected far.projects st xs → Projected m.projects st (map shard xs)
+  projected-seen h st xs k i x e = let u = unseen shard xs i x e in subst (m.projects st i) u.2 (k i u.0 u.1 h)
 
   each-place : (works : List W) (log : List (ℕ × D)) (ps : List (ℕ × W)) → Each (λ i w. slice_get (offered far works log) i ≡ Some w) ps → Each (λ i w. slice_get (offered m works (seen log)) i ≡ Some w) ps
   each-place works log [] k = tt
@@ -100,17 +104,25 @@ module _ {Store E X W D Y : Type 0} (m : Meaning Store E X W) (entry : D → E) 
     λ i. (let n : count i ps + ended m i (seen log) ≡ once_below i (length (offered far works log)) = omega (arith, k.1 i, ended-seen log i) in n ∙ ap (λ l. once_below i (length l)) (sym (offered-seen log works))),
   )
 
-  -- what ran, seen
-  pub ran-seen : (opened : List Y) (works : List W) (entries : List D) (closed : List Y) (left : List W) (hands : List (ℕ × W)) → Ran far opened works entries closed left hands
+  -- what is known of each entry that was allowed
+  known-after : (st : Store) (works : List W) (before log : List (ℕ × D)) → AllowedAfter far st works before log → All known (things_of log)
+  known-after st works before [] k = All-nil known
+  known-after st works before (q ∷ log) k = All-cons known q.1 (things_of log) k.0.1.1 (known-after st works (before ++ q ∷ []) log k.1)
+
+  pub ran-known : (opened : List Y) (works : List W) (entries : List D) (closed : List Y) (left : List W) (hands : List (ℕ × W)) → Ran far opened works entries closed left hands → All known entries
+  ran-known opened works entries closed left hands r = subst (All known) r.same (known-after r.store works [] r.log r.allowed)
+
+  -- what ran, seen where the premise holds
+  pub ran-seen : holds → (opened : List Y) (works : List W) (entries : List D) (closed : List Y) (left : List W) (hands : List (ℕ × W)) → Ran far opened works entries closed left hands
       → Ran m (map shard opened) works (map entry entries) (map shard closed) left hands
-  ran-seen opened works entries closed left hands r = record {
+  ran-seen h opened works entries closed left hands r = record {
     store = r.store;
     log = seen r.log;
     rests = r.rests;
     same = things-seen r.log ∙ ap (map entry) r.same;
-    starts = (projected-seen r.store opened r.starts.0, r.starts.1);
-    allowed = allowed-seen r.store works r.log r.allowed;
-    closes = subst (λ s. Projected m.projects s (map shard closed)) (sym (store-seen entries r.store)) (projected-seen (store_after far r.store entries) closed r.closes);
+    starts = (projected-seen h r.store opened r.starts.0, r.starts.1 h);
+    allowed = allowed-seen h r.store works r.log r.allowed;
+    closes = subst (λ s. Projected m.projects s (map shard closed)) (sym (store-seen entries r.store)) (projected-seen h (store_after far r.store entries) closed r.closes);
     lies = r.lies;
     pending = pending-all-seen works r.log (r.rests ++ hands) r.pending;
   }

@@ -1,5 +1,5 @@
 -- The scene of a play is lawful.
-use Rattle.std.proofs.Common.{◌≡◌, ℕ, List, [], ◌∷◌, ◌++◌, refl, sym, ap, subst, ◌∙◌}
+use Rattle.std.proofs.Common.{◌≡◌, ℕ, List, [], ◌∷◌, ◌++◌, refl, sym, ap, subst, ◌∙◌, inl, inr}
 use Rattle.std.proofs.Math.Nat.{min-le_right}
 use Rattle.calculus.specs.Rows.{Row}
 use Rattle.calculus.specs.Runs.{Deploy, Work}
@@ -9,15 +9,17 @@ use Rattle.events.proofs.Making.{among}
 use Rattle.group_locks.specs.Counts.{things_of, Each}
 use Rattle.group_locks.specs.Meaning.{Meaning, store_after, taking, Pending, Allowed}
 use Rattle.run_entries.specs.Entries.{Space, entries_on, steps_of, price_in}
-use Rattle.run_entries.specs.Allowed.{AreAllowed}
+use Rattle.run_entries.specs.Allowed.{AreAllowed, IdsTell, rows_at_hand}
 use Rattle.shard_rows.specs.Shards.{changed_rows, Covers}
 use Rattle.shard_rows.specs.Hands.{HoldShards, rows_of_all, is_in_hand, AreProjections}
 use Rattle.shard_rows.specs.Laws.{IsShownBy}
 use Rattle.shard_rows.proofs.Holding.{projections_are_held}
+use Rattle.play_scene.proofs.Apart.{tell-fewer}
+use Rattle.play_scene.proofs.Firsts.{first-shown}
 use Rattle.shard_rows.proofs.Covering.{shown_shards_cover_entries}
 use Rattle.shard_rows.proofs.Telling.{ids_tell_stored_rows, held_shards_tell_entries, held_shards_tell_exactly}
 use Rattle.play_scene.specs.Plays.{TouchingEntry, entries_of, most_price, MayBeDrawn, space_after_all, IsPlay}
-use Rattle.play_scene.specs.Scene.{TellsEntry, Projects, Opens, play_meaning}
+use Rattle.play_scene.specs.Scene.{IsShownHere, TellsEntry, Projects, Opens, play_meaning}
 use Rattle.play_scene.specs.Laws.{PlayIsLawful}
 use Rattle.play_scene.proofs.Drawing.{plays_are_allowed, untouched, follows}
 use Rattle.play_scene.proofs.Reaching.{drawn-from, log-plays}
@@ -48,8 +50,16 @@ module _ (deploy : Deploy) (source : Work) where
     hold f = projections_are_held space.store shards (are-projections es shards each p f)
 
     module _ (pending : AreFresh deploy space.made → Among o space.pending) (own : AreFresh deploy space.made → entries_on o.id (entries_of es) ≡ entries_of took) where
+      -- ids tell the rows that the operation may meet in hand
+      ids-tell : AreFresh deploy space.made → IdsTell (rows_at_hand rows o)
+      ids-tell f = tell-fewer rows space.store o (hold f).stored ((ids_tell_stored_rows deploy source (entries_of es) space allowed f).1 o (pending f))
+
       shown : AreFresh deploy space.made → IsShownBy deploy rows (steps_of (entries_on o.id (entries_of es))) o e.entry.making
-      shown f = subst (λ l. IsShownBy deploy rows (steps_of l) o e.entry.making) (sym (own f)) tells.shown
+      shown f = go (tells.shown (ids-tell f))
+        where
+          go : IsShownHere deploy rows (steps_of (entries_of took)) o e.entry.making → IsShownBy deploy rows (steps_of (entries_on o.id (entries_of es))) o e.entry.making
+          go (inl k) = subst (λ l. IsShownBy deploy rows (steps_of l) o e.entry.making) (sym (own f)) k
+          go (inr k) = first-shown deploy source (entries_of es) space allowed f o (pending f) rows (hold f).stored e.entry.making k
 
       covered : AreFresh deploy space.made → Covers e.touched (changed_rows space.store o e.entry.making)
       covered f r k m s =

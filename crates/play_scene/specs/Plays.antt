@@ -7,6 +7,7 @@ use Rattle.events.specs.Events.{AreFresh}
 use Rattle.events.specs.Laws.{Begins}
 use Rattle.run_entries.specs.Entries.{Space, first_space, Making, Entry, after, after_all, price_in}
 use Rattle.run_entries.specs.Allowed.{IsAllowed}
+use Rattle.run_entries.specs.Laws.{CostsAtLeast}
 use Rattle.shard_rows.specs.Shards.{changed_rows, Covers}
 
 -- an entry, and the shards that it touches
@@ -41,6 +42,11 @@ pub record MayBeDrawn (deploy : Deploy) (space : Space) (e : TouchingEntry) : Ty
   pub allowed : IsAllowed deploy space e.entry
   pub covers : AreFresh deploy space.made → Covers e.touched (changed_rows space.store e.entry.operation e.entry.making)
   pub cheap : price_in e.entry.making ≤ most_price
+
+-- an entry costs no more than the greatest price, and a step no less than steps do without their bodies
+pub record IsPriced (deploy : Deploy) (e : TouchingEntry) : Type 0 where
+  pub cheap : price_in e.entry.making ≤ most_price
+  pub dear : CostsAtLeast deploy.prices.comm e.entry
 
 -- each of these entries may be drawn after those before it, from this space on
 abbrev pub AreDrawnFrom : Deploy → Space → List TouchingEntry → Type 0

@@ -1,3 +1,5 @@
 pub mod Bits
 pub mod Idling
 pub mod Endings
+pub mod Drawing
+pub mod Ending

@@ -3,6 +3,7 @@
 
 pub mod deed;
 pub mod ends;
+pub mod laws;
 pub mod scene;
 pub mod terms;
 pub mod worker;

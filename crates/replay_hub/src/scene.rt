@@ -14,6 +14,13 @@ pub struct ReplayScene<J> {
     pub(crate) terms: PhantomData<J>,
 }
 
+impl<J> ReplayScene<J> {
+    /// The scene. It holds nothing.
+    pub fn new() -> ReplayScene<J> {
+        ReplayScene { terms: PhantomData }
+    }
+}
+
 impl<J: ReplayTerms + Sync> Scene for ReplayScene<J> {
     type Entry = Entry<J::Row, J::Channel>;
 

@@ -89,8 +89,9 @@ fn at_end(fault: ReadFault, len: usize) -> CodeFault
 }
 
 impl<'a> Reader<'a> {
+    /// A process.
     #[cycle(read)]
-    pub(crate) fn term(&mut self, scope: &Vec<Sense>, room: u32) -> Result<Term, ReadFault>
+    pub fn term(&mut self, scope: &Vec<Sense>, room: u32) -> Result<Term, ReadFault>
         ensures reads { IfOk result (λ t. Reads term (scope_of scope.now.items) room t self.old.input.now self.new.input.now) }
         ensures wrong { IfErr result (λ e. Wrong (InTree true term (scope_of scope.now.items) room) e self.old.input.now) }
         ensures refuses { IfErr result (λ e. Refuses true term (scope_of scope.now.items) room e self.old.input.now) }
@@ -209,9 +210,14 @@ impl<'a> Reader<'a> {
 }
 
 impl<'a> Reader<'a> {
-    // At least so many processes.
+    /// At least so many processes.
     #[cycle(read)]
-    fn terms(&mut self, least: u32, scope: &Vec<Sense>, room: u32) -> Result<Vec<Term>, ReadFault>
+    pub fn terms(
+        &mut self,
+        least: u32,
+        scope: &Vec<Sense>,
+        room: u32,
+    ) -> Result<Vec<Term>, ReadFault>
         ensures reads { IfOk result (λ ts. Reads (row_of term) (scope_of scope.now.items) room (many row ts.items) self.old.input.now self.new.input.now) }
         ensures least { IfOk result (λ ts. least ≤ length ts.items) }
         ensures wrong { IfErr result (λ e. Wrong (InRow true term (scope_of scope.now.items) room least 0xFFFFFFFF) e self.old.input.now) }

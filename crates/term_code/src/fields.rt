@@ -23,7 +23,8 @@ use calculus::{BinaryOp, Digest, Ground, Kind, Origin, Rights, Simple, TermRest,
 use std::str;
 
 impl<'a> Reader<'a> {
-    pub(crate) fn boolean(&mut self) -> Result<bool, ReadFault>
+    /// A byte that is 1 for true and 0 for false.
+    pub fn boolean(&mut self) -> Result<bool, ReadFault>
         ensures is { IfOk result (λ x. self.old.input.now ≡ byte_of x ∷ self.new.input.now) }
         ensures wrong { IfErr result (λ e. Wrong (InByte 1) e self.old.input.now) }
         ensures refuses { IfErr result (λ e. RefusesByte 1 e self.old.input.now) }
@@ -33,7 +34,8 @@ impl<'a> Reader<'a> {
         Ok(byte == 1)
     }
 
-    pub(crate) fn kind(&mut self) -> Result<Kind, ReadFault>
+    /// The kind of a receive.
+    pub fn kind(&mut self) -> Result<Kind, ReadFault>
         ensures is { IfOk result (λ x. self.old.input.now ≡ kind_number x ∷ self.new.input.now) }
         ensures wrong { IfErr result (λ e. Wrong (InByte 2) e self.old.input.now) }
         ensures refuses { IfErr result (λ e. RefusesByte 2 e self.old.input.now) }
@@ -134,8 +136,8 @@ impl<'a> Reader<'a> {
         }
     }
 
-    // A remainder; where it is a variable, that is added to `found`.
-    pub(crate) fn bound_remainder(
+    /// A remainder; where it is a variable, that is added to `found`.
+    pub fn bound_remainder(
         &mut self,
         binds: bool,
         found: &mut Vec<Sense>,
@@ -209,7 +211,8 @@ impl<'a> Reader<'a> {
         }
     }
 
-    pub(crate) fn digest(&mut self) -> Result<Digest, ReadFault>
+    /// A digest.
+    pub fn digest(&mut self) -> Result<Digest, ReadFault>
         ensures is { IfOk result (λ d. self.old.input.now ≡ d.0 ++ self.new.input.now) }
         ensures digest { IfOk result (λ d. IsDigest d.0) }
         ensures tells { IfErr result (λ e. TellsNone e) }

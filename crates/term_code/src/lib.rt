@@ -7,9 +7,10 @@ pub mod fault;
 mod fields;
 pub mod laws;
 mod patterns;
-mod reader;
+pub mod reader;
 mod text;
 
 pub use decode::decode_term;
-pub use fault::CodeFault;
+pub use fault::{CodeFault, ReadFault};
+pub use reader::{Reader, Sense, check_order};
 pub use term_encoder::{code_len, encode_part, encode_term, group_key, shard_of};

@@ -289,8 +289,9 @@ impl<'a> Reader<'a> {
         Ok(pats)
     }
 
+    /// Patterns of names. What they bind is added to `found`.
     #[cycle(read)]
-    pub(crate) fn name_pats(
+    pub fn name_pats(
         &mut self,
         scope: &Vec<Sense>,
         found: &mut Vec<Sense>,

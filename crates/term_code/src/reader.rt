@@ -24,10 +24,12 @@ pub enum Sense {
 /// A reader of codes: the bytes that are left, and how many there were. A wrong byte's place is told by how
 /// many bytes stand from there on.
 #[derive(Drop)]
-pub(crate) struct Reader<'a> {
-    pub(crate) alloc: Global,
-    pub(crate) input: &'a [u8],
-    pub(crate) whole: usize,
+pub struct Reader<'a> {
+    pub alloc: Global,
+    /// The bytes that are left.
+    pub input: &'a [u8],
+    /// How many there were.
+    pub whole: usize,
 }
 
 impl<'a> Reader<'a> {
@@ -38,14 +40,15 @@ impl<'a> Reader<'a> {
         self.input.len()
     }
 
-    // The place of the byte before it.
-    pub(crate) fn last_place(&self) -> usize
+    /// The place of the byte before the next one.
+    pub fn last_place(&self) -> usize
         ensures { result ≡ length self.now.input.now + 1 }
     {
         self.input.len() + 1
     }
 
-    pub(crate) fn byte(&mut self) -> Result<u8, ReadFault>
+    /// The next byte.
+    pub fn byte(&mut self) -> Result<u8, ReadFault>
         ensures is { IfOk result (λ b. self.old.input.now ≡ b ∷ self.new.input.now) }
         ensures tells { IfErr result (λ e. TellsNone e) }
         ensures refuses { IfErr result (λ e. (c : List ℕ) → 0 < length c → Denies e self.old.input.now c) }
@@ -79,8 +82,8 @@ impl<'a> Reader<'a> {
         Ok(taken)
     }
 
-    // The code that was read since these bytes were left, which is no less than the one before it.
-    pub(crate) fn read_since(&self, start: &'a [u8], last: &[u8]) -> Result<&'a [u8], ReadFault>
+    /// The code that was read since these bytes were left, which is no less than the one before it.
+    pub fn read_since(&self, start: &'a [u8], last: &[u8]) -> Result<&'a [u8], ReadFault>
         ensures code { IfOk result (λ c. (d : List ℕ) → start.now ≡ d ++ self.now.input.now → c.now ≡ d) }
         ensures up { IfOk result (λ c. up_to last.now c.now ≡ true) }
         ensures place { IfErr result (λ e. e ≡ NotCanonical (length start.now)) }
@@ -109,9 +112,9 @@ impl<'a> Reader<'a> {
         Ok(byte)
     }
 
-    // A number from `least` to `most`. Where it is cut, its bytes begin that of some such number; where they
-    // do not, its first byte is blamed.
-    pub(crate) fn number(&mut self, least: u32, most: u32) -> Result<u32, ReadFault>
+    /// A number from `least` to `most`. Where it is cut, its bytes begin that of some such number; where they
+    /// do not, its first byte is blamed.
+    pub fn number(&mut self, least: u32, most: u32) -> Result<u32, ReadFault>
         ensures is { IfOk result (λ n. self.old.input.now ≡ be32 n ++ self.new.input.now) }
         ensures least { IfOk result (λ n. least ≤ n) }
         ensures most { IfOk result (λ n. n ≤ most) }
@@ -140,9 +143,9 @@ impl<'a> Reader<'a> {
     }
 }
 
-// Bytes that fall below the code before them are no code there, whatever follows the byte that does. Else
-// bytes may follow so that they do not.
-pub(crate) fn check_order(last: &[u8], bytes: &[u8]) -> Result<(), ReadFault>
+/// Bytes that fall below the code before them are no code there, whatever follows the byte that does. Else
+/// bytes may follow so that they do not.
+pub fn check_order(last: &[u8], bytes: &[u8]) -> Result<(), ReadFault>
     ensures up { IfOk result (λ _. Reaches last.now bytes.now) }
     ensures follows { OnOk result (Follows last.now bytes.now) }
     ensures place { IfErr result (λ e. e ≡ NotCanonical (length bytes.now)) }

@@ -1,4 +1,4 @@
-use Rattle.std.proofs.Common.{◌≡◌, ◌+◌, List, ◌++◌, [], ◌∷◌, length, map, take, drop, refl, sym, ◌∙◌, ap, subst, arith, inl}
+use Rattle.std.proofs.Common.{◌≡◌, ◌+◌, List, ◌∷◌, length, map, take, drop, refl, sym, ◌∙◌, ap, subst, arith, inl}
 use Rattle.std.proofs.Math.Seq.{take-length}
 use Rattle.radix_root.specs.Leaves.{Keeps, groups_of}
 use Rattle.checkpoint.specs.declared.groups.KeyedRow.{KeyedRow}

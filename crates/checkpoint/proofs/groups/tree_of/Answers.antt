@@ -1,4 +1,4 @@
-use Rattle.std.proofs.Common.{List, sym, ap, subst, map}
+use Rattle.std.proofs.Common.{List, sym, subst, map}
 use Rattle.radix_root.specs.Leaves.{Keeps, groups_of}
 use Rattle.checkpoint.specs.declared.groups.KeyedRow.{KeyedRow}
 use Rattle.checkpoint.specs.Groups.{row_of, AreByKey}

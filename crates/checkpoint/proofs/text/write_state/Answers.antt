@@ -1,9 +1,6 @@
-use Rattle.std.proofs.Common.{◌≡◌, ℕ, List, ◌∷◌, ◌++◌, length, map, sym, ◌∙◌, ap, subst}
-use Rattle.calculus.specs.Bytes.{be64, joined}
-use Rattle.calculus.specs.Order.{sorted}
+use Rattle.std.proofs.Common.{ℕ, List, map, ◌∙◌, ap}
 use Rattle.calculus.specs.Root.{root}
 use Rattle.calculus.specs.Rows.{Row, row_code}
-use Rattle.states.specs.States.{state_text}
 use Rattle.checkpoint.specs.Texts.{text_with}
 use Rattle.checkpoint.proofs.Ordering.{text-in-order}
 use Rattle.checkpoint.proofs.text.write_state.Goals as goal

@@ -2,7 +2,6 @@ use Rattle.std.proofs.Common.{ℕ, List, sym, subst}
 use Rattle.group_locks.specs.Rule.{Carries}
 use Rattle.group_locks.specs.Seats.{held_by, since_of}
 use Rattle.replay_hub.specs.declared.deed.Entry.{Entry}
-use Rattle.replay_hub.specs.declared.deed.Did.TheVariants.{Idle}
 use Rattle.replay_hub.specs.Values.{values}
 use Rattle.replay_hub.proofs.Idling.{tells-idle, carries-none}
 use Rattle.replay_hub.proofs.worker.end_idle.Goals as goal

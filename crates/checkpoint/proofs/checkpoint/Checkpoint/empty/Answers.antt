@@ -1,6 +1,6 @@
-use Rattle.std.proofs.Common.{◌≡◌, List, [], refl, sym, ◌∙◌, ap, subst}
+use Rattle.std.proofs.Common.{List, sym, ◌∙◌, ap, subst}
 use Rattle.calculus.specs.Rows.{Row}
-use Rattle.radix_root.specs.Leaves.{Leaves, Keeps, groups_of, group_digest, digest_at}
+use Rattle.radix_root.specs.Leaves.{Leaves, groups_of, group_digest, digest_at}
 use Rattle.checkpoint.specs.Kept.{AreKept}
 use Rattle.checkpoint.proofs.Adding.{sorted-none}
 use Rattle.checkpoint.proofs.Nothing.{nothing-kept}

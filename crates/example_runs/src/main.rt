@@ -1,0 +1,116 @@
+//! Runs the examples in memory: each is deployed from the empty state, and its log is replayed.
+#![tactic(auto)]
+
+use rho_main::run;
+use rho_outside::{FileShelf, MemShelf, MemSink, OpenGate, Shelf};
+use std::alloc::{AllocError, AllocFailed, Global};
+use std::rt::Files;
+use std::sync::Wait;
+use std::thread::Threads;
+
+/// The examples, by the names of their files.
+const EXAMPLES: [&str; 6] = ["hello", "cell", "bank", "counter", "table", "auction"];
+
+/// The most bytes of a file.
+const MOST: u64 = 1_000_000;
+
+/// Why an example did not run.
+#[derive(Debug, Drop, thiserror::Error)]
+enum ExampleFault {
+    #[error("out of memory")]
+    NoMemory,
+    #[error("a file is not there")]
+    NoFile,
+}
+
+impl From<AllocError> for ExampleFault {
+    fn from(_error: AllocError) -> Self {
+        ExampleFault::NoMemory
+    }
+}
+
+impl<T: Drop> From<AllocFailed<T>> for ExampleFault {
+    fn from(_error: AllocFailed<T>) -> Self {
+        ExampleFault::NoMemory
+    }
+}
+
+/// Puts a file of the system into memory, under its own name.
+fn take_file<R: Files>(
+    rt: &R,
+    alloc: Global,
+    name: &str,
+    files: &mut MemShelf,
+) -> Result<(), ExampleFault> {
+    let mut shelf = FileShelf {
+        rt,
+        fetch_faults: 0,
+        keep_faults: 0,
+    };
+    let Ok(bytes) = shelf.fetch(alloc, name, MOST) else {
+        return Err(ExampleFault::NoFile);
+    };
+    match files.keep(alloc, name, bytes.as_slice()) {
+        Ok(()) => Ok(()),
+        Err(_) => Err(ExampleFault::NoFile),
+    }
+}
+
+/// Calls `rho` with these words, which stand between spaces: its code, and what it put.
+fn call<R: Threads + Wait + Sync>(
+    rt: &R,
+    alloc: Global,
+    text: &str,
+    files: &mut MemShelf,
+) -> Result<(u8, Vec<u8>), ExampleFault> {
+    let mut words = Vec::new(alloc);
+    for word in text.split(' ') {
+        words.push(String::from_str(alloc, word)?)?;
+    }
+    let mut out = MemSink::new(alloc);
+    let status = run(rt, alloc, words.as_slice(), files, &mut out, &OpenGate);
+    Ok((status.code(), out.bytes))
+}
+
+/// What an example prints with the report behind it, and whether its replay says and leaves the same.
+fn run_example<R: Threads + Wait + Sync + Files>(
+    rt: &R,
+    alloc: Global,
+    name: &str,
+) -> Result<String, ExampleFault> {
+    let mut files = MemShelf::new(alloc);
+    let source = format!(in alloc; "{name}.rho")?;
+    take_file(rt, alloc, source.as_str(), &mut files)?;
+    take_file(rt, alloc, "prices.toml", &mut files)?;
+    call(rt, alloc, "genesis empty", &mut files)?;
+    let inputs = format!(in alloc; "{source} --state empty --prices prices.toml --log log")?;
+    let deploy = format!(in alloc; "deploy {inputs} --next next --limit 1000")?;
+    let replay = format!(in alloc; "replay {inputs} --next again")?;
+    let (code, played) = call(rt, alloc, deploy.as_str(), &mut files)?;
+    let (again, replayed) = call(rt, alloc, replay.as_str(), &mut files)?;
+    let alike = code == again && played.as_slice() == replayed.as_slice();
+    let same = is_same_file(alloc, &mut files)?;
+    let text = String::from_utf8_lossy(alloc, played.as_slice())?;
+    Ok(format!(in alloc;
+        "{name}: code {code}, replayed alike: {alike}, same state: {same}\n{text}"
+    )?)
+}
+
+/// Whether the replay left the state that the deploy left.
+fn is_same_file(alloc: Global, files: &mut MemShelf) -> Result<bool, ExampleFault> {
+    let (Ok(next), Ok(again)) = (
+        files.fetch(alloc, "next", MOST),
+        files.fetch(alloc, "again", MOST),
+    ) else {
+        return Ok(false);
+    };
+    Ok(next.as_slice() == again.as_slice())
+}
+
+fn main(rt: HostRuntime) -> anyhow::Result<()> {
+    for name in EXAMPLES {
+        let text = run_example(&rt, rt.alloc(), name)?;
+        print!(rt; "{text}")?;
+    }
+    Ok(())
+}

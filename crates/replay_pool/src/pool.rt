@@ -1,0 +1,79 @@
+//! Workers of a replay side by side.
+ghost use Rattle.std.specs.Prelude.{◌≡◌, ◌≤◌, ◌⊎◌, ◌^◌, true, length, map, IfOk};
+ghost use Rattle.std.specs.List.{All};
+ghost use Rattle.calculus.specs.Runs.{source_seed, Work};
+ghost use Rattle.calculus.specs.Steps.{differ};
+ghost use Rattle.calculus.specs.Unfolding.{Unfolds};
+ghost use Rattle.fresh_digests.specs.Premises.{FitsInTexts};
+ghost use Rattle.group_locks.specs.Counts.{Projected};
+ghost use Rattle.group_locks.specs.Seats.{AtRest, IsIdle};
+ghost use Rattle.racing_replays.specs.Answering.{SomeClash};
+ghost use Rattle.replay_scene.specs.Closing.{DecideLog};
+ghost use Rattle.replay_scene.specs.Entries.{did_by};
+ghost use Rattle.replay_scene.specs.Spaces.{Space};
+ghost use Rattle.replay_hub.specs.Ends.{FoundAnEnd};
+ghost use Rattle.replay_hub.specs.Values.{entry_of, values};
+
+use group_locks::{Closed, Hub, Pool, Seat};
+use replay_hub::{ReplayScene, Task, close_replay};
+use replay_worker::{ReplayTables, work_through};
+use std::alloc::{AllocError, Global};
+use std::sync::Wait;
+use std::thread;
+use std::thread::Threads;
+
+// Does all jobs of a hub, each seat in a thread of its own. Want of memory is the one error.
+fn side_by_side<J: ReplayTables + Sync, R: Threads + Wait + Sync>(
+    rt: &R,
+    alloc: Global,
+    tables: &J,
+    hub: &Hub<ReplayScene<J>>,
+    seats: Vec<Seat<ReplayScene<J>>>,
+) -> Result<Vec<Seat<ReplayScene<J>>>, AllocError>
+    requires knows { J.knows tables.now }
+    requires seats { All (λ s. IsIdle hub.now.table.shared.table_id s.state) seats.items }
+    ensures count { IfOk result (λ v. length v.items ≡ length seats.items) }
+    ensures each { IfOk result (λ v. All (λ s. AtRest hub.now.table.shared.table_id s.state × FoundAnEnd s.state) v.items) }
+{
+    thread::map_vec(
+        rt,
+        seats,
+        &|seat: Seat<ReplayScene<J>>| -> Seat<ReplayScene<J>>
+            requires { J.knows tables.now × IsIdle hub.now.table.shared.table_id seat.state }
+            ensures { AtRest hub.entry.now.table.shared.table_id result.state × FoundAnEnd result.state }
+        { work_through(rt, alloc, tables, hub, seat) },
+    )
+}
+
+/// Replays a log by 1 to 32 workers, over these shards and with these jobs, with which a replay of the log may open. Once it
+/// has ended, what its entries did and its shards decide the log, or the digests of some replay of the log clash. Want of
+/// memory is the one error.
+pub fn replay_side_by_side<J: ReplayTables + Sync, R: Threads + Wait + Sync>(
+    rt: &R,
+    alloc: Global,
+    tables: &J,
+    shards: Vec<J::Shard>,
+    tasks: Vec<Task<J::Row, J::Channel>>,
+    workers: u32,
+) -> Result<Closed<ReplayScene<J>>, AllocError>
+    requires knows { J.knows tables.now }
+    requires workers { (1 ≤ workers) × (workers ≤ 32) }
+    requires sizes { (length shards.items ≡ 64) × (length tasks.items ≤ 2 ^ 58) }
+    requires opens { (store : Space) × Projected (values J.deploy J.steps J.row_of J.channel_of J.part_of).projects store shards.items × (values J.deploy J.steps J.row_of J.channel_of J.part_of).opens store tasks.items }
+    ensures decides { IfOk result (λ r. (w : Work) → Unfolds J.deploy.prices J.deploy.limit J.deploy.process (source_seed J.deploy) w → FitsInTexts J.deploy J.steps → differ (map (λ q. q.id) J.deploy.rows) ≡ true
+        → DecideLog J.deploy w J.steps (did_by (map (entry_of J.row_of J.channel_of) r.entries.items)) (map J.part_of r.shards.items) ⊎ SomeClash J.deploy w J.steps) }
+{
+    let scene = ReplayScene::new();
+    let Pool { hub, seats } = Hub::start(alloc, scene, shards, tasks, workers, 0, MOST_CHARGED)?;
+    let seats = side_by_side(rt, alloc, tables, &hub, seats)?;
+    let Ok(closed) = close_replay(hub, seats) else {
+        return Err(AllocError);
+    };
+    if closed.stop.is_some() {
+        return Err(AllocError);
+    }
+    Ok(closed)
+}
+
+// The limit of what is charged. No entry costs anything.
+const MOST_CHARGED: u64 = (1 << 62) - 1;

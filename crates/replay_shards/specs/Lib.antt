@@ -1,0 +1,6 @@
+pub mod Filing
+pub mod Rows
+pub mod Values
+pub mod Hands
+pub mod Taken
+pub mod Ready

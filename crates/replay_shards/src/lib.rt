@@ -1,0 +1,21 @@
+//! The shards of a replay: the rows that have arrived, found by their ids, and which step of the log they fit.
+#![tactic(auto)]
+
+mod bits;
+mod finding;
+mod fit;
+mod full;
+mod held;
+mod kept;
+mod next;
+pub mod ready;
+mod rows;
+mod shard;
+mod slots;
+mod taking;
+
+pub use bits::row_shards;
+pub use held::ReplayHeld;
+pub use next::first_tries;
+pub use ready::{Ready, Try};
+pub use shard::ReplayShard;

@@ -1,0 +1,107 @@
+// The tries that follow an arrival or a done step.
+ghost use Rattle.std.specs.Prelude.{◌≡◌, [], ◌∷◌, List, Some, IfOk, OnOk};
+ghost use Rattle.calculus.specs.Log.{Step};
+ghost use Rattle.calculus.specs.Rows.{channels};
+ghost use Rattle.replay_scene.specs.Spaces.{SeenRow, IsIn};
+ghost use Rattle.replay_scene.specs.Showing.{IsFirstUse};
+ghost use Rattle.replay_space.specs.Rigs.{IsRigOf};
+ghost use Rattle.replay_shards.specs.Hands.{all_shown, parts_of, AreSlotsFiled};
+ghost use Rattle.replay_shards.specs.Ready.{if_any, index_tries, AreNext, Follow, IsUseTry};
+ghost use Rattle.replay_shards.specs.Rows.{find_seen};
+ghost use Rattle.replay_shards.specs.Taken.{bytes_of, AreFound};
+
+use crate::finding::find_in;
+use crate::kept::is_among;
+use crate::ready::Try;
+use crate::slots::Slot;
+use calculus::Digest;
+use replay_space::Rig;
+use rho_term::{Op, Term};
+use space_row::Row;
+use std::alloc::{AllocError, Global};
+
+// A copy of the first channel of a row.
+fn first_channel(alloc: Global, row: &Row) -> Result<Term, AllocError>
+    ensures { IfOk result (λ t. IsIn t (channels row.now.part)) }
+{
+    match row.op() {
+        Op::Produce { channel, .. } => channel.copy(alloc),
+        Op::Consume { binds, .. } => binds[0].channel.copy(alloc),
+    }
+}
+
+// The try of the use of a row at this place, if there is such a use.
+fn use_try(alloc: Global, rig: &Rig, row: &Row, place: usize) -> Result<Option<Try>, AllocError>
+    ensures { (ss : List Step) → IsRigOf ss rig.now → IfOk result (λ o. IsUseTry ss row.now place (if_any o)) }
+{
+    match rig.next_use(&row.id(), place) {
+        None => Ok(None),
+        Some(step) => {
+            let channel = first_channel(alloc, row)?;
+            Ok(Some(Try { step, channel }))
+        }
+    }
+}
+
+/// The try that follows where a row arrives: of its first use in the log. Want of memory is the one error.
+pub fn first_tries(alloc: Global, rig: &Rig, row: &Row) -> Result<Vec<Try>, AllocError>
+    ensures { (ss : List Step) → IsRigOf ss rig.now → IfOk result (λ v. IsFirstUse ss row.now (index_tries v.items)) }
+{
+    let mut tries = Vec::new(alloc);
+    match use_try(alloc, rig, row, 0)? {
+        None => Ok(tries),
+        Some(tried) => {
+            tries.push(tried)?;
+            Ok(tries)
+        }
+    }
+}
+
+// Adds the try that follows for the first row in hand with this id, unless it leaves.
+fn add_next(
+    alloc: Global,
+    slots: &[Slot],
+    rig: &Rig,
+    gone: &[Digest],
+    id: &Digest,
+    next: &mut Vec<Try>,
+) -> Result<(), AllocError>
+    requires { AreSlotsFiled slots.now }
+    ensures { (ss : List Step) (q : SeenRow) → IsRigOf ss rig.now → find_seen id.now.0 (all_shown (parts_of slots.now)) ≡ Some q → OnOk result (Follow ss (bytes_of gone.now) q next.old.items next.new.items) }
+{
+    if is_among(id, gone) {
+        return Ok(());
+    }
+    let Some(seen) = find_in(slots, id) else {
+        return Ok(());
+    };
+    let place = seen.done as usize + 1;
+    match use_try(alloc, rig, &seen.row, place)? {
+        None => Ok(()),
+        Some(tried) => {
+            next.push(tried)?;
+            Ok(())
+        }
+    }
+}
+
+/// The tries that follow for the first rows in hand with these ids, but for those that leave.
+pub(crate) fn all_next(
+    alloc: Global,
+    slots: &[Slot],
+    rig: &Rig,
+    gone: &[Digest],
+    first: &Digest,
+    others: &[Digest],
+) -> Result<Vec<Try>, AllocError>
+    requires { AreSlotsFiled slots.now }
+    ensures { (ss : List Step) (r : SeenRow) (ds : List SeenRow) → IsRigOf ss rig.now → AreFound (all_shown (parts_of slots.now)) (first.now.0 ∷ bytes_of others.now) (r ∷ ds)
+        → IfOk result (λ v. AreNext ss (bytes_of gone.now) (r ∷ ds) v.items) }
+{
+    let mut next = Vec::new(alloc);
+    add_next(alloc, slots, rig, gone, first, &mut next)?;
+    for id in others {
+        add_next(alloc, slots, rig, gone, id, &mut next)?;
+    }
+    Ok(next)
+}

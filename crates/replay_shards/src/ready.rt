@@ -1,0 +1,17 @@
+//! What a step may be done with.
+use rho_term::Term;
+use row_search::Found;
+
+/// The number of a step that is to be tried, with a channel of one of the rows that it names.
+#[derive(Drop)]
+pub struct Try {
+    pub step: u32,
+    pub channel: Term,
+}
+
+/// Rows that fit a step: what they bind, and the tries that follow once it is done.
+#[derive(Drop)]
+pub struct Ready {
+    pub found: Found,
+    pub next: Vec<Try>,
+}

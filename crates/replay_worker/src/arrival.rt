@@ -1,0 +1,84 @@
+// A row arrives.
+ghost use Rattle.std.specs.Prelude.{◌≡◌, ◌<◌, ℕ, [], ◌∷◌, true, false, None, IfSome};
+ghost use Rattle.std.specs.Int.{bit_at};
+ghost use Rattle.group_locks.specs.Counts.{count, things_of};
+ghost use Rattle.group_locks.specs.Rule.{Carries};
+ghost use Rattle.group_locks.specs.Seats.{home_of, held_by, since_of, due_of, hand_of, taken_by, offered_by, stops_of, AtRest, HasLeave, HasRoom};
+ghost use Rattle.replay_hub.specs.declared.deed.Task.TheVariants.{Arrive};
+ghost use Rattle.replay_hub.specs.Values.{values};
+ghost use Rattle.replay_worker.specs.Looking.{IsArriving};
+
+use crate::ends::{give_back, give_up, leave};
+use crate::tables::{Arriving, ReplayTables};
+use group_locks::{Hub, Seat};
+use replay_hub::worker::draw_entry;
+use replay_hub::{Arrived, Coming, Did, Entry, ReplayScene, Task};
+use std::alloc::Global;
+use std::snapshot::Snapshot;
+use std::sync::Wait;
+
+// Brings a row into the shards in hand, which are those that it stands in, and draws its arrival. It answers the jobs that
+// this offers, or None where memory was wanting; then nothing is changed.
+fn draw_arrival<J: ReplayTables + Sync>(
+    alloc: Global,
+    tables: &J,
+    hub: &Hub<ReplayScene<J>>,
+    seat: &mut Seat<ReplayScene<J>>,
+    held: &mut J::Held,
+    coming: Coming<J::Row>,
+    arriving: Arriving<J::Row, J::Channel>,
+) -> Option<Vec<Task<J::Row, J::Channel>>>
+    requires hub { (home_of seat.old.state ≡ hub.now.table.shared.table_id) × (due_of seat.old.state ≡ []) }
+    requires leave { HasLeave seat.old.state × HasRoom seat.old.state }
+    requires work { (index : ℕ) × (taken_by seat.old.state ≡ (index, Arrive coming) ∷ []) × (offered_by seat.old.state ≡ []) }
+    requires arriving { IsArriving J.steps J.row_of J.channel_of coming arriving }
+    requires turns { (k : ℕ) → count k (held_by seat.old.state) ≡ bit_at arriving.shards k }
+    requires carries { Carries (values J.deploy J.steps J.row_of J.channel_of J.part_of) (since_of seat.old.state) (held_by seat.old.state) (J.in_hand held.old) }
+    ensures hub { (home_of seat.new.state ≡ hub.now.table.shared.table_id) × (due_of seat.new.state ≡ []) }
+    ensures carries { Carries (values J.deploy J.steps J.row_of J.channel_of J.part_of) (since_of seat.new.state) (held_by seat.new.state) (J.in_hand held.new) }
+    ensures drawn { IfSome result (λ v. (taken_by seat.new.state ≡ []) × (things_of (offered_by seat.new.state) ≡ v.items)) }
+{
+    let Arriving {
+        shards,
+        next,
+        tasks,
+    } = arriving;
+    let seen = Snapshot::of(&coming);
+    let Ok(()) = tables.arrive(alloc, held, coming, shards) else {
+        return None;
+    };
+    let did = Did::Arrived(Arrived { coming: seen, next });
+    draw_entry(hub, seat, held, Entry { did, shards }, &tasks);
+    Some(tasks)
+}
+
+/// Brings a row in, and leaves the try of its first use. False where memory was wanting; the hub is then stopped.
+pub(crate) fn bring_in<J: ReplayTables + Sync, R: Wait>(
+    rt: &R,
+    alloc: Global,
+    tables: &J,
+    hub: &Hub<ReplayScene<J>>,
+    seat: &mut Seat<ReplayScene<J>>,
+    held: &mut J::Held,
+    coming: Coming<J::Row>,
+) -> bool
+    requires knows { J.knows tables.now }
+    requires seat { AtRest hub.now.table.shared.table_id seat.old.state × (due_of seat.old.state ≡ []) }
+    requires leave { HasLeave seat.old.state × HasRoom seat.old.state }
+    requires work { (index : ℕ) × (taken_by seat.old.state ≡ (index, Arrive coming) ∷ []) × (offered_by seat.old.state ≡ []) }
+    requires empty { (k : ℕ) → J.in_hand held.old k ≡ None }
+    ensures seat { AtRest hub.now.table.shared.table_id seat.new.state × (due_of seat.new.state ≡ []) }
+    ensures empty { (k : ℕ) → J.in_hand held.new k ≡ None }
+    ensures left { result ≡ true → hand_of seat.new.state ≡ [] }
+    ensures stopped { result ≡ false → 0 < stops_of seat.new.state }
+{
+    let Ok(arriving) = tables.prepare(alloc, &coming) else {
+        return give_up(hub, seat);
+    };
+    seat.take_group(rt, hub, held, arriving.shards);
+    let Some(tasks) = draw_arrival(alloc, tables, hub, seat, held, coming, arriving) else {
+        return give_back(hub, seat, held);
+    };
+    seat.give_group(hub, held);
+    leave(rt, hub, seat, tasks)
+}

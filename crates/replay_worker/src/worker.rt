@@ -1,0 +1,67 @@
+//! The round of one worker.
+ghost use Rattle.std.specs.Prelude.{◌≡◌, ◌<◌, ℕ, [], ◌∷◌, true, false, None};
+ghost use Rattle.group_locks.specs.Seats.{due_of, hand_of, offered_by, stops_of, taken_by, AtRest, HasLeave, HasRoom, IsIdle};
+ghost use Rattle.replay_hub.specs.Ends.{FoundAnEnd};
+
+use crate::arrival::bring_in;
+use crate::tables::ReplayTables;
+use crate::trying::try_step;
+use group_locks::{Hub, Seat, StopCause};
+use replay_hub::{ReplayScene, Task};
+use std::alloc::Global;
+use std::sync::Wait;
+
+// Does one job, and leaves those that follow. False where memory was wanting; the hub is then stopped.
+fn do_task<J: ReplayTables + Sync, R: Wait>(
+    rt: &R,
+    alloc: Global,
+    tables: &J,
+    hub: &Hub<ReplayScene<J>>,
+    seat: &mut Seat<ReplayScene<J>>,
+    held: &mut J::Held,
+    task: Task<J::Row, J::Channel>,
+) -> bool
+    requires knows { J.knows tables.now }
+    requires seat { AtRest hub.now.table.shared.table_id seat.old.state × (due_of seat.old.state ≡ []) }
+    requires leave { HasLeave seat.old.state × HasRoom seat.old.state }
+    requires work { (index : ℕ) × (taken_by seat.old.state ≡ (index, task) ∷ []) × (offered_by seat.old.state ≡ []) }
+    requires empty { (k : ℕ) → J.in_hand held.old k ≡ None }
+    ensures seat { AtRest hub.now.table.shared.table_id seat.new.state × (due_of seat.new.state ≡ []) }
+    ensures empty { (k : ℕ) → J.in_hand held.new k ≡ None }
+    ensures left { result ≡ true → hand_of seat.new.state ≡ [] }
+    ensures stopped { result ≡ false → 0 < stops_of seat.new.state }
+{
+    match task {
+        Task::Arrive(coming) => bring_in(rt, alloc, tables, hub, seat, held, coming),
+        Task::Index(tried) => try_step(rt, alloc, tables, hub, seat, held, tried),
+    }
+}
+
+/// Does jobs of a hub until nothing is pending or the hub stops. It stops the hub where memory is wanting.
+pub fn work_through<J: ReplayTables + Sync, R: Wait>(
+    rt: &R,
+    alloc: Global,
+    tables: &J,
+    hub: &Hub<ReplayScene<J>>,
+    seat: Seat<ReplayScene<J>>,
+) -> Seat<ReplayScene<J>>
+    requires knows { J.knows tables.now }
+    requires seat { IsIdle hub.now.table.shared.table_id seat.state }
+    ensures rest { AtRest hub.now.table.shared.table_id result.state }
+    ensures cause { FoundAnEnd result.state }
+{
+    let mut seat = seat;
+    let Ok(mut held) = tables.hand(alloc) else {
+        seat.stop(hub, StopCause::NoMemory);
+        return seat;
+    };
+    for _ in rt.forever() {
+        let Some(task) = seat.take_op(rt, hub) else {
+            return seat;
+        };
+        if !do_task(rt, alloc, tables, hub, &mut seat, &mut held, task) {
+            return seat;
+        }
+    }
+    unreachable!()
+}

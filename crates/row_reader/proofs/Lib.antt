@@ -1,0 +1,4 @@
+pub mod Joins
+pub mod SentRows
+pub mod JoinRows
+pub mod Found

@@ -1,0 +1,36 @@
+-- Ids in groups, each found by its key.
+use Rattle.std.specs.Prelude.{◌≡◌, ℕ, Bool, true, List, [], map as each, Option, Some, None, is_some}
+use Rattle.std.specs.Map.{lookup}
+use Rattle.std.specs.Ordering.{nat_cmp, is_eq}
+use Rattle.std.specs.Cmp.Lexicographic.{slice_cmp}
+use Rattle.std.specs.HashSet.{HashSet}
+use Rattle.std.specs.declared.alloc.Global.{Global}
+use Rattle.std.specs.declared.vec.Vec.{Vec}
+use Rattle.calculus.specs.declared.ids.Digest.{Digest}
+use Rattle.calculus.specs.Rows.{Row}
+use Rattle.calculus.specs.Steps.{as_datum, is_one_of}
+
+-- whether a row is a send
+abbrev pub is_send : Row → Bool
+is_send r = is_some (as_datum r.part)
+
+-- whether a key is this one
+abbrev pub is_key : List ℕ → List ℕ → Bool
+is_key k q = is_eq (slice_cmp nat_cmp k q)
+
+-- the ids of a set, where there is one
+abbrev pub ids_in : {S : Type 0} → Option (HashSet Digest S) → List Digest
+ids_in None = []
+ids_in (Some s) = s.keys
+
+-- groups by their keys
+abbrev pub Index : Type 0 → Type 0
+Index S = List (Vec ℕ Global × HashSet Digest S)
+
+-- the ids of the group with this key
+abbrev pub group : {S : Type 0} → Index S → List ℕ → List Digest
+group es k = ids_in (lookup (λ (q : Vec ℕ Global). is_key k q.items) es)
+
+-- the group with this key has an id
+abbrev pub HasId : {S : Type 0} → Index S → List ℕ → List ℕ → Type 0
+HasId es k x = is_one_of x (each (λ d. d.0) (group es k)) ≡ true

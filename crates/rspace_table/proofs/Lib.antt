@@ -1,0 +1,9 @@
+pub mod SetBits
+pub mod Firsts
+pub mod Shown
+pub mod Changes
+pub mod Searching
+pub mod Telling
+pub mod Gathered
+pub mod Spread
+pub mod InHand

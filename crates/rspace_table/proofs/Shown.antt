@@ -1,0 +1,117 @@
+-- What the receives of a table show of an operation.
+use Rattle.std.proofs.Common.{◌≡◌, ℕ, Bool, true, false, ◌&&◌, ◌||◌, eqb, List, [], ◌∷◌, map as each, refl, sym, ap, ◌∙◌}
+use Rattle.std.specs.Prelude.{Option, Some, None, is_some}
+use Rattle.std.specs.List.{list_any}
+use Rattle.list_laws.proofs.Members.{Member}
+use Rattle.calculus.specs.declared.ids.Digest.{Digest}
+use Rattle.calculus.specs.Congruence.{congruent}
+use Rattle.calculus.specs.Tree.{Tree}
+use Rattle.calculus.specs.Rows.{Row, channels}
+use Rattle.calculus.specs.Steps.{as_receiver}
+use Rattle.calculus.specs.Storing.{shard}
+use Rattle.rho_term.specs.declared.term.TermBind.{TermBind}
+use Rattle.events.proofs.Making.{among, member}
+use Rattle.row_search.specs.Rows.{is_one_channel, is_heard_on, row_with, with_row, looked_up, HasReceivers}
+use Rattle.row_search.proofs.Looking.{looked-up-there}
+use Rattle.shard_rows.specs.Shards.{stands_in}
+use Rattle.shard_rows.specs.Hands.{hears, is_one_channel as is_one}
+use Rattle.shard_rows.proofs.Standing.{any-true, any-one}
+use Rattle.rspace_table.specs.Bits.{heard_on, shown_by}
+
+pub and-left : (a b : Bool) → a && b ≡ true → a ≡ true
+and-left true b e = refl
+and-left false b e = cc
+
+pub and-right : (a b : Bool) → a && b ≡ true → b ≡ true
+and-right true b e = e
+and-right false b e = cc
+
+pub and-both : (a b : Bool) → a ≡ true → b ≡ true → a && b ≡ true
+and-both a b e f = ap (λ c. c && b) e ∙ f
+
+-- what is so where another is, and the other way round
+pub same-truth : (a b : Bool) → (a ≡ true → b ≡ true) → (b ≡ true → a ≡ true) → a ≡ b
+same-truth true b f g = sym (f refl)
+same-truth false true f g = g refl
+same-truth false false f g = refl
+
+-- both ways to say that a channel is one of these
+pub one-is : (c : Tree) (ds : List Tree) → is_one_channel c ds ≡ is_one c ds
+one-is c [] = refl
+one-is c (d ∷ ds) = ap (λ b. congruent c d || b) (one-is c ds)
+
+-- a receive among these with a bind on a channel that stands in a shard
+pub record Hears (rows : List Row) (c : Tree) (k : ℕ) : Type 0 where
+  pub row : Row
+  pub there : Member row rows
+  pub heard : is_heard_on c row ≡ true
+  pub stands : stands_in k row ≡ true
+
+pub heard-one : (rows : List Row) (c : Tree) (k : ℕ) → heard_on rows c k ≡ true → Hears rows c k
+heard-one rows c k e =
+    let a = any-one (λ (r : Row). is_heard_on c r && stands_in k r) rows e in
+    record { row = a.0; there = a.1; heard = and-left (is_heard_on c a.0) (stands_in k a.0) a.2; stands = and-right (is_heard_on c a.0) (stands_in k a.0) a.2 }
+
+pub heard-true : (rows : List Row) (c : Tree) (k : ℕ) → Hears rows c k → heard_on rows c k ≡ true
+heard-true rows c k h = any-true (λ (r : Row). is_heard_on c r && stands_in k r) rows h.row h.there (and-both (is_heard_on c h.row) (stands_in k h.row) h.heard h.stands)
+
+-- the receives with these ids, one after another
+pub each-heard : (rows : List Row) (c : Tree) (k : ℕ) (ds : List Digest) → list_any (λ d. heard_on (looked_up rows (d.0 ∷ [])) c k) ds ≡ heard_on (looked_up rows (each (λ d. d.0) ds)) c k
+each-heard rows c k [] = refl
+each-heard rows c k (d ∷ ds) = go (each-heard rows c k ds) (row_with d.0 rows)
+  where
+    alone : (b x : Bool) → (b || false) || x ≡ b || x
+    alone true x = refl
+    alone false x = refl
+
+    go : list_any (λ (z : Digest). heard_on (looked_up rows (z.0 ∷ [])) c k) ds ≡ heard_on (looked_up rows (each (λ (z : Digest). z.0) ds)) c k → (o : Option Row)
+        → heard_on (with_row o []) c k || list_any (λ (z : Digest). heard_on (looked_up rows (z.0 ∷ [])) c k) ds ≡ heard_on (with_row o (looked_up rows (each (λ (z : Digest). z.0) ds))) c k
+    go next None = next
+    go next (Some r) = alone (is_heard_on c r && stands_in k r) (list_any (λ (z : Digest). heard_on (looked_up rows (z.0 ∷ [])) c k) ds) ∙ ap (λ b. (is_heard_on c r && stands_in k r) || b) next
+
+-- ids that find all receives on a channel show what all rows do
+pub heard-all : (rows : List Row) (c : Tree) (xs : List (List ℕ)) → HasReceivers rows c xs → (k : ℕ) → heard_on (looked_up rows xs) c k ≡ heard_on rows c k
+heard-all rows c xs h k = same-truth (heard_on (looked_up rows xs) c k) (heard_on rows c k)
+    (λ e. let a = heard-one (looked_up rows xs) c k e in
+    heard-true rows c k (record { row = a.row; there = member a.row rows (looked-up-there a.row rows xs (among a.row (looked_up rows xs) a.there)); heard = a.heard; stands = a.stands }))
+    (λ e. let a = heard-one rows c k e in
+    heard-true (looked_up rows xs) c k (record { row = a.row; there = member a.row (looked_up rows xs) (h a.row (among a.row rows a.there) a.heard); heard = a.heard; stands = a.stands }))
+
+-- what is shown on the channels of an operation is what is shown by all that hear it
+pub shown-on : (rows : List Row) (o : Row) (k : ℕ) → list_any (λ c. heard_on rows c k) (channels o.part) ≡ shown_by rows o k
+shown-on rows o k = same-truth (list_any (λ c. heard_on rows c k) (channels o.part)) (shown_by rows o k) to back
+  where
+    to : list_any (λ c. heard_on rows c k) (channels o.part) ≡ true → shown_by rows o k ≡ true
+    to e =
+        let a = any-one (λ (c : Tree). heard_on rows c k) (channels o.part) e in
+        let b = heard-one rows a.0 k a.2 in
+        let r = b.row in
+        let i = and-left (is_some (as_receiver r.part)) (is_one_channel a.0 (channels r.part)) b.heard in
+        let j = sym (one-is a.0 (channels r.part)) ∙ and-right (is_some (as_receiver r.part)) (is_one_channel a.0 (channels r.part)) b.heard in
+        any-true (λ (q : Row). hears q o && stands_in k q) rows r b.there
+        (and-both (hears r o) (stands_in k r) (and-both (is_some (as_receiver r.part)) (list_any (λ c. is_one c (channels r.part)) (channels o.part)) i (any-true (λ (c : Tree). is_one c (channels r.part)) (channels o.part) a.0 a.1 j)) b.stands)
+
+    back : shown_by rows o k ≡ true → list_any (λ c. heard_on rows c k) (channels o.part) ≡ true
+    back e =
+        let a = any-one (λ (q : Row). hears q o && stands_in k q) rows e in
+        let r = a.0 in
+        let h = and-left (hears r o) (stands_in k r) a.2 in
+        let i = and-left (is_some (as_receiver r.part)) (list_any (λ c. is_one c (channels r.part)) (channels o.part)) h in
+        let b = any-one (λ (c : Tree). is_one c (channels r.part)) (channels o.part) (and-right (is_some (as_receiver r.part)) (list_any (λ c. is_one c (channels r.part)) (channels o.part)) h) in
+        any-true (λ (c : Tree). heard_on rows c k) (channels o.part) b.0 b.1
+        (heard-true rows b.0 k (record { row = r; there = a.1; heard = and-both (is_some (as_receiver r.part)) (is_one_channel b.0 (channels r.part)) i (one-is b.0 (channels r.part) ∙ b.2); stands = and-right (hears r o) (stands_in k r) a.2 }))
+
+-- tests of binds as tests of their channels
+pub any-each : {A B : Type 0} (f : B → Bool) (g : A → B) (xs : List A) → list_any f (each g xs) ≡ list_any (λ x. f (g x)) xs
+any-each f g [] = refl
+any-each f g (x ∷ xs) = ap (λ b. f (g x) || b) (any-each f g xs)
+
+-- the shards of a receive with these binds
+pub binds-stand : (r : Row) (bs : List TermBind) → channels r.part ≡ each (λ b. b.channel) bs → (k : ℕ) → list_any (λ (b : TermBind). eqb k (shard b.channel)) bs ≡ stands_in k r
+binds-stand r bs e k =
+    sym (ap (λ (cs : List Tree). list_any (eqb k) (each shard cs)) e ∙ any-each (eqb k) shard (each (λ (b : TermBind). b.channel) bs) ∙ any-each (λ (c : Tree). eqb k (shard c)) (λ (b : TermBind). b.channel) bs)
+
+-- what is shown on the channels of binds
+pub binds-shown : (rows : List Row) (o : Row) (bs : List TermBind) → channels o.part ≡ each (λ b. b.channel) bs → (k : ℕ) → list_any (λ (b : TermBind). heard_on rows b.channel k) bs ≡ shown_by rows o k
+binds-shown rows o bs e k =
+    sym (any-each (λ (c : Tree). heard_on rows c k) (λ (b : TermBind). b.channel) bs) ∙ ap (list_any (λ (c : Tree). heard_on rows c k)) (sym e) ∙ shown-on rows o k
