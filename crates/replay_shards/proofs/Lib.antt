@@ -12,3 +12,4 @@ pub mod Trying
 pub mod Fitting
 pub mod Calling
 pub mod Drawing
+pub mod Receiving

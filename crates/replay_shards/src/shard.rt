@@ -1,6 +1,20 @@
 // One shard.
+ghost use Rattle.std.specs.Prelude.{◌≡◌, ◌<◌, ◌++◌, ◌∷◌, [], filter, map as each, All, IfOk, OnOk};
+ghost use Rattle.calculus.specs.Storing.{IsStorable};
+ghost use Rattle.rho_term.specs.Rows.{row_of_op};
+ghost use Rattle.replay_scene.specs.Spaces.{bare, seen_in, standing_row};
+ghost use Rattle.replay_shards.specs.Hands.{IsOpened};
+ghost use Rattle.replay_shards.specs.Rows.{own_built, seen_row};
+
+use crate::bits::{is_set, row_shards};
 use crate::kept::Kept;
+use replay_space::Seen;
+use rho_term::Op;
+use space_row::Row;
+use std::alloc::{AllocError, Global};
+use std::collections::BTreeMap;
 use std::marker::Model;
+use system_names::built_ins;
 
 /// One of 64 shards of a replay: the rows that have arrived and stand in it, and the built-in receivers in it.
 #[derive(Drop)]
@@ -21,4 +35,64 @@ impl Model for ReplayShard {
     ghost view = { λ a. part_of a.kept };
 
     ghost invariant = { λ a. AreFiled a.kept.rows.entries };
+}
+
+// Operations as the rows that they are. Want of memory is the one error.
+fn as_rows(alloc: Global, operations: Vec<Op>) -> Result<Vec<Row>, AllocError>
+    requires { All (λ o. IsStorable (row_of_op o)) operations.items }
+    ensures { IfOk result (λ v. v.items ≡ each row_of_op operations.items) }
+{
+    let mut rows = Vec::new(alloc);
+    for operation in operations {
+        rows.push(Row::from_op(operation))?;
+    }
+    Ok(rows)
+}
+
+// Adds a receiver that stands from the start, if it stands in the shard of this number.
+fn add_if(alloc: Global, built: &mut Vec<Seen>, row: &Row, number: u32) -> Result<(), AllocError>
+    requires { number < 64 }
+    ensures { OnOk result (each seen_row built.new.items ≡ each seen_row built.old.items ++ filter (seen_in number) (standing_row row.now ∷ [])) }
+{
+    if !is_set(row_shards(alloc, row)?, number) {
+        return Ok(());
+    }
+    let row = row.copy(alloc)?;
+    built.push(Seen {
+        row,
+        from: None,
+        done: 0,
+    })?;
+    Ok(())
+}
+
+// The built-in receivers of the shard of this number. Want of memory is the one error.
+fn own_receivers(alloc: Global, number: u32) -> Result<Vec<Seen>, AllocError>
+    requires { number < 64 }
+    ensures { IfOk result (λ v. each seen_row v.items ≡ own_built number) }
+{
+    let rows = as_rows(alloc, built_ins(alloc)?)?;
+    let mut built = Vec::new(alloc);
+    for row in rows.as_slice() {
+        add_if(alloc, &mut built, row, number)?;
+    }
+    Ok(built)
+}
+
+impl ReplayShard {
+    /// The shard of this number before any row has arrived. Want of memory is the one error.
+    pub fn new(alloc: Global, number: u32) -> Result<ReplayShard, AllocError>
+        requires { number < 64 }
+        ensures { IfOk result (IsOpened [] number) }
+    {
+        let built = own_receivers(alloc, number)?;
+        let rows = BTreeMap::new(alloc);
+        Ok(ReplayShard {
+            kept: Kept {
+                number,
+                rows,
+                built,
+            },
+        })
+    }
 }

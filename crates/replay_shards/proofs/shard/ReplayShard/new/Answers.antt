@@ -1,0 +1,17 @@
+use Rattle.std.proofs.Common.{◌≡◌, List, [], sym, ap, subst, ◌∙◌, IsPermutation, refl}
+use Rattle.list_laws.proofs.Permutations.{unmoved}
+use Rattle.replay_scene.specs.Spaces.{SeenRow}
+use Rattle.replay_space.specs.declared.seen.Seen.{Seen}
+use Rattle.replay_shards.specs.Filing.{Filed}
+use Rattle.replay_shards.specs.Rows.{filed_rows, AreFiled}
+use Rattle.replay_shards.proofs.shard.ReplayShard.new.Goals as goal
+
+pub invariant_of-result : goal.invariant_of-result
+invariant_of-result c = subst AreFiled (sym c.new-rows.ensures.empty) tt
+
+pub returns : goal.returns
+returns c = record {
+  number = refl;
+  rows = subst (λ (es : List (Filed Seen)). IsPermutation [] (filed_rows es)) (sym c.new-rows.ensures.empty) (unmoved []);
+  built = c.in_ok-built.ensures;
+}

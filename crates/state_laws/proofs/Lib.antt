@@ -1,0 +1,4 @@
+pub mod Same
+pub mod Exact
+pub mod Meetings
+pub mod Read
