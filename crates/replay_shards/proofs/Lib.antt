@@ -13,3 +13,4 @@ pub mod Fitting
 pub mod Calling
 pub mod Drawing
 pub mod Receiving
+pub mod Moving

@@ -4,10 +4,11 @@ ghost use Rattle.calculus.specs.Storing.{IsStorable};
 ghost use Rattle.rho_term.specs.Rows.{row_of_op};
 ghost use Rattle.replay_scene.specs.Spaces.{bare, seen_in, standing_row};
 ghost use Rattle.replay_shards.specs.Hands.{IsOpened};
-ghost use Rattle.replay_shards.specs.Rows.{own_built, seen_row};
+ghost use Rattle.replay_shards.specs.Rows.{filed_rows, own_built, seen_row};
 
 use crate::bits::{is_set, row_shards};
 use crate::kept::Kept;
+use crate::rows::Rows;
 use replay_space::Seen;
 use rho_term::Op;
 use space_row::Row;
@@ -95,4 +96,33 @@ impl ReplayShard {
             },
         })
     }
+
+    /// Its rows. Want of memory is the one error.
+    pub fn into_rows(self, alloc: Global) -> Result<Vec<Row>, AllocError>
+        ensures { IfOk result (λ v. v.items ≡ bare self.rows) }
+    {
+        let kept = self.kept;
+        rows_out(alloc, kept.rows)
+    }
+}
+
+// Adds rows at the end.
+fn add_rows(rows: &mut Vec<Row>, list: Vec<Seen>) -> Result<(), AllocError>
+    ensures { OnOk result (rows.new.items ≡ rows.old.items ++ bare (each seen_row list.items)) }
+{
+    for seen in list {
+        rows.push(seen.row)?;
+    }
+    Ok(())
+}
+
+// The rows of a map from ids.
+fn rows_out(alloc: Global, filed: Rows) -> Result<Vec<Row>, AllocError>
+    ensures { IfOk result (λ v. v.items ≡ bare (filed_rows filed.entries)) }
+{
+    let mut rows = Vec::new(alloc);
+    for (_, list) in filed {
+        add_rows(&mut rows, list)?;
+    }
+    Ok(rows)
 }

@@ -1,0 +1,5 @@
+pub mod Numbers
+pub mod Showing
+pub mod Hands
+pub mod Seats
+pub mod Groups

@@ -1,0 +1,32 @@
+use denote.Param.Send.{sendable}
+use Rattle.sent_rows.proofs.Crossing.{row-send, row-sync}
+use Rattle.play_worker.proofs.Seats.{drawn-home, work-same}
+use Rattle.play_worker.proofs.turn.take_turn.Goals as goal
+
+pub stop-requires-send-S-Work : goal.stop-requires-send-S-Work
+stop-requires-send-S-Work g c κs within = let a = row-send in search sendable depth 10
+
+pub stop-requires-sync-S-Work : goal.stop-requires-sync-S-Work
+stop-requires-sync-S-Work g c κs within = let a = row-sync in search sendable depth 10
+
+pub give_group-requires-send-S-Work : goal.give_group-requires-send-S-Work
+give_group-requires-send-S-Work g c κs within = let a = row-send in search sendable depth 10
+
+pub give_group-requires-sync-S-Work : goal.give_group-requires-sync-S-Work
+give_group-requires-sync-S-Work g c κs within = let a = row-sync in search sendable depth 10
+
+pub stop-requires-in-Err-send-S-Work : goal.stop-requires-in-Err-send-S-Work
+stop-requires-in-Err-send-S-Work g c κs within = let a = row-send in search sendable depth 10
+
+pub stop-requires-in-Err-sync-S-Work : goal.stop-requires-in-Err-sync-S-Work
+stop-requires-in-Err-sync-S-Work g c κs within = let a = row-sync in search sendable depth 10
+
+pub settle-requires-clause-drawn : goal.settle-requires-clause-drawn
+settle-requires-clause-drawn g c κs within =
+    let before = c.take_shown.new.seat.state in
+    let mid = c.draw-drawn.new.seat.state in
+    let new = c.give_group.new.self.state in (
+      before,
+      work-same c.args.from c.args.op.now c.args.seat.now.state before c.take_shown.ensures.same c.requires.work,
+      drawn-home c.args.from before mid new c.in-Ok-drawn.drawn c.in-Ok-drawn.ensures.drawn c.give_group.ensures.hub c.give_group.ensures.drawn c.give_group.ensures.tally c.give_group.ensures.works,
+    )

@@ -1,0 +1,12 @@
+//! Rows that may be stored may cross threads, and threads may share them.
+#![tactic(auto)]
+
+use space_row::Row;
+
+/// Takes a thing that may cross threads, and that threads may share.
+fn crosses<T: Send + Sync>(_thing: &T) {}
+
+/// A row is such a thing. The lemmas of this proof serve callers.
+pub fn row_crosses(row: &Row) {
+    crosses(row);
+}
