@@ -75,6 +75,14 @@ impl Checkpoint {
         self.rows.as_slice()
     }
 
+    /// Its rows, given away.
+    pub fn into_rows(self) -> Vec<Row>
+        ensures is { result.items ≡ self }
+        ensures kept { AreKept self }
+    {
+        self.rows
+    }
+
     /// The root of its rows. No digest is made.
     pub fn root(&self) -> Digest
         ensures { result.0 ≡ root self.now }

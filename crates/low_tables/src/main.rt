@@ -23,6 +23,8 @@ enum Kind {
     Digest,
     Seed,
     State,
+    CutState,
+    ChangedState,
 }
 
 impl Kind {
@@ -38,6 +40,8 @@ impl Kind {
             "digest" => Kind::Digest,
             "seed" => Kind::Seed,
             "state" => Kind::State,
+            "cuts-of-state" => Kind::CutState,
+            "changes-of-state" => Kind::ChangedState,
             _ => return None,
         })
     }
@@ -55,6 +59,8 @@ fn answer(alloc: Global, word: &str, fields: &str) -> Result<String, LineFault> 
         Kind::Digest => seeds::digest_of(alloc, unescape(alloc, fields)?.as_slice()),
         Kind::Seed => seeds::seed(alloc, fields),
         Kind::State => state_texts::state(alloc, fields),
+        Kind::CutState => state_texts::cut_states(alloc, fields),
+        Kind::ChangedState => state_texts::changed_states(alloc, fields),
     }
 }
 

@@ -1,26 +1,59 @@
-use name_seed::bytes_digest;
-use state_writer::{StoredRow, write_rows};
+use checkpoint::state_of;
+use state_reader::{StateFault, read_state};
 use std::alloc::Global;
 use table_lines::{LineFault, hex_bytes};
 
-/// The root and the text of a state of rows. Each field is a row: the code of its channel, `:`, and its own code.
-pub fn state(alloc: Global, fields: &str) -> Result<String, LineFault> {
-    let mut rows = Vec::new(alloc);
-    for field in fields.split_whitespace() {
-        rows.push(row(alloc, field)?)?;
+/// The root and the text that are made of the rows of a state, or why its bytes are none. The field is its text.
+pub fn state(alloc: Global, field: &str) -> Result<String, LineFault> {
+    let bytes = hex_bytes(alloc, field)?;
+    match read_state(alloc, bytes.as_slice()) {
+        Ok(state) => {
+            let (root, text) = state_of(alloc, state.into_rows())?;
+            let root = hex::encode(alloc, root.0.as_slice())?;
+            let text = hex::encode(alloc, text.as_slice())?;
+            Ok(format!(in alloc; "{root} {text}")?)
+        }
+        Err(fault) => Ok(format!(in alloc; "{fault:?}")?),
     }
-    let (root, text) = write_rows(alloc, rows)?;
-    let root = hex::encode(alloc, root.0.as_slice())?;
-    let text = hex::encode(alloc, text.as_slice())?;
-    Ok(format!(in alloc; "{root} {text}")?)
 }
 
-/// The row of one channel, whose key is the digest of the list of that channel.
-fn row(alloc: Global, field: &str) -> Result<StoredRow, LineFault> {
-    let (channel, code) = field.split_once(':').ok_or(LineFault::Field)?;
-    let mut list = Vec::from_slice(alloc, &[0, 0, 0, 1])?;
-    list.extend_from_slice(hex_bytes(alloc, channel)?.as_slice())?;
-    let key = bytes_digest(list.as_slice());
-    let code = hex_bytes(alloc, code)?;
-    Ok(StoredRow { key, code })
+/// How many beginnings of a state's text, the whole one left out, are said to end early at their length. The field is
+/// the text.
+pub fn cut_states(alloc: Global, field: &str) -> Result<String, LineFault> {
+    let bytes = hex_bytes(alloc, field)?;
+    let mut short = 0usize;
+    for len in 0..bytes.len() {
+        if ends_early(alloc, &bytes.as_slice()[..len]) {
+            short = short.saturating_add(1);
+        }
+    }
+    Ok(format!(in alloc; "{short} of {}", bytes.len())?)
+}
+
+fn ends_early(alloc: Global, bytes: &[u8]) -> bool {
+    match read_state(alloc, bytes) {
+        Err(StateFault::Short { at }) => at == bytes.len(),
+        _ => false,
+    }
+}
+
+/// How many of the texts in which one byte of a state's text has another lowest bit are refused. The field is the text.
+pub fn changed_states(alloc: Global, field: &str) -> Result<String, LineFault> {
+    let bytes = hex_bytes(alloc, field)?;
+    let mut refused = 0usize;
+    for at in 0..bytes.len() {
+        let mut changed = Vec::from_slice(alloc, bytes.as_slice())?;
+        changed[at] ^= 1;
+        if is_refused(alloc, changed.as_slice()) {
+            refused = refused.saturating_add(1);
+        }
+    }
+    Ok(format!(in alloc; "{refused} of {}", bytes.len())?)
+}
+
+fn is_refused(alloc: Global, bytes: &[u8]) -> bool {
+    match read_state(alloc, bytes) {
+        Ok(_) | Err(StateFault::NoMemory) => false,
+        Err(_) => true,
+    }
 }

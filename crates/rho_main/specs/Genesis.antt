@@ -1,15 +1,18 @@
 -- What is promised of the making of the empty state.
-use Rattle.std.specs.Prelude.{◌≡◌, ◌⊎◌, ℕ, List, [], ◌∷◌, replicate, ⊤}
+use Rattle.std.specs.Prelude.{◌≡◌, ◌⊎◌, ℕ, List, [], ◌∷◌, ◌++◌, codes, replicate, ⊤}
 use Rattle.rho_outside.specs.Causes.{Rose}
 use Rattle.rho_outside.specs.Put.{GrewBy}
 use Rattle.rho_outside.specs.Kept.{with_files}
-use Rattle.run_inputs.specs.Runnable.{empty_state}
 use Rattle.run_reports.specs.Report.{state_line}
 use Rattle.run_reports.specs.Stops.{StopsOnTheWay}
 use Rattle.run_status.specs.Endings.{OnHalt}
 use Rattle.run_status.specs.declared.status.Status.{Status}
 use Rattle.run_status.specs.declared.status.Status.TheVariants.{Done, WriteFault, NoMemory}
 use Rattle.run_deploys.specs.World.{World}
+
+-- the bytes of the empty state: its name, the version, a root of zeros and no rows
+abbrev pub empty_state : List ℕ
+empty_state = codes "RHOSTATE" ++ (1 ∷ replicate 40 0)
 
 -- the file that is kept: the empty state under this name
 abbrev pub entries_of : List ℕ → List (List ℕ × List ℕ)

@@ -7,10 +7,13 @@ ghost use Rattle.run_deploys.specs.World.{world};
 
 use name_seed::EMPTY_ROOT;
 use rho_outside::{Shelf, Sink};
-use run_inputs::EMPTY_STATE;
 use run_reports::{Halt, keep_and_put, state_report};
 use run_status::Status;
 use std::alloc::Global;
+
+/// The empty state: its name, the version, a root of zeros and no rows.
+const EMPTY_STATE: &[u8] =
+    b"RHOSTATE\x01\0\0\0\0\0\0\0\0\0\0\0\0\0\0\0\0\0\0\0\0\0\0\0\0\0\0\0\0\0\0\0\0\0\0\0\0\0\0\0\0";
 
 /// Makes the empty state: keeps it under a name, and then puts its report.
 pub(crate) fn genesis<S: Shelf, O: Sink>(

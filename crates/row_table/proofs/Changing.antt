@@ -26,6 +26,7 @@ use Rattle.calculus.specs.Storing.{IsStorable}
 use Rattle.events.specs.Found.{Among, without}
 use Rattle.events.proofs.Counts.{same_bytes, bytes_same}
 use Rattle.row_search.specs.Rows.{row_with, IsIn}
+use Rattle.shard_bits.specs.Counted.{AreCounted}
 use Rattle.row_table.specs.declared.table.Filed.{Filed}
 use Rattle.row_table.specs.Groups.{is_send, is_key, Index, HasId}
 use Rattle.row_table.specs.Tables.{IsFiled, rows_in}
@@ -93,7 +94,7 @@ module _ {S : Type 0} (sends receivers sends' receivers' : Index S) where
   -- what is filed stays filed where its id stays in its groups
   pub still-filed : (e : List ℕ × Filed) → IsFiled sends receivers e → ((k : Vec ℕ Global) → HasId sends k.items e.1.row.id → HasId sends' k.items e.1.row.id) → ((k : Vec ℕ Global) → HasId receivers k.items e.1.row.id → HasId receivers' k.items e.1.row.id)
       → IsFiled sends' receivers' e
-  still-filed e f s r = record { id = f.id; storable = f.storable; keys = f.keys; found = λ k i. go (is_send e.1.row) k (f.found k i) }
+  still-filed e f s r = record { id = f.id; storable = f.storable; keys = f.keys; counted = f.counted; found = λ k i. go (is_send e.1.row) k (f.found k i) }
     where
       go : (b : Bool) (k : Vec ℕ Global) → HasId (cond b sends receivers) k.items e.1.row.id → HasId (cond b sends' receivers') k.items e.1.row.id
       go true k h = s k h
@@ -264,10 +265,11 @@ each-each f g (x ∷ xs) = ap (λ l. f (g x) ∷ l) (each-each f g xs)
 
 -- a row with the codes of its channels, in whose groups its id is
 pub new-filed : {S : Type 0} (sends receivers : Index S) (x : List ℕ) (f : Filed) → x ≡ f.row.id → IsStorable f.row → each (λ k. k.items) f.keys.items ≡ each code (channels f.row.part)
-    → ((k : Vec ℕ Global) → IsIn k f.keys.items → HasId (cond (is_send f.row) sends receivers) k.items x) → IsFiled sends receivers (x, f)
-new-filed sends receivers x f e s k h = record {
+    → ((k : Vec ℕ Global) → IsIn k f.keys.items → HasId (cond (is_send f.row) sends receivers) k.items x) → AreCounted f.row f.counted → IsFiled sends receivers (x, f)
+new-filed sends receivers x f e s k h n = record {
   id = e;
   storable = s;
+  counted = n;
   keys = k;
   found = λ q i. subst (λ z. HasId (cond (is_send f.row) sends receivers) q.items z) e (h q i);
 }

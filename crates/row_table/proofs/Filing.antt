@@ -21,6 +21,7 @@ use Rattle.events.proofs.Counts.{bytes_same}
 use Rattle.spatial_match.specs.Given.{Ready}
 use Rattle.storable_row_laws.proofs.Channels.{IsClosedShort, channels-closed, part-length}
 use Rattle.row_search.specs.Rows.{is_one_channel, row_with, with_row, looked_up, HasSends, HasReceivers, IsIn}
+use Rattle.shard_counts.specs.declared.keyed.ShardCounts.{ShardCounts}
 use Rattle.row_table.specs.declared.table.Filed.{Filed}
 use Rattle.row_table.specs.Groups.{is_send, is_key, Index, group, HasId}
 use Rattle.row_table.specs.Tables.{IsFiled, IsTable, rows_in}
@@ -62,7 +63,7 @@ row-at (e ∷ es) h x = go (is_key x e.0) (bytes_eq x e.1.row.id) (is_eq-slice_c
     go false true i n = cc i
 
 -- a storable row's channels are closed and short
-row-channels : (r : Row) → IsStorable r → Every IsClosedShort (channels r.part)
+pub row-channels : (r : Row) → IsStorable r → Every IsClosedShort (channels r.part)
 row-channels r s = channels-closed r.part s.closed.1.0 (omega (arith, s.short, part-length r s.active s.closed.1.0))
 
 -- a channel that is congruent to one of these has its code
@@ -85,7 +86,7 @@ and-both : (a b : Bool) → a && b ≡ true → (a ≡ true) × (b ≡ true)
 and-both true b e = (refl, e)
 and-both false b e = cc e
 
-module _ {S : Type 0} (rows : List (List ℕ × Filed)) (sends receivers : Index S) (t : IsTable rows sends receivers) (tells : (r : Row) → Among r (rows_in rows) → row_with r.id (rows_in rows) ≡ Some r) where
+module _ {S : Type 0} (rows : List (List ℕ × Filed)) (sends receivers : Index S) (shards : ShardCounts) (t : IsTable rows sends receivers shards) (tells : (r : Row) → Among r (rows_in rows) → row_with r.id (rows_in rows) ≡ Some r) where
   -- the entry of a row
   entry-of : (es : List (List ℕ × Filed)) → AllByRecursion (IsFiled sends receivers) es → (r : Row) → Among r (rows_in es) → (e : List ℕ × Filed) × IsFiled sends receivers e × (e.1.row ≡ r)
   entry-of [] h r a = absurd a

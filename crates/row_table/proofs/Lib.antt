@@ -1,3 +1,5 @@
 pub mod Grouping
 pub mod Filing
 pub mod Changing
+pub mod Totals
+pub mod Showing

@@ -5,9 +5,9 @@ ghost use Rattle.std.specs.declared.vec.Vec.{Vec};
 ghost use Rattle.row_search.specs.Rows.{IsIn};
 ghost use Rattle.row_table.specs.Groups.{group, HasId};
 
-use crate::keys::Key;
 use calculus::Digest;
 use indexmap::IndexSet;
+use shard_counts::Key;
 use std::alloc::{AllocError, Global};
 use std::collections::BTreeMap;
 

@@ -6,12 +6,10 @@ ghost use Rattle.calculus.specs.Storing.{IsStorable};
 ghost use Rattle.row_table.specs.Groups.{is_send};
 
 use rho_term::{Op, Term, TermBind};
+use shard_counts::Key;
 use space_row::Row;
 use std::alloc::{AllocError, Global};
 use term_encoder::encode_term;
-
-/// What a channel is filed by: its code.
-pub(crate) type Key = Vec<u8>;
 
 /// Whether a row is a send.
 pub(crate) fn is_send(row: &Row) -> bool

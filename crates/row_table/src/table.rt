@@ -1,33 +1,54 @@
 // Rows by their ids, and their ids by channel.
-ghost use Rattle.std.specs.Prelude.{◌≡◌, [], ◌∷◌, true, false, map, None, IfOk, OnErr, OnOk, IsPermutation};
+ghost use Rattle.std.specs.Prelude.{◌≡◌, ◌<◌, ◌+◌, ℕ, [], ◌∷◌, true, false, eqb, map, None, IfOk, OnErr, OnOk, IsPermutation};
+ghost use Rattle.std.specs.BTreeMap.{insert_entry};
+ghost use Rattle.std.specs.Cmp.Lexicographic.{slice_cmp};
+ghost use Rattle.std.specs.List.Sorted.{IsStrictlySortedBy};
+ghost use Rattle.std.specs.Map.{keys_of};
+ghost use Rattle.std.specs.Ordering.{nat_cmp};
+ghost use Rattle.std.specs.declared.alloc.Global.{Global};
+ghost use Rattle.std.specs.declared.vec.Vec.{Vec};
+ghost use Rattle.calculus.specs.Form.{term};
 ghost use Rattle.calculus.specs.Steps.{is_one_of};
 ghost use Rattle.events.specs.Found.{without};
+ghost use Rattle.calculus.specs.Storing.{shard};
 ghost use Rattle.row_search.specs.Rows.{row_with};
+ghost use Rattle.row_table.specs.Shown.{heard_on};
+ghost use Rattle.shard_counts.specs.Bits.{AreBitsBeside};
+ghost use Rattle.shard_counts.specs.Counts.{added};
+ghost use Rattle.shard_counts.specs.Keyed.{count_of};
+ghost use Rattle.spatial_match.specs.Given.{Ready};
 
 use crate::groups::{Groups, file_id, ids_of, remove_ids};
-use crate::keys::{Key, is_send, row_keys};
+use crate::keys::{is_send, row_keys};
 use calculus::Digest;
 use rho_term::Term;
 use row_search::RowsAtHand;
+use shard_bits::counted_bits;
+use shard_counts::{Key, ShardCounts};
 use space_row::Row;
 use std::alloc::{AllocError, Global};
 use std::collections::BTreeMap;
 use std::marker::Model;
 use term_encoder::encode_term;
 
-/// A row with the keys of its channels, which are their codes.
+/// A row with the keys of its channels, which are their codes, and the bits of the shards that it is counted for under them.
 #[derive(Drop)]
 pub(crate) struct Filed {
     pub row: Row,
     pub keys: Vec<Key>,
+    pub counted: u64,
 }
+
+// Rows by their ids.
+type Rows = BTreeMap<[u8; 32], Filed>;
 
 /// A table of rows, seen as the list of them, in the order of their ids. No two of its rows have one id.
 #[derive(Drop)]
 pub struct RowTable {
-    rows: BTreeMap<[u8; 32], Filed>,
+    rows: Rows,
     sends: Groups,
     receivers: Groups,
+    shards: ShardCounts,
 }
 
 impl Model for RowTable {
@@ -44,7 +65,32 @@ impl Model for RowTable {
 
     ghost view = { λ t. rows_in t.rows.entries };
 
-    ghost invariant = { λ t. IsTable t.rows.entries t.sends.entries t.receivers.entries };
+    ghost invariant = { λ t. IsTable t.rows.entries t.sends.entries t.receivers.entries t.shards };
+}
+
+// Files a row under an id, and counts its shards. Want of memory is the one error, and all is then as it was.
+fn file_row(
+    alloc: Global,
+    rows: &mut Rows,
+    shards: &mut ShardCounts,
+    id: [u8; 32],
+    filed: Filed,
+) -> Result<(), AllocError>
+    ensures rows { OnOk result (rows.new.entries ≡ insert_entry (slice_cmp nat_cmp) rows.old.entries id filed) }
+    ensures ordered { OnOk result (IsStrictlySortedBy (slice_cmp nat_cmp) (keys_of rows.new.entries)) }
+    ensures counted { OnOk result ((k : Vec ℕ Global) (s : ℕ) → s < 64 → count_of shards.new k.items s ≡ count_of shards.old k.items s + added filed.keys.items filed.counted k.items s) }
+    ensures same { OnErr result (rows.new.entries ≡ rows.old.entries) }
+    ensures failed { OnErr result ((k : Vec ℕ Global) (s : ℕ) → s < 64 → count_of shards.new k.items s ≡ count_of shards.old k.items s) }
+{
+    shards.add(alloc, filed.keys.as_slice(), filed.counted)?;
+    match rows.insert(id, filed) {
+        Ok(_) => Ok(()),
+        Err(failed) => {
+            let (_, filed) = failed.value;
+            shards.remove(filed.keys.as_slice(), filed.counted);
+            Err(AllocError)
+        }
+    }
 }
 
 impl RowsAtHand for RowTable {
@@ -77,6 +123,7 @@ impl RowTable {
             rows: BTreeMap::new(alloc),
             sends: BTreeMap::new(alloc),
             receivers: BTreeMap::new(alloc),
+            shards: ShardCounts::new(alloc),
         }
     }
 
@@ -96,6 +143,16 @@ impl RowTable {
         Ok(true)
     }
 
+    /// The bits of the shards of all receives with a bind on a channel; nothing is said of the channel's own shard. Want of memory is
+    /// the one error.
+    pub fn shards_on(&self, alloc: Global, channel: &Term) -> Result<u64, AllocError>
+        requires { Ready term channel.now }
+        ensures { IfOk result (AreBitsBeside (λ k. eqb k (shard channel.now)) (heard_on self.now channel.now)) }
+    {
+        let key = encode_term(alloc, channel)?;
+        Ok(self.shards.bits_of(&key))
+    }
+
     // Adds a row, whose id none has. Want of memory is the one error, and the rows are then as they were.
     fn add(&mut self, alloc: Global, row: Row) -> Result<(), AllocError>
         requires { row_with row.id self.old ≡ None }
@@ -106,6 +163,7 @@ impl RowTable {
         let id = row.id();
         let keys = row_keys(alloc, &row)?;
         let send = is_send(&row);
+        let counted = counted_bits(alloc, &row)?;
         file_id(
             alloc,
             &mut self.sends,
@@ -114,7 +172,8 @@ impl RowTable {
             keys.as_slice(),
             id,
         )?;
-        self.rows.insert(id.0, Filed { row, keys })?;
+        let filed = Filed { row, keys, counted };
+        file_row(alloc, &mut self.rows, &mut self.shards, id.0, filed)?;
         Ok(())
     }
 
@@ -123,6 +182,7 @@ impl RowTable {
         ensures { self.new ≡ without (id.now.0 ∷ []) self.old }
     {
         if let Some(filed) = self.rows.remove(&id.0) {
+            self.shards.remove(filed.keys.as_slice(), filed.counted);
             if is_send(&filed.row) {
                 remove_ids(&mut self.sends, filed.keys.as_slice(), id);
             } else {

@@ -14,7 +14,7 @@ use Rattle.shard_rows.specs.Shards.{stands_in}
 use Rattle.shard_rows.specs.Hands.{hears, shows}
 use Rattle.shard_rows.proofs.Standing.{any-true, any-one}
 use Rattle.shard_tables.specs.Hands.{AreInHand}
-use Rattle.rspace_table.specs.Bits.{shown_by}
+use Rattle.rspace_table.specs.Shown.{shown_by}
 use Rattle.row_search.specs.declared.found.Found.{Found}
 use Rattle.row_search.specs.Meetings.{MeetsNothing}
 use Rattle.row_search.specs.Rows.{row_with}

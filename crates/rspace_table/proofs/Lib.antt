@@ -1,4 +1,3 @@
-pub mod SetBits
 pub mod Firsts
 pub mod Shown
 pub mod Changes

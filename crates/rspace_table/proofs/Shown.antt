@@ -1,22 +1,20 @@
 -- What the receives of a table show of an operation.
-use Rattle.std.proofs.Common.{◌≡◌, ℕ, Bool, true, false, ◌&&◌, ◌||◌, eqb, List, [], ◌∷◌, map as each, refl, sym, ap, ◌∙◌}
-use Rattle.std.specs.Prelude.{Option, Some, None, is_some}
+use Rattle.std.proofs.Common.{◌≡◌, ℕ, Bool, true, false, ◌&&◌, ◌||◌, List, [], ◌∷◌, map as each, refl, sym, ap, ◌∙◌}
+use Rattle.std.specs.Prelude.{is_some}
 use Rattle.std.specs.List.{list_any}
 use Rattle.list_laws.proofs.Members.{Member}
-use Rattle.calculus.specs.declared.ids.Digest.{Digest}
 use Rattle.calculus.specs.Congruence.{congruent}
 use Rattle.calculus.specs.Tree.{Tree}
 use Rattle.calculus.specs.Rows.{Row, channels}
 use Rattle.calculus.specs.Steps.{as_receiver}
-use Rattle.calculus.specs.Storing.{shard}
 use Rattle.rho_term.specs.declared.term.TermBind.{TermBind}
-use Rattle.events.proofs.Making.{among, member}
-use Rattle.row_search.specs.Rows.{is_one_channel, is_heard_on, row_with, with_row, looked_up, HasReceivers}
-use Rattle.row_search.proofs.Looking.{looked-up-there}
+use Rattle.row_search.specs.Rows.{is_one_channel, is_heard_on}
 use Rattle.shard_rows.specs.Shards.{stands_in}
 use Rattle.shard_rows.specs.Hands.{hears, is_one_channel as is_one}
 use Rattle.shard_rows.proofs.Standing.{any-true, any-one}
-use Rattle.rspace_table.specs.Bits.{heard_on, shown_by}
+use Rattle.shard_bits.proofs.Standing.{any-each}
+use Rattle.row_table.specs.Shown.{heard_on}
+use Rattle.rspace_table.specs.Shown.{shown_by}
 
 pub and-left : (a b : Bool) → a && b ≡ true → a ≡ true
 and-left true b e = refl
@@ -55,28 +53,6 @@ heard-one rows c k e =
 pub heard-true : (rows : List Row) (c : Tree) (k : ℕ) → Hears rows c k → heard_on rows c k ≡ true
 heard-true rows c k h = any-true (λ (r : Row). is_heard_on c r && stands_in k r) rows h.row h.there (and-both (is_heard_on c h.row) (stands_in k h.row) h.heard h.stands)
 
--- the receives with these ids, one after another
-pub each-heard : (rows : List Row) (c : Tree) (k : ℕ) (ds : List Digest) → list_any (λ d. heard_on (looked_up rows (d.0 ∷ [])) c k) ds ≡ heard_on (looked_up rows (each (λ d. d.0) ds)) c k
-each-heard rows c k [] = refl
-each-heard rows c k (d ∷ ds) = go (each-heard rows c k ds) (row_with d.0 rows)
-  where
-    alone : (b x : Bool) → (b || false) || x ≡ b || x
-    alone true x = refl
-    alone false x = refl
-
-    go : list_any (λ (z : Digest). heard_on (looked_up rows (z.0 ∷ [])) c k) ds ≡ heard_on (looked_up rows (each (λ (z : Digest). z.0) ds)) c k → (o : Option Row)
-        → heard_on (with_row o []) c k || list_any (λ (z : Digest). heard_on (looked_up rows (z.0 ∷ [])) c k) ds ≡ heard_on (with_row o (looked_up rows (each (λ (z : Digest). z.0) ds))) c k
-    go next None = next
-    go next (Some r) = alone (is_heard_on c r && stands_in k r) (list_any (λ (z : Digest). heard_on (looked_up rows (z.0 ∷ [])) c k) ds) ∙ ap (λ b. (is_heard_on c r && stands_in k r) || b) next
-
--- ids that find all receives on a channel show what all rows do
-pub heard-all : (rows : List Row) (c : Tree) (xs : List (List ℕ)) → HasReceivers rows c xs → (k : ℕ) → heard_on (looked_up rows xs) c k ≡ heard_on rows c k
-heard-all rows c xs h k = same-truth (heard_on (looked_up rows xs) c k) (heard_on rows c k)
-    (λ e. let a = heard-one (looked_up rows xs) c k e in
-    heard-true rows c k (record { row = a.row; there = member a.row rows (looked-up-there a.row rows xs (among a.row (looked_up rows xs) a.there)); heard = a.heard; stands = a.stands }))
-    (λ e. let a = heard-one rows c k e in
-    heard-true (looked_up rows xs) c k (record { row = a.row; there = member a.row (looked_up rows xs) (h a.row (among a.row rows a.there) a.heard); heard = a.heard; stands = a.stands }))
-
 -- what is shown on the channels of an operation is what is shown by all that hear it
 pub shown-on : (rows : List Row) (o : Row) (k : ℕ) → list_any (λ c. heard_on rows c k) (channels o.part) ≡ shown_by rows o k
 shown-on rows o k = same-truth (list_any (λ c. heard_on rows c k) (channels o.part)) (shown_by rows o k) to back
@@ -100,16 +76,6 @@ shown-on rows o k = same-truth (list_any (λ c. heard_on rows c k) (channels o.p
         let b = any-one (λ (c : Tree). is_one c (channels r.part)) (channels o.part) (and-right (is_some (as_receiver r.part)) (list_any (λ c. is_one c (channels r.part)) (channels o.part)) h) in
         any-true (λ (c : Tree). heard_on rows c k) (channels o.part) b.0 b.1
         (heard-true rows b.0 k (record { row = r; there = a.1; heard = and-both (is_some (as_receiver r.part)) (is_one_channel b.0 (channels r.part)) i (one-is b.0 (channels r.part) ∙ b.2); stands = and-right (hears r o) (stands_in k r) a.2 }))
-
--- tests of binds as tests of their channels
-pub any-each : {A B : Type 0} (f : B → Bool) (g : A → B) (xs : List A) → list_any f (each g xs) ≡ list_any (λ x. f (g x)) xs
-any-each f g [] = refl
-any-each f g (x ∷ xs) = ap (λ b. f (g x) || b) (any-each f g xs)
-
--- the shards of a receive with these binds
-pub binds-stand : (r : Row) (bs : List TermBind) → channels r.part ≡ each (λ b. b.channel) bs → (k : ℕ) → list_any (λ (b : TermBind). eqb k (shard b.channel)) bs ≡ stands_in k r
-binds-stand r bs e k =
-    sym (ap (λ (cs : List Tree). list_any (eqb k) (each shard cs)) e ∙ any-each (eqb k) shard (each (λ (b : TermBind). b.channel) bs) ∙ any-each (λ (c : Tree). eqb k (shard c)) (λ (b : TermBind). b.channel) bs)
 
 -- what is shown on the channels of binds
 pub binds-shown : (rows : List Row) (o : Row) (bs : List TermBind) → channels o.part ≡ each (λ b. b.channel) bs → (k : ℕ) → list_any (λ (b : TermBind). heard_on rows b.channel k) bs ≡ shown_by rows o k

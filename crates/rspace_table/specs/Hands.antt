@@ -9,7 +9,7 @@ use Rattle.row_search.specs.Rows.{HasSends}
 use Rattle.row_search.specs.Meetings.{IsFound, MeetsNothing}
 use Rattle.shard_rows.specs.Shards.{stands_in}
 use Rattle.shard_tables.specs.Hands.{GainsRow}
-use Rattle.rspace_table.specs.Bits.{shown_by}
+use Rattle.rspace_table.specs.Shown.{shown_by}
 
 -- whether a row is a send, and whether it is a receive
 abbrev pub is_send : Row → Bool

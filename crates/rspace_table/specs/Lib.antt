@@ -1,3 +1,3 @@
-pub mod Bits
+pub mod Shown
 pub mod Hands
 pub mod Homes

@@ -9,11 +9,12 @@ ghost use Rattle.row_search.specs.Meetings.{IsFound, MeetsNothing};
 ghost use Rattle.row_search.specs.Rows.{row_with};
 ghost use Rattle.run_entries.specs.Allowed.{IdsTell, MeetsNothing as MakesNoStep, rows_at_hand};
 ghost use Rattle.shard_tables.specs.Hands.{AreInHand, AreMade, AreShown, GainsRow, LosesRows};
+ghost use Rattle.shard_rows.specs.Shards.{stands_in};
 ghost use Rattle.spatial_match.specs.Given.{Ready};
-ghost use Rattle.rspace_table.specs.Bits.{AreBits};
+ghost use Rattle.shard_counts.specs.Bits.{AreBitsBeside};
 ghost use Rattle.rspace_table.specs.Hands.{all_sends, rows_for, shard_at, shown_at, sends_of, AreInPlace, FindsSends, is_receive, IsInPlace, MeetsAReceiver, MeetsAt, MeetsNoneAt, MeetsNoReceiver};
 
-use crate::bits::{row_bits, shown_bits};
+use crate::bits::shown_bits;
 use crate::hand::{Hand, send_with};
 use crate::places::{lose_all, put_from};
 use crate::shard::Shard;
@@ -22,6 +23,7 @@ use calculus::Digest;
 use rho_term::{Op, Term};
 use row_search::{Found, RowsAtHand};
 use row_table::RowTable;
+use shard_bits::row_bits;
 use space_row::Row;
 use std::alloc::{AllocError, Global};
 use std::marker::Model;
@@ -49,9 +51,10 @@ impl Model for Held {
     ghost invariant = { λ h. (length h.shards.items ≡ 64) × AreBuiltIns h.built_ins };
 }
 
-// The bits of the shards of the receives in a shard that hear an operation, none where it is not there.
+// The bits of the shards of the receives in a shard that hear an operation, none where it is not there; nothing is said of the
+// operation's own shards.
 fn bits_at(alloc: Global, shard: &Option<Shard>, op: &Row) -> Result<u64, AllocError>
-    ensures { IfOk result (AreBits (shown_at shard.now op.now)) }
+    ensures { IfOk result (AreBitsBeside (λ k. stands_in k op.now) (shown_at shard.now op.now)) }
 {
     match shard {
         Some(shard) => shown_bits(alloc, shard.table(), op),

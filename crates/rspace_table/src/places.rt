@@ -4,7 +4,7 @@ ghost use Rattle.std.specs.Int.{bit_at};
 ghost use Rattle.events.specs.Found.{without};
 ghost use Rattle.shard_rows.specs.Shards.{stands_in};
 ghost use Rattle.shard_tables.specs.Hands.{GainsRow};
-ghost use Rattle.rspace_table.specs.Bits.{AreBits};
+ghost use Rattle.shard_counts.specs.Bits.{AreBits};
 ghost use Rattle.rspace_table.specs.Hands.{GainsAt};
 
 use crate::shard::Shard;

@@ -5,11 +5,11 @@ ghost use Rattle.rho_term.specs.Rows.{row_of_op};
 ghost use Rattle.shard_tables.specs.Hands.{AreShardsOf, GainsRow, IdsDiffer};
 ghost use Rattle.rspace_table.specs.Hands.{AreBuiltIns, AreEmpty};
 
-use crate::bits::row_bits;
 use crate::places::gain;
 use crate::shard::Shard;
 use rho_term::Op;
 use row_table::RowTable;
+use shard_bits::row_bits;
 use space_row::Row;
 use std::alloc::{AllocError, Global};
 use system_names::built_ins;

@@ -8,7 +8,8 @@ use Rattle.sources.specs.Sources.{IsSourceOf}
 use Rattle.run_verdict.specs.declared.verdict.Verdict.{Verdict}
 use Rattle.run_verdict.specs.declared.verdict.Verdict.TheVariants as ending
 use Rattle.run_inputs.specs.Inputs.{Task, accepted}
-use Rattle.run_inputs.specs.Runnable.{IsState, IsRunnable, HasState}
+use Rattle.base_states.specs.Bases.{IsState}
+use Rattle.run_inputs.specs.Runnable.{IsRunnable, HasState}
 use Rattle.run_inputs.specs.Refused.{RefusedFor}
 use Rattle.run_inputs.specs.Ended.{IsAccepted, DeployEnds}
 use Rattle.run_status.specs.Endings.{status_of}
@@ -21,7 +22,7 @@ module _ (told : Option FileMap) (names : RunRequest) (limit before now : ℕ) w
   pub refused_ends : (s : Status) → RefusedFor told names limit before now s → DeployEnds told names limit before now s
   refused_ends (status.ReadFault i) h = h
   refused_ends (status.TooLarge i n m) h = h
-  refused_ends (status.Unbuilt i) h = h
+  refused_ends (status.State f) h = h
   refused_ends (status.Prices f) h = h
   refused_ends (status.Limit n m) h = h
   refused_ends (status.Source f) h = h

@@ -10,7 +10,7 @@ use Rattle.run_inputs.specs.Inputs.{Task}
 use Rattle.run_reports.specs.Stops.{StopsOnTheWay}
 use Rattle.run_status.specs.Endings.{OnVerdict, status_of}
 use Rattle.run_status.specs.declared.status.Status.{Status}
-use Rattle.run_status.specs.declared.status.Status.TheVariants.{Done, Usage, ReadFault, WriteFault, Source, Prices, Limit, Log, Replay, Unbuilt, UnbuiltVerb, Exhausted, Faulted, NoMemory, TooLarge}
+use Rattle.run_status.specs.declared.status.Status.TheVariants.{Done, Usage, ReadFault, WriteFault, State, Source, Prices, Limit, Log, Replay, UnbuiltVerb, Exhausted, Faulted, NoMemory, TooLarge}
 use Rattle.run_deploys.specs.Runs.{header_of}
 use Rattle.run_deploys.specs.Ends.{LeavesAll, LeavesSome, entries_of, bytes_of}
 use Rattle.run_deploys.specs.Plan.{IsPlan}
@@ -29,7 +29,7 @@ on_verdict (Prices f) P p = tt
 on_verdict (Limit n m) P p = tt
 on_verdict (Log f) P p = tt
 on_verdict (Replay f) P p = tt
-on_verdict (Unbuilt i) P p = tt
+on_verdict (State f) P p = tt
 on_verdict (UnbuiltVerb v) P p = tt
 on_verdict NoMemory P p = tt
 on_verdict (TooLarge i n m) P p = tt

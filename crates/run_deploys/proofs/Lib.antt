@@ -1,3 +1,4 @@
 pub mod Leaving
 pub mod Ending
 pub mod Running
+pub mod Planning

@@ -1,5 +1,5 @@
 -- What a run leaves, from what was played.
-use Rattle.std.proofs.Common.{◌≡◌, ◌≢◌, ◌≤◌, ◌⊎◌, inl, inr, ℕ, List, [], ◌∷◌, ◌++◌, length, get_or, map as each, replicate, refl, sym, ◌∙◌, ap, subst, arith}
+use Rattle.std.proofs.Common.{◌≡◌, ◌≢◌, ◌≤◌, ◌⊎◌, inl, inr, ℕ, List, [], ◌∷◌, ◌++◌, length, get_or, map as each, refl, sym, ◌∙◌, ap, subst, arith}
 use Rattle.std.specs.Prelude.{All, IsPermutation}
 use Rattle.std.proofs.lemmas.List.{length-map}
 use Rattle.std.proofs.lemmas.List.Elements.{All-map}
@@ -19,18 +19,12 @@ use Rattle.sources.specs.Sources.{IsSourceOf}
 use Rattle.events.specs.Events.{AreFresh}
 use Rattle.events.proofs.Spending.{ids_are_spent_once}
 use Rattle.fresh_digests.specs.Numbers.{IsNumberable}
-use Rattle.fresh_digests.specs.Premises.{Collides}
 use Rattle.fresh_sources.proofs.Sources.{source_texts_are_numberable}
 use Rattle.run_verdict.specs.View.{verdict_of}
 use Rattle.run_verdict.specs.declared.verdict.Verdict.{Verdict as Ending}
 use Rattle.run_verdict.specs.declared.verdict.Verdict.TheVariants as ending
 use Rattle.worker_round.specs.Courses.{IsRunOf}
 use Rattle.run_deploys.specs.Runs.{printed, SpendsOnce, TakesInRange, ShowsAClash, IsLeftByRun}
-
--- the root of no rows
-pub root_of_none : replicate 32 0 ≡ root []
-unfolding root
-root_of_none = refl
 
 -- along a run whose digests are fresh no id is spent twice
 spends-once : (deploy : Deploy) (ss : List Step) (a : State) → IsRun deploy ss a → AreFresh deploy ss → SpendsOnce deploy ss
@@ -68,11 +62,11 @@ left-by-run deploy steps v charge rows output digest text count r d o =
 
 -- or digests are shown to clash
 pub left_or_clash : (deploy : Deploy) (steps : List Step) (v : Ending) (charge : ℕ) (rows : List Row) (output digest text : List ℕ) (count : ℕ)
-    → IsRunOf deploy steps (verdict_of v) charge rows output ⊎ Collides deploy steps
+    → IsRunOf deploy steps (verdict_of v) charge rows output ⊎ ShowsAClash deploy steps
     → (v ≡ ending.Done → (digest ≡ root rows) × (text ≡ state_text rows)) → (v ≢ ending.Done → (digest ≡ root deploy.rows) × (text ≡ state_text deploy.rows))
     → IsLeftByRun deploy (record { steps = steps; next = text; output = printed (verdict_of v) output; report = record { verdict = v; cost = charge; root = digest; steps = count } }) ⊎ ShowsAClash deploy steps
 left_or_clash deploy steps v charge rows output digest text count (inl r) d o = inl (left-by-run deploy steps v charge rows output digest text count r d o)
-left_or_clash deploy steps v charge rows output digest text count (inr k) d o = inr (inr k)
+left_or_clash deploy steps v charge rows output digest text count (inr k) d o = inr k
 
 -- with another verdict than done nothing is printed
 pub silent : (v : Ending) (output : List ℕ) → v ≢ ending.Done → printed (verdict_of v) output ≡ []

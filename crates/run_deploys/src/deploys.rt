@@ -1,4 +1,4 @@
-ghost use Rattle.std.specs.Prelude.{◌≡◌, ◌≤◌, ◌⊎◌, ◌∷◌, [], IfOk, OnOk, OnErr, IsErrOf, length, string_bytes};
+ghost use Rattle.std.specs.Prelude.{◌≡◌, ◌≤◌, ◌⊎◌, ◌∷◌, [], All, IfOk, OnOk, OnErr, IsErrOf, length, string_bytes};
 ghost use Rattle.calculus.specs.Form.{IsClosed};
 ghost use Rattle.calculus.specs.Limits.{most_limit as greatest_limit};
 ghost use Rattle.sources.specs.Sources.{IsSourceOf};
@@ -7,22 +7,22 @@ ghost use Rattle.rho_outside.specs.Put.{GrewBy};
 ghost use Rattle.rho_outside.specs.Kept.{with_files};
 ghost use Rattle.run_reports.specs.Stops.{StopsOnTheWay};
 ghost use Rattle.command_words.specs.Answers.{run_of};
-ghost use Rattle.run_inputs.specs.Given.{task_of};
+ghost use Rattle.event_log.specs.View.{TakesInRange};
+ghost use Rattle.run_inputs.specs.Given.{task_of, IsBase};
 ghost use Rattle.run_inputs.specs.Ended.{DeployEnds};
-ghost use Rattle.run_inputs.specs.Runnable.{IsState};
 ghost use Rattle.run_status.specs.Endings.{OnRefusal, OnHalt, OnVerdict};
 ghost use Rattle.run_deploys.specs.Deploys.{IsDeploy};
 ghost use Rattle.run_deploys.specs.Ends.{Leaves, LeavesInPart};
-ghost use Rattle.run_deploys.specs.Plan.{IsPlan};
+ghost use Rattle.run_deploys.specs.Plan.{IsMade, IsPlan};
 ghost use Rattle.run_deploys.specs.World.{world};
 
 use crate::next::{next_state, printed};
 use channel_table::ChannelTable;
 use command_words::Run;
 use event_log::{Log, LogHeader, write_log};
-use name_seed::{EMPTY_ROOT, bytes_digest};
+use name_seed::bytes_digest;
 use rho_outside::{Shelf, Sink};
-use run_inputs::{Inputs, accept};
+use run_inputs::{Base, Inputs, accept};
 use run_reports::{Halt, keep_both_and_put, report};
 use run_status::{Status, status_of};
 use run_verdict::Verdict;
@@ -39,43 +39,29 @@ pub struct Plan {
     pub verdict: Verdict,
 }
 
-/// Runs the source from the state, so far the empty one, and makes all bytes that are to be written.
-fn make_plan(alloc: Global, inputs: &Inputs, limit: u64) -> Result<Plan, AllocError>
-    requires limit { limit ≤ greatest_limit inputs.now.prices }
-    requires state { IsState inputs.now.state.items }
-    requires source { IsSourceOf inputs.now.source.items inputs.now.term }
-    requires short { length inputs.now.source.items ≤ 1048576 }
-    requires closed { IsClosed inputs.now.term }
-    ensures { IfOk result (IsPlan limit (task_of inputs.now)) }
+/// Makes all bytes that are to be written of what was played from a state with this text, with this header of the log.
+fn plan_of(
+    alloc: Global,
+    text: Vec<u8>,
+    header: LogHeader,
+    played: Played,
+) -> Result<Plan, AllocError>
+    requires few { length played.steps.items ≤ 1048577 }
+    requires taken { All TakesInRange played.steps.items }
+    ensures { IfOk result (IsMade text.items header played) }
 {
-    let source = bytes_digest(inputs.source.as_slice());
     let Played {
         verdict,
         cost,
         steps,
         rows,
         output,
-    } = play::<ChannelTable>(
-        alloc,
-        Vec::new(alloc),
-        &EMPTY_ROOT,
-        &inputs.term,
-        &source,
-        &inputs.prices,
-        limit,
-    )?;
-    let state = inputs.state.as_slice();
-    let (root, next) = next_state(alloc, verdict, rows.as_slice(), &EMPTY_ROOT, state)?;
+    } = played;
+    let (root, next) = next_state(alloc, verdict, rows, &header.base, text)?;
     let count = steps.len() as u32;
     let line = report(alloc, verdict, cost, &root, count)?;
     let mut bytes = printed(verdict, output);
     bytes.extend_from_slice(line.as_slice())?;
-    let header = LogHeader {
-        base: EMPTY_ROOT,
-        source,
-        prices: inputs.prices.digest(),
-        limit,
-    };
     let log = write_log(alloc, &Log { header, steps })?;
     Ok(Plan {
         log,
@@ -83,6 +69,35 @@ fn make_plan(alloc: Global, inputs: &Inputs, limit: u64) -> Result<Plan, AllocEr
         bytes,
         verdict,
     })
+}
+
+/// Runs the source from the state, and makes all bytes that are to be written.
+fn make_plan(alloc: Global, inputs: Inputs, limit: u64) -> Result<Plan, AllocError>
+    requires limit { limit ≤ greatest_limit inputs.prices }
+    requires state { IsBase inputs.base }
+    requires source { IsSourceOf inputs.source.items inputs.term }
+    requires short { length inputs.source.items ≤ 1048576 }
+    requires closed { IsClosed inputs.term }
+    ensures { IfOk result (IsPlan limit (task_of inputs)) }
+{
+    let Inputs {
+        base,
+        prices,
+        source,
+        term,
+    } = inputs;
+    let Base { text, checkpoint } = base;
+    let source = bytes_digest(source.as_slice());
+    let root = checkpoint.root();
+    let rows = checkpoint.into_rows();
+    let played = play::<ChannelTable>(alloc, rows, &root, &term, &source, &prices, limit)?;
+    let header = LogHeader {
+        base: root,
+        source,
+        prices: prices.digest(),
+        limit,
+    };
+    plan_of(alloc, text, header, played)
 }
 
 /// Keeps the log and then the next state, and then puts what is printed and the report.
@@ -123,7 +138,7 @@ fn deploy_run<S: Shelf, O: Sink>(
         Ok(inputs) => inputs,
         Err(status) => return status,
     };
-    let plan = match make_plan(alloc, &inputs, limit) {
+    let plan = match make_plan(alloc, inputs, limit) {
         Ok(plan) => plan,
         Err(_) => return Status::NoMemory,
     };

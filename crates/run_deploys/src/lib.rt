@@ -3,7 +3,6 @@
 
 pub mod deploys;
 pub mod next;
-mod texts;
 
 pub use deploys::deploy;
 pub use next::{next_state, printed};

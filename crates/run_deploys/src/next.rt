@@ -5,11 +5,10 @@ ghost use Rattle.run_deploys.specs.Runs.{printed};
 ghost use Rattle.run_verdict.specs.View.{verdict_of};
 ghost use Rattle.states.specs.States.{state_text};
 
-use crate::texts::stored_rows;
 use calculus::Digest;
+use checkpoint::state_of;
 use run_verdict::Verdict;
 use space_row::Row;
-use state_writer::write_rows;
 use std::alloc::{AllocError, Global};
 
 /// What is printed: the output of a run that is done, and nothing else.
@@ -27,19 +26,15 @@ pub fn printed(verdict: Verdict, mut output: Vec<u8>) -> Vec<u8>
 pub fn next_state(
     alloc: Global,
     verdict: Verdict,
-    rows: &[Row],
+    rows: Vec<Row>,
     base: &Digest,
-    state: &[u8],
+    state: Vec<u8>,
 ) -> Result<(Digest, Vec<u8>), AllocError>
-    ensures done { verdict ≡ Verdict.Done → IfOk result (λ next. (next.0.0 ≡ root rows.now) × (next.1.items ≡ state_text rows.now)) }
-    ensures old { verdict ≢ Verdict.Done → IfOk result (λ next. (next.0.0 ≡ base.now.0) × (next.1.items ≡ state.now)) }
+    ensures done { verdict ≡ Verdict.Done → IfOk result (λ next. (next.0.0 ≡ root rows.items) × (next.1.items ≡ state_text rows.items)) }
+    ensures old { verdict ≢ Verdict.Done → IfOk result (λ next. (next.0.0 ≡ base.now.0) × (next.1.items ≡ state.items)) }
 {
     match verdict {
-        Verdict::Done => write_rows(alloc, stored_rows(alloc, rows)?),
-        _ => {
-            let mut kept = Vec::new(alloc);
-            kept.extend_from_slice(state)?;
-            Ok((*base, kept))
-        }
+        Verdict::Done => state_of(alloc, rows),
+        _ => Ok((*base, state)),
     }
 }

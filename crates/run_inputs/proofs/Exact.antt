@@ -1,6 +1,7 @@
 -- A deploy ends as its inputs tell: each refusal is the one that they have.
-use Rattle.std.proofs.Common.{◌≡◌, ◌∙◌, ℕ, List, Result, Ok, Err, Option, Some, None, ◌⊎◌, inl, inr, refl, sym, ap, subst}
+use Rattle.std.proofs.Common.{◌≡◌, ◌≤◌, ◌∙◌, ℕ, Bool, true, false, nat_le, if◌then◌else◌, List, length, Result, Ok, Err, Option, Some, None, ◌⊎◌, inl, inr, refl, sym, ap, subst, arith}
 use Rattle.std.specs.Result.{IsOkAnd, IfOk, IsOk}
+use Rattle.std.proofs.lemmas.Bool.{leb-true}
 use Rattle.calculus.specs.Outcome.{Prices as PriceTable}
 use Rattle.calculus.specs.Tree.{Tree}
 use Rattle.rho_outside.specs.Causes.{Rose}
@@ -8,11 +9,12 @@ use Rattle.rho_outside.specs.FileMap.{FileMap, Lacks}
 use Rattle.sources.specs.Sources.{IsSourceOf}
 use Rattle.sources.specs.declared.fault.SourceFault.{SourceFault}
 use Rattle.sources.proofs.Answering.{one_refusal, not_both}
-use Rattle.states.proofs.Computed.{state_examples}
-use Rattle.states.specs.States.{state_text}
+use Rattle.base_states.specs.Bases.{IsState, HasOwnIds, IsNoState}
+use Rattle.base_states.proofs.OneState.{states_are_not_refused}
+use Rattle.state_reader.specs.declared.fault.StateFault.{StateFault}
 use Rattle.command_words.specs.Commands.{RunRequest}
 use Rattle.run_inputs.specs.Inputs.{Refusal, missing, too_large, bad_prices, bad_limit, Task, name_of, size_limit, within, given, beside, task_with, priced, accepted_state, accepted_prices, accepted_limit, accepted}
-use Rattle.run_inputs.specs.Runnable.{empty_state, IsState, IsNoState, IsRunnable, HasProcess, HasState, MayHaveState}
+use Rattle.run_inputs.specs.Runnable.{IsRunnable, HasProcess, HasState, MayHaveState, OwnsIds}
 use Rattle.run_inputs.specs.Refused.{IsPriceFault, IsFaultOf, Reaches, IsRefusal, Says, SaysNoState, SaysOf, IsFree}
 use Rattle.run_inputs.specs.Ended.{DeployEnds}
 use Rattle.run_inputs.proofs.Refusing.{bind-err, bind-ok}
@@ -56,13 +58,24 @@ ok_holds P r x h k = let Q = λ (s : Result _ _). IsOkAnd s P in subst Q h k
 pub given_missing : (names : RunRequest) (files : FileMap) (input : Input) → files (name_of names input) ≡ None → given names files input ≡ Err (missing input)
 given_missing names files input e = ap (within input (size_limit input)) e
 
--- a state that is read so far is the empty one
-pub is_empty : (bytes : List ℕ) → IsState bytes → bytes ≡ empty_state
-is_empty bytes s = s.1.text ∙ (ap state_text s.1.none ∙ state_examples.no_rows)
+-- a file that is accepted is within its size
+within-few : (input : Input) (max : ℕ) (o : Option (List ℕ)) (bytes : List ℕ) → within input max o ≡ Ok bytes → length bytes ≤ max
+within-few input max None bytes e = absurd (cc)
+within-few input max (Some found) bytes e = on (nat_le (length found) max) refl e
+  where
+    choice : Bool → Result (List ℕ) Refusal
+    choice b = if b then Ok found else Err (too_large input)
 
--- where the state is one, it is not none
-pub not_none : (names : RunRequest) (files : FileMap) (state : List ℕ) → accepted_state names files ≡ Ok state → MayHaveState names files → IsNoState state → ⊥
-not_none names files state e h n = n (is_empty state (subst (λ (r : Result (List ℕ) Refusal). IfOk r IsState) e h))
+    on : (b : Bool) → nat_le (length found) max ≡ b → choice b ≡ Ok bytes → length bytes ≤ max
+    on true k h = let same : found ≡ bytes = cc in omega (arith, leb-true (length found) max k, ap length same)
+    on false k h = absurd (cc)
+
+-- where the state is one, and no row of it has the id of a built-in receiver, it is not none
+pub not_none : (names : RunRequest) (files : FileMap) (state : List ℕ) → accepted_state names files ≡ Ok state → OwnsIds names files → MayHaveState names files → (f : StateFault) → IsNoState state f → ⊥
+not_none names files state e own h f n =
+    let few = within-few State 268435456 (files (name_of names State)) state e in
+    let is = subst (λ (r : Result (List ℕ) Refusal). IfOk r IsState) e h in
+    states_are_not_refused state (omega (arith, few)) is (subst (λ (r : Result (List ℕ) Refusal). IfOk r HasOwnIds) e own) f n
 
 pub may_have : (names : RunRequest) (files : FileMap) → HasState names files → MayHaveState names files
 may_have names files h = let k = ok_of IsState (accepted_state names files) h in subst (λ (r : Result (List ℕ) Refusal). IfOk r IsState) (sym k.1.0) k.1.1
@@ -82,7 +95,7 @@ price_says f (missing i) r h e = absurd h
 price_says f (too_large i) r h e = absurd h
 price_says f (bad_limit m) r h e = absurd h
 
-module _ (told : Option FileMap) (names : RunRequest) (limit before now : ℕ) (files : FileMap) (e : told ≡ Some files) where
+module _ (told : Option FileMap) (names : RunRequest) (limit before now : ℕ) (files : FileMap) (e : told ≡ Some files) (own : OwnsIds names files) where
   -- an input that a deploy could not read is missing, where no fetch failed
   missing-read : (input : Input) → Reaches told names limit input → ¬ (Rose before now) → Rose before now ⊎ Lacks told (name_of names input) → accepted names limit files ≡ Err (missing input)
   missing-read input h n (inl r) = absurd (n r)
@@ -105,7 +118,7 @@ module _ (told : Option FileMap) (names : RunRequest) (limit before now : ℕ) (
   pub deploy_exact : (s : Status) → DeployEnds told names limit before now s → (r : Refusal) → IsRefusal names limit files r → ¬ (Rose before now) → Says r s
   deploy_exact (status.ReadFault i) h r k n = subst (λ (x : Refusal). Says x (status.ReadFault i)) (same_err (accepted names limit files) (missing i) r (missing-read i h.1 n h.0) k.1) refl
   deploy_exact (status.TooLarge i seen max) h r k n = subst (λ (x : Refusal). Says x (status.TooLarge i seen max)) (same_err (accepted names limit files) (too_large i) r (h.1.1.1 files e).1 k.1) refl
-  deploy_exact (status.Unbuilt i) h r k n = let s = ok_of IsNoState (accepted_state names files) (h.1 files e) in absurd (not_none names files s.0 s.1.0 k.0 s.1.1)
+  deploy_exact (status.State f) h r k n = let s = ok_of (λ (b : List ℕ). IsNoState b f) (accepted_state names files) (h files e) in absurd (not_none names files s.0 s.1.0 own k.0 f s.1.1)
   deploy_exact (status.Prices f) h r k n = let q = h files e in price_says f q.0 r q.1.0 (same_err (accepted names limit files) q.0 r q.1.1.1 k.1)
   deploy_exact (status.Limit m most) h r k n = subst (λ (x : Refusal). Says x (status.Limit m most)) (same_err (accepted names limit files) (bad_limit most) r (h.1 files e).1 k.1) refl
   deploy_exact (status.Source f) h r k n = let t = ok_of (λ (t : Task). IsFaultOf f t.source) (accepted names limit files) (h files e).1 in absurd (ok_err (accepted names limit files) t.0 r t.1.0 k.1)
@@ -120,29 +133,29 @@ module _ (told : Option FileMap) (names : RunRequest) (limit before now : ℕ) (
   deploy_exact (status.UnbuiltVerb v) h r k n = absurd h
 
   -- a state that is none is said to be none
-  pub deploy_state_exact : (s : Status) → DeployEnds told names limit before now s → (state : List ℕ) → accepted_state names files ≡ Ok state → ¬ (Rose before now) → IsNoState state → SaysNoState s
-  deploy_state_exact (status.ReadFault i) h state a n other = absurd (go i h.1 h.0)
+  pub deploy_state_exact : (s : Status) → DeployEnds told names limit before now s → (state : List ℕ) → accepted_state names files ≡ Ok state → ¬ (Rose before now) → (g : StateFault) → IsNoState state g → SaysNoState s
+  deploy_state_exact (status.ReadFault i) h state a n g other = absurd (go i h.1 h.0)
     where
       go : (i : Input) → Reaches told names limit i → Rose before now ⊎ Lacks told (name_of names i) → ⊥
       go i k (inl r) = n r
       go State k (inr l) = ok_err (accepted_state names files) state (missing State) a (given_missing names files State (subst (λ (t : Option FileMap). Lacks t (name_of names State)) e l))
-      go Prices k (inr l) = not_none names files state a (may_have names files (k files e)) other
-      go Source k (inr l) = not_none names files state a (may_have names files (k files e).0) other
+      go Prices k (inr l) = not_none names files state a own (may_have names files (k files e)) g other
+      go Source k (inr l) = not_none names files state a own (may_have names files (k files e).0) g other
       go Log k (inr l) = k
-  deploy_state_exact (status.TooLarge i seen max) h state a n other = absurd (not_none names files state a (h.1.1.1 files e).0 other)
-  deploy_state_exact (status.Unbuilt i) h state a n other = h.0
-  deploy_state_exact (status.Prices f) h state a n other = absurd (not_none names files state a (h files e).1.1.0 other)
-  deploy_state_exact (status.Limit m most) h state a n other = absurd (not_none names files state a (h.1 files e).0 other)
-  deploy_state_exact (status.Source f) h state a n other = absurd (not_none names files state a (may_have names files (h files e).0) other)
-  deploy_state_exact status.NoMemory h state a n other = tt
-  deploy_state_exact status.Done h state a n other = absurd (not_none names files state a (may_have names files (h files e).0) other)
-  deploy_state_exact status.Exhausted h state a n other = absurd (not_none names files state a (may_have names files (h files e).0) other)
-  deploy_state_exact status.Faulted h state a n other = absurd (not_none names files state a (may_have names files (h files e).0) other)
-  deploy_state_exact status.WriteFault h state a n other = absurd (not_none names files state a (may_have names files (h files e).0) other)
-  deploy_state_exact (status.Usage u) h state a n other = absurd h
-  deploy_state_exact (status.Log f) h state a n other = absurd h
-  deploy_state_exact (status.Replay f) h state a n other = absurd h
-  deploy_state_exact (status.UnbuiltVerb v) h state a n other = absurd h
+  deploy_state_exact (status.TooLarge i seen max) h state a n g other = absurd (not_none names files state a own (h.1.1.1 files e).0 g other)
+  deploy_state_exact (status.State f) h state a n g other = tt
+  deploy_state_exact (status.Prices f) h state a n g other = absurd (not_none names files state a own (h files e).1.1.0 g other)
+  deploy_state_exact (status.Limit m most) h state a n g other = absurd (not_none names files state a own (h.1 files e).0 g other)
+  deploy_state_exact (status.Source f) h state a n g other = absurd (not_none names files state a own (may_have names files (h files e).0) g other)
+  deploy_state_exact status.NoMemory h state a n g other = tt
+  deploy_state_exact status.Done h state a n g other = absurd (not_none names files state a own (may_have names files (h files e).0) g other)
+  deploy_state_exact status.Exhausted h state a n g other = absurd (not_none names files state a own (may_have names files (h files e).0) g other)
+  deploy_state_exact status.Faulted h state a n g other = absurd (not_none names files state a own (may_have names files (h files e).0) g other)
+  deploy_state_exact status.WriteFault h state a n g other = absurd (not_none names files state a own (may_have names files (h files e).0) g other)
+  deploy_state_exact (status.Usage u) h state a n g other = absurd h
+  deploy_state_exact (status.Log f) h state a n g other = absurd h
+  deploy_state_exact (status.Replay f) h state a n g other = absurd h
+  deploy_state_exact (status.UnbuiltVerb v) h state a n g other = absurd h
 
   module _ (task : Task) (a : accepted names limit files ≡ Ok task) (n : ¬ (Rose before now)) (has : HasState names files) where
     no-refusal : (r : Refusal) → accepted names limit files ≡ Err r → ⊥
@@ -155,7 +168,7 @@ module _ (told : Option FileMap) (names : RunRequest) (limit before now : ℕ) (
     pub deploy_source_exact : (s : Status) → DeployEnds told names limit before now s → SaysOf task.source s
     deploy_source_exact (status.ReadFault i) h = absurd (no-refusal (missing i) (missing-read i h.1 n h.0))
     deploy_source_exact (status.TooLarge i seen max) h = absurd (no-refusal (too_large i) (h.1.1.1 files e).1)
-    deploy_source_exact (status.Unbuilt i) h = let s = ok_of IsNoState (accepted_state names files) (h.1 files e) in absurd (not_none names files s.0 s.1.0 (may_have names files has) s.1.1)
+    deploy_source_exact (status.State f) h = let s = ok_of (λ (b : List ℕ). IsNoState b f) (accepted_state names files) (h files e) in absurd (not_none names files s.0 s.1.0 own (may_have names files has) f s.1.1)
     deploy_source_exact (status.Prices f) h = let q = h files e in absurd (no-refusal q.0 q.1.1.1)
     deploy_source_exact (status.Limit m most) h = absurd (no-refusal (bad_limit most) (h.1 files e).1)
     deploy_source_exact (status.Source f) h = fault_says task.source f (ok_holds (λ (t : Task). IsFaultOf f t.source) (accepted names limit files) task a (h files e).1)
@@ -173,7 +186,7 @@ module _ (told : Option FileMap) (names : RunRequest) (limit before now : ℕ) (
     pub deploy_complete : (s : Status) (A B : Type 0) → DeployEnds told names limit before now s → HasProcess task → (s ≡ status.WriteFault → A ⊎ B) → ¬ A → ¬ B → HasEnded s
     deploy_complete (status.ReadFault i) A B h u w x y = absurd (no-refusal (missing i) (missing-read i h.1 n h.0))
     deploy_complete (status.TooLarge i seen max) A B h u w x y = absurd (no-refusal (too_large i) (h.1.1.1 files e).1)
-    deploy_complete (status.Unbuilt i) A B h u w x y = let s = ok_of IsNoState (accepted_state names files) (h.1 files e) in absurd (not_none names files s.0 s.1.0 (may_have names files has) s.1.1)
+    deploy_complete (status.State f) A B h u w x y = let s = ok_of (λ (b : List ℕ). IsNoState b f) (accepted_state names files) (h files e) in absurd (not_none names files s.0 s.1.0 own (may_have names files has) f s.1.1)
     deploy_complete (status.Prices f) A B h u w x y = let q = h files e in absurd (no-refusal q.0 q.1.1.1)
     deploy_complete (status.Limit m most) A B h u w x y = absurd (no-refusal (bad_limit most) (h.1 files e).1)
     deploy_complete (status.Source f) A B h u w x y =

@@ -7,14 +7,26 @@ use Rattle.sources.specs.Sources as sources
 use Rattle.sources.specs.declared.fault.SourceFault.{SourceFault}
 use Rattle.command_words.specs.Commands.{RunRequest}
 use Rattle.run_inputs.specs.Inputs.{Refusal, ◌>>=◌, accepted_state}
-use Rattle.run_inputs.specs.Runnable.{IsState, MayHaveState}
-use Rattle.run_inputs.specs.Refused.{SourceCause, StatusOf}
+use Rattle.base_states.specs.Bases.{IsState}
+use Rattle.state_reader.specs.Refused.{IsRefused}
+use Rattle.state_reader.specs.declared.fault.StateFault.{StateFault}
+use Rattle.state_reader.specs.declared.fault.StateFault.TheVariants as stated
+use Rattle.run_inputs.specs.Runnable.{MayHaveState}
+use Rattle.run_inputs.specs.Refused.{SourceCause, StateCause, StateStatusOf, StatusOf}
 use Rattle.run_status.specs.declared.status.Status.{Status}
 
 -- a fault of a source is why it is refused
 pub fault_cause : (source : List ℕ) (f : SourceFault) (o : Option sources.Refusal) (s : Status) → refusal_of f ≡ o → IfSome o (sources.IsRefused source) → StatusOf f o s → SourceCause source s
 fault_cause source f None s e h k = let P = λ (x : Status). SourceCause source x in subst P (sym k) tt
 fault_cause source f (Some r) s e h k = let P = λ (x : Status). SourceCause source x in subst P (sym k) (r, (e, h))
+
+-- a fault of a state is why it is none
+pub state_cause : (bytes : List ℕ) (f : StateFault) (s : Status) → IsRefused bytes f → StateStatusOf f s → StateCause bytes s
+state_cause bytes (stated.Short at) s h k = subst (StateCause bytes) (sym k) (λ e. cc, h)
+state_cause bytes (stated.NotCanonical at) s h k = subst (StateCause bytes) (sym k) (λ e. cc, h)
+state_cause bytes (stated.WrongRoot stored found) s h k = subst (StateCause bytes) (sym k) (λ e. cc, h)
+state_cause bytes (stated.Reducible cont taken) s h k = subst (StateCause bytes) (sym k) (λ e. cc, h)
+state_cause bytes stated.NoMemory s h k = subst (StateCause bytes) (sym k) tt
 
 -- what is refused first stays refused
 pub bind-err : {A B : Type 0} (r : Result A Refusal) (f : A → Result B Refusal) (x : Refusal) → r ≡ Err x → (r >>= f) ≡ Err x

@@ -10,7 +10,9 @@ use Rattle.sources.specs.declared.fault.SourceFault.{SourceFault}
 use Rattle.event_log.specs.declared.fault.LogFault.{LogFault}
 use Rattle.command_words.specs.Commands.{RunRequest}
 use Rattle.run_inputs.specs.Inputs.{Refusal, missing, too_large, Task, name_of, given, beside, task_with, priced, accepted_state, accepted_prices, accepted_source, accepted_log}
-use Rattle.run_inputs.specs.Runnable.{IsState, IsNoState, IsRunnable, HasState}
+use Rattle.base_states.specs.Bases.{IsState, IsNoState}
+use Rattle.state_reader.specs.declared.fault.StateFault.{StateFault}
+use Rattle.run_inputs.specs.Runnable.{IsRunnable, HasState, OwnsIds}
 use Rattle.run_inputs.specs.Refused.{IsFaultOf, Says, SaysNoState, SaysOf}
 use Rattle.run_inputs.specs.Replaying.{ReplayReaches, IsReplayRefusal, IsLogFault, SaysLog}
 use Rattle.run_inputs.specs.Ended.{IsReplayable, ReplayEnds}
@@ -62,7 +64,7 @@ same-refusal names files q r h k = go h.1 k.1
     go (inr x) (inl y) = let s = ok_of IsRunnable (accepted_source names files) x.0 in absurd (ok_err (accepted_source names files) s.0 r s.1.0 y)
     go (inr x) (inr y) = same_err (accepted_log names files) q r x.1 y.1
 
-module _ (More : Status → Task × List ℕ → Type 0) (told : Option FileMap) (names : RunRequest) (before now : ℕ) (files : FileMap) (e : told ≡ Some files) where
+module _ (More : Status → Task × List ℕ → Type 0) (told : Option FileMap) (names : RunRequest) (before now : ℕ) (files : FileMap) (e : told ≡ Some files) (own : OwnsIds names files) where
   -- an input that a replay could not read is missing, where no fetch failed
   replay-missing : (input : Input) → ReplayReaches told names input → ¬ (Rose before now) → Rose before now ⊎ Lacks told (name_of names input) → IsReplayRefusal names files (missing input)
   replay-missing input h n (inl r) = absurd (n r)
@@ -104,7 +106,7 @@ module _ (More : Status → Task × List ℕ → Type 0) (told : Option FileMap)
   pub replay_exact : (s : Status) → ReplayEnds More told names before now s → (r : Refusal) → IsReplayRefusal names files r → ¬ (Rose before now) → Says r s
   replay_exact (status.ReadFault i) h r k n = subst (λ (x : Refusal). Says x (status.ReadFault i)) (same-refusal names files (missing i) r (replay-missing i h.1 n h.0) k) refl
   replay_exact (status.TooLarge i seen max) h r k n = subst (λ (x : Refusal). Says x (status.TooLarge i seen max)) (same-refusal names files (too_large i) r (h.1.1.1 files e) k) refl
-  replay_exact (status.Unbuilt i) h r k n = let s = ok_of IsNoState (accepted_state names files) (h.1 files e) in absurd (not_none names files s.0 s.1.0 k.0 s.1.1)
+  replay_exact (status.State f) h r k n = let s = ok_of (λ (b : List ℕ). IsNoState b f) (accepted_state names files) (h files e) in absurd (not_none names files s.0 s.1.0 own k.0 f s.1.1)
   replay_exact (status.Prices f) h r k n = let q = h files e in price_says f q.0 r q.1.0 (same-refusal names files q.0 r q.1.1 k)
   replay_exact (status.Source f) h r k n = absurd (source-refused f (h files e).1 r k)
   replay_exact (status.Log f) h r k n = let t = ok_of (IsLogFault f) (accepted_log names files) (h files e).1 in absurd (replay-none names files t.0 t.1.0 r k)
@@ -119,29 +121,29 @@ module _ (More : Status → Task × List ℕ → Type 0) (told : Option FileMap)
   replay_exact (status.UnbuiltVerb v) h r k n = absurd h
 
   -- a state that is none is said to be none
-  pub replay_state_exact : (s : Status) → ReplayEnds More told names before now s → (state : List ℕ) → accepted_state names files ≡ Ok state → ¬ (Rose before now) → IsNoState state → SaysNoState s
-  replay_state_exact (status.ReadFault i) h state a n other = absurd (go i h.1 h.0)
+  pub replay_state_exact : (s : Status) → ReplayEnds More told names before now s → (state : List ℕ) → accepted_state names files ≡ Ok state → ¬ (Rose before now) → (g : StateFault) → IsNoState state g → SaysNoState s
+  replay_state_exact (status.ReadFault i) h state a n g other = absurd (go i h.1 h.0)
     where
       go : (i : Input) → ReplayReaches told names i → Rose before now ⊎ Lacks told (name_of names i) → ⊥
       go i k (inl r) = n r
       go State k (inr l) = ok_err (accepted_state names files) state (missing State) a (given_missing names files State (subst (λ (t : Option FileMap). Lacks t (name_of names State)) e l))
-      go Prices k (inr l) = not_none names files state a (may_have names files (k files e)) other
-      go Source k (inr l) = not_none names files state a (may_have names files (k files e).0) other
-      go Log k (inr l) = not_none names files state a (may_have names files (k files e).0) other
-  replay_state_exact (status.TooLarge i seen max) h state a n other = absurd (not_none names files state a (h.1.1.1 files e).0 other)
-  replay_state_exact (status.Unbuilt i) h state a n other = h.0
-  replay_state_exact (status.Prices f) h state a n other = absurd (not_none names files state a (h files e).1.1.0 other)
-  replay_state_exact (status.Source f) h state a n other = absurd (not_none names files state a (may_have names files (h files e).0) other)
-  replay_state_exact (status.Log f) h state a n other = absurd (not_none names files state a (may_have names files (h files e).0) other)
-  replay_state_exact status.NoMemory h state a n other = tt
-  replay_state_exact status.Done h state a n other = absurd (not_none names files state a (may_have names files (h files e).0) other)
-  replay_state_exact status.Exhausted h state a n other = absurd (not_none names files state a (may_have names files (h files e).0) other)
-  replay_state_exact status.Faulted h state a n other = absurd (not_none names files state a (may_have names files (h files e).0) other)
-  replay_state_exact status.WriteFault h state a n other = absurd (not_none names files state a (may_have names files (h files e).0) other)
-  replay_state_exact (status.Replay f) h state a n other = absurd (not_none names files state a (may_have names files (h files e).0) other)
-  replay_state_exact (status.Usage u) h state a n other = absurd h
-  replay_state_exact (status.Limit m most) h state a n other = absurd h
-  replay_state_exact (status.UnbuiltVerb v) h state a n other = absurd h
+      go Prices k (inr l) = not_none names files state a own (may_have names files (k files e)) g other
+      go Source k (inr l) = not_none names files state a own (may_have names files (k files e).0) g other
+      go Log k (inr l) = not_none names files state a own (may_have names files (k files e).0) g other
+  replay_state_exact (status.TooLarge i seen max) h state a n g other = absurd (not_none names files state a own (h.1.1.1 files e).0 g other)
+  replay_state_exact (status.State f) h state a n g other = tt
+  replay_state_exact (status.Prices f) h state a n g other = absurd (not_none names files state a own (h files e).1.1.0 g other)
+  replay_state_exact (status.Source f) h state a n g other = absurd (not_none names files state a own (may_have names files (h files e).0) g other)
+  replay_state_exact (status.Log f) h state a n g other = absurd (not_none names files state a own (may_have names files (h files e).0) g other)
+  replay_state_exact status.NoMemory h state a n g other = tt
+  replay_state_exact status.Done h state a n g other = absurd (not_none names files state a own (may_have names files (h files e).0) g other)
+  replay_state_exact status.Exhausted h state a n g other = absurd (not_none names files state a own (may_have names files (h files e).0) g other)
+  replay_state_exact status.Faulted h state a n g other = absurd (not_none names files state a own (may_have names files (h files e).0) g other)
+  replay_state_exact status.WriteFault h state a n g other = absurd (not_none names files state a own (may_have names files (h files e).0) g other)
+  replay_state_exact (status.Replay f) h state a n g other = absurd (not_none names files state a own (may_have names files (h files e).0) g other)
+  replay_state_exact (status.Usage u) h state a n g other = absurd h
+  replay_state_exact (status.Limit m most) h state a n g other = absurd h
+  replay_state_exact (status.UnbuiltVerb v) h state a n g other = absurd h
 
   module _ (inputs : Task × List ℕ) (a : accepted_log names files ≡ Ok inputs) (n : ¬ (Rose before now)) (has : HasState names files) where
     no-replay-refusal : (r : Refusal) → IsReplayRefusal names files r → ⊥
@@ -153,8 +155,8 @@ module _ (More : Status → Task × List ℕ → Type 0) (told : Option FileMap)
     known : (P : Task × List ℕ → Type 0) → HasState names files × IsOkAnd (accepted_log names files) (IsReplayable P) → IsReplayable P inputs
     known P h = ok_holds (IsReplayable P) (accepted_log names files) inputs a h.1
 
-    no-state : IsOkAnd (accepted_state names files) IsNoState → ⊥
-    no-state h = let s = ok_of IsNoState (accepted_state names files) h in not_none names files s.0 s.1.0 (may_have names files has) s.1.1
+    no-state : (g : StateFault) → IsOkAnd (accepted_state names files) (λ b. IsNoState b g) → ⊥
+    no-state g h = let s = ok_of (λ (b : List ℕ). IsNoState b g) (accepted_state names files) h in not_none names files s.0 s.1.0 own (may_have names files has) g s.1.1
 
     not-refused : (f : SourceFault) → IsOkAnd (accepted_source names files) (λ task. IsFaultOf f task.source) → IsRunnable inputs.0 → ⊥
     not-refused f h run = source-not-run inputs.0.source f inputs.0 refl (ok_holds (λ (t : Task). IsFaultOf f t.source) (accepted_source names files) inputs.0 (source-run names files inputs a) h) run
@@ -166,7 +168,7 @@ module _ (More : Status → Task × List ℕ → Type 0) (told : Option FileMap)
     pub replay_log_exact : (s : Status) → ReplayEnds More told names before now s → IsRunnable inputs.0 → (f : LogFault) → log_of inputs.1 ≡ Err f → SaysLog f s
     replay_log_exact (status.ReadFault i) h run f k = absurd (no-replay-refusal (missing i) (replay-missing i h.1 n h.0))
     replay_log_exact (status.TooLarge i seen max) h run f k = absurd (no-replay-refusal (too_large i) (h.1.1.1 files e))
-    replay_log_exact (status.Unbuilt i) h run f k = absurd (no-state (h.1 files e))
+    replay_log_exact (status.State g) h run f k = absurd (no-state g (h files e))
     replay_log_exact (status.Prices p) h run f k = let q = h files e in absurd (no-replay-refusal q.0 q.1.1)
     replay_log_exact (status.Source g) h run f k = absurd (not-refused g (h files e).1 run)
     replay_log_exact (status.Log g) h run f k = same_err (log_of inputs.1) g f (log-fault g (h files e).1).1 k
@@ -184,7 +186,7 @@ module _ (More : Status → Task × List ℕ → Type 0) (told : Option FileMap)
     pub replay_known : (s : Status) → ReplayEnds More told names before now s → IsRunnable inputs.0 → IsOk (log_of inputs.1) → (s ≡ status.NoMemory) ⊎ More s inputs
     replay_known (status.ReadFault i) h run k = absurd (no-replay-refusal (missing i) (replay-missing i h.1 n h.0))
     replay_known (status.TooLarge i seen max) h run k = absurd (no-replay-refusal (too_large i) (h.1.1.1 files e))
-    replay_known (status.Unbuilt i) h run k = absurd (no-state (h.1 files e))
+    replay_known (status.State g) h run k = absurd (no-state g (h files e))
     replay_known (status.Prices p) h run k = let q = h files e in absurd (no-replay-refusal q.0 q.1.1)
     replay_known (status.Source g) h run k = absurd (not-refused g (h files e).1 run)
     replay_known (status.Log g) h run k = absurd (log-unlike g k (log-fault g (h files e).1).1)
@@ -220,7 +222,7 @@ module _ (More : Status → Task × List ℕ → Type 0) (told : Option FileMap)
     pub replay_source_exact : (s : Status) → ReplayEnds More told names before now s → SaysOf task.source s
     replay_source_exact (status.ReadFault i) h = after-source (missing i) (replay-missing i h.1 n h.0) (status.ReadFault i)
     replay_source_exact (status.TooLarge i seen max) h = after-source (too_large i) (h.1.1.1 files e) (status.TooLarge i seen max)
-    replay_source_exact (status.Unbuilt i) h = let s = ok_of IsNoState (accepted_state names files) (h.1 files e) in absurd (not_none names files s.0 s.1.0 (may_have names files has) s.1.1)
+    replay_source_exact (status.State f) h = let s = ok_of (λ (b : List ℕ). IsNoState b f) (accepted_state names files) (h files e) in absurd (not_none names files s.0 s.1.0 own (may_have names files has) f s.1.1)
     replay_source_exact (status.Prices p) h = let q = h files e in after-source q.0 q.1.1 (status.Prices p)
     replay_source_exact (status.Source f) h = fault_says task.source f (ok_holds (λ (t : Task). IsFaultOf f t.source) (accepted_source names files) task a (h files e).1)
     replay_source_exact (status.Log g) h = let x = ok_of (IsLogFault g) (accepted_log names files) (h files e).1 in free-source (same-task x.0 x.1.0 x.1.1.0) (status.Log g)

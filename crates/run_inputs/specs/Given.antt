@@ -3,14 +3,20 @@ use Rattle.std.specs.Prelude.{◌≡◌, ℕ, List, map, Ok, Err, ⊤}
 use Rattle.event_log.specs.Reading.{log_of}
 use Rattle.event_log.specs.View.{header_of, step_of}
 use Rattle.run_inputs.specs.Inputs.{Task}
+use Rattle.base_states.specs.Bases.{IsStateOf}
 use Rattle.run_inputs.specs.declared.acceptance.Inputs.{Inputs}
 use Rattle.run_inputs.specs.declared.acceptance.ReplayInputs.{ReplayInputs}
+use Rattle.run_inputs.specs.declared.fetch.Base.{Base}
 use Rattle.run_status.specs.declared.status.Status.{Status}
 use Rattle.run_status.specs.declared.status.Status.TheVariants as status
 
+-- the text is that of the state of these rows
+abbrev pub IsBase : Base → Type 0
+IsBase b = IsStateOf b.text.items b.checkpoint
+
 -- what is to be run of these inputs
 abbrev pub task_of : Inputs → Task
-task_of i = record { state = i.state.items; prices = i.prices; source = i.source.items }
+task_of i = record { state = i.base.text.items; prices = i.prices; source = i.source.items }
 
 -- this is what is to be run, and these are the bytes of the log
 pub record IsGiven (r : ReplayInputs) (inputs : Task × List ℕ) : Type 0 where

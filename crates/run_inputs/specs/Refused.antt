@@ -1,17 +1,20 @@
 -- When a deploy ends before it runs.
 use Rattle.std.specs.Prelude.{◌≡◌, ℕ, ◌<◌, ◌⊎◌, List, IsOk, IsOkAnd, Err, Option, Some, None, ⊤, string_bytes}
+use Rattle.base_states.specs.Bases.{IsNoState}
 use Rattle.phlo_meter.specs.PriceTable as meter
 use Rattle.phlo_meter.specs.declared.fault.PriceFault.{PriceFault}
 use Rattle.phlo_meter.specs.declared.fault.PriceFault.TheVariants as faults
 use Rattle.sources.specs.Faults.{refusal_of}
 use Rattle.sources.specs.Sources as sources
 use Rattle.sources.specs.declared.fault.SourceFault.{SourceFault}
+use Rattle.state_reader.specs.declared.fault.StateFault.{StateFault}
+use Rattle.state_reader.specs.declared.fault.StateFault.TheVariants as stated
 use Rattle.rho_outside.specs.FileMap.{FileMap, Lacks, GivesAtLeast}
 use Rattle.rho_outside.specs.Causes.{Rose}
 use Rattle.rho_outside.specs.Told.{Told}
 use Rattle.command_words.specs.Commands.{RunRequest}
 use Rattle.run_inputs.specs.Inputs.{Refusal, missing, too_large, bad_prices, bad_limit, priced, name_of, size_limit, accepted_state, accepted_prices, accepted_limit, accepted}
-use Rattle.run_inputs.specs.Runnable.{HasState, MayHaveState, IsNoState}
+use Rattle.run_inputs.specs.Runnable.{HasState, MayHaveState}
 use Rattle.run_status.specs.declared.status.Input.{Input}
 use Rattle.run_status.specs.declared.status.Input.TheVariants.{State, Prices, Source}
 use Rattle.run_status.specs.declared.status.Status.{Status}
@@ -44,9 +47,10 @@ PriceCause text (status.Prices f) = (r : Refusal) × (IsPriceFault f r × (price
 PriceCause text status.NoMemory = ⊤
 PriceCause text _ = ⊥
 
--- why bytes are no state that is read so far
+-- why bytes are no state
 abbrev pub StateCause : List ℕ → Status → Type 0
-StateCause bytes (status.Unbuilt input) = (input ≡ State) × IsNoState bytes
+StateCause bytes (status.State f) = IsNoState bytes f
+StateCause bytes status.NoMemory = ⊤
 StateCause bytes _ = ⊥
 
 -- a fault is what a source is refused for
@@ -78,15 +82,15 @@ abbrev pub Reaches : Option FileMap → RunRequest → ℕ → Input → Type 0
 Reaches told names limit Source = Told told (λ files. HasState names files × IsOk (accepted_limit names limit files))
 Reaches told names limit input = PricesReach told names input
 
--- the told state is within its size and is none
-abbrev pub LacksState : Option FileMap → RunRequest → Type 0
-LacksState told names = Told told (λ files. IsOkAnd (accepted_state names files) IsNoState)
+-- the told state is within its size and is none, with this fault
+abbrev pub LacksState : Option FileMap → RunRequest → StateFault → Type 0
+LacksState told names f = Told told (λ files. IsOkAnd (accepted_state names files) (λ state. IsNoState state f))
 
 -- why the state or the prices are refused, from the counts of failed fetches before and after
 abbrev pub PricesRefusedFor : Option FileMap → RunRequest → ℕ → ℕ → Status → Type 0
 PricesRefusedFor told names before now (status.ReadFault input) = (Rose before now ⊎ Lacks told (name_of names input)) × PricesReach told names input
 PricesRefusedFor told names before now (status.TooLarge input seen max) = (max ≡ size_limit input) × ((max < seen) × (GivesAtLeast told (name_of names input) seen × Told told (λ files. IsPricesRefusal names files (too_large input))))
-PricesRefusedFor told names before now (status.Unbuilt input) = (input ≡ State) × LacksState told names
+PricesRefusedFor told names before now (status.State f) = LacksState told names f
 PricesRefusedFor told names before now (status.Prices f) = Told told (λ files. (r : Refusal) × (IsPriceFault f r × IsPricesRefusal names files r))
 PricesRefusedFor told names before now status.NoMemory = ⊤
 PricesRefusedFor told names before now _ = ⊥
@@ -95,7 +99,7 @@ PricesRefusedFor told names before now _ = ⊥
 abbrev pub RefusedFor : Option FileMap → RunRequest → ℕ → ℕ → ℕ → Status → Type 0
 RefusedFor told names limit before now (status.ReadFault input) = (Rose before now ⊎ Lacks told (name_of names input)) × Reaches told names limit input
 RefusedFor told names limit before now (status.TooLarge input seen max) = (max ≡ size_limit input) × ((max < seen) × (GivesAtLeast told (name_of names input) seen × Told told (λ files. IsRefusal names limit files (too_large input))))
-RefusedFor told names limit before now (status.Unbuilt input) = (input ≡ State) × LacksState told names
+RefusedFor told names limit before now (status.State f) = LacksState told names f
 RefusedFor told names limit before now (status.Prices f) = Told told (λ files. (r : Refusal) × (IsPriceFault f r × IsRefusal names limit files r))
 RefusedFor told names limit before now (status.Limit n most) = (n ≡ limit) × Told told (λ files. IsRefusal names limit files (bad_limit most))
 RefusedFor told names limit before now (status.Source f) = Told told (λ files. HasState names files × IsOkAnd (accepted names limit files) (λ task. IsFaultOf f task.source))
@@ -111,11 +115,16 @@ Says (bad_prices r) (status.Prices f) = price_refusal f ≡ Some r
 Says (bad_limit most) (status.Limit limit m) = m ≡ most
 Says _ _ = ⊥
 
--- a status says that a state is none that is read so far; want of memory may stand in its place
+-- a status says that a state is none; want of memory may stand in its place
 abbrev pub SaysNoState : Status → Type 0
-SaysNoState (status.Unbuilt input) = input ≡ State
+SaysNoState (status.State f) = ⊤
 SaysNoState status.NoMemory = ⊤
 SaysNoState _ = ⊥
+
+-- the status of a fault of a state, which may be want of memory
+abbrev pub StateStatusOf : StateFault → Status → Type 0
+StateStatusOf stated.NoMemory s = s ≡ status.NoMemory
+StateStatusOf f s = s ≡ status.State f
 
 -- the status of a fault of a source: want of memory where it says no refusal
 abbrev pub StatusOf : SourceFault → Option sources.Refusal → Status → Type 0

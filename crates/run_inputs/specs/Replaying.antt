@@ -10,7 +10,7 @@ use Rattle.run_inputs.specs.Inputs.{Refusal, too_large, Task, name_of, size_limi
 use Rattle.run_inputs.specs.Runnable.{IsRunnable, HasState, MayHaveState}
 use Rattle.run_inputs.specs.Refused.{IsFaultOf, IsPriceFault, PricesReach, LacksState}
 use Rattle.run_status.specs.declared.status.Input.{Input}
-use Rattle.run_status.specs.declared.status.Input.TheVariants.{State, Source, Log}
+use Rattle.run_status.specs.declared.status.Input.TheVariants.{Source, Log}
 use Rattle.run_status.specs.declared.status.Status.{Status}
 use Rattle.run_status.specs.declared.status.Status.TheVariants as status
 
@@ -33,7 +33,7 @@ IsLogFault f inputs = IsRunnable inputs.0 × (log_of inputs.1 ≡ Err f)
 abbrev pub ReplayRefusedFor : Option FileMap → RunRequest → ℕ → ℕ → Status → Type 0
 ReplayRefusedFor told names before now (status.ReadFault input) = (Rose before now ⊎ Lacks told (name_of names input)) × ReplayReaches told names input
 ReplayRefusedFor told names before now (status.TooLarge input seen max) = (max ≡ size_limit input) × ((max < seen) × (GivesAtLeast told (name_of names input) seen × Told told (λ files. IsReplayRefusal names files (too_large input))))
-ReplayRefusedFor told names before now (status.Unbuilt input) = (input ≡ State) × LacksState told names
+ReplayRefusedFor told names before now (status.State f) = LacksState told names f
 ReplayRefusedFor told names before now (status.Prices f) = Told told (λ files. (r : Refusal) × (IsPriceFault f r × IsReplayRefusal names files r))
 ReplayRefusedFor told names before now (status.Source f) = Told told (λ files. HasState names files × IsOkAnd (accepted_source names files) (λ task. IsFaultOf f task.source))
 ReplayRefusedFor told names before now (status.Log f) = Told told (λ files. HasState names files × IsOkAnd (accepted_log names files) (IsLogFault f))

@@ -9,11 +9,11 @@ ghost use Rattle.command_words.specs.Answers.{run_of};
 ghost use Rattle.run_inputs.specs.Inputs.{accepted, accepted_source, accepted_log};
 ghost use Rattle.run_inputs.specs.Refused.{RefusedFor, SourceCause, StatusOf};
 ghost use Rattle.run_inputs.specs.Replaying.{ReplayRefusedFor};
-ghost use Rattle.run_inputs.specs.Runnable.{IsState, HasState};
-ghost use Rattle.run_inputs.specs.Given.{task_of, IsGiven, LogCause};
+ghost use Rattle.run_inputs.specs.Runnable.{HasState};
+ghost use Rattle.run_inputs.specs.Given.{task_of, IsBase, IsGiven, LogCause};
 ghost use Rattle.sources.specs.Sources.{IsSourceOf};
 
-use crate::fetch::{accept_limit, accept_prices, take};
+use crate::fetch::{Base, accept_limit, accept_prices, take};
 use command_words::Run;
 use event_log::{Log, LogFault, read_log};
 use price_table::Prices;
@@ -32,10 +32,10 @@ const SOURCE_MAX: u64 = 1_048_576;
 /// The greatest number of bytes of a log.
 const LOG_MAX: u64 = 1_073_741_824;
 
-/// What is to be run: the state's bytes, the prices, the source's bytes, and the normal term of the process that they spell.
+/// What is to be run: the state, the prices, the source's bytes, and the normal term of the process that they spell.
 #[derive(Drop)]
 pub struct Inputs {
-    pub state: Vec<u8>,
+    pub base: Base,
     pub prices: Prices,
     pub source: Vec<u8>,
     pub term: Term,
@@ -73,20 +73,16 @@ fn accept_term(alloc: Global, source: &[u8]) -> Result<Term, Status>
 }
 
 /// The inputs of a state, prices and a source's bytes.
-fn inputs_of(
-    alloc: Global,
-    state: Vec<u8>,
-    prices: Prices,
-    source: Vec<u8>,
-) -> Result<Inputs, Status>
-    ensures given { IfOk result (λ i. task_of i ≡ record { state = state.items; prices = prices; source = source.items }) }
+fn inputs_of(alloc: Global, base: Base, prices: Prices, source: Vec<u8>) -> Result<Inputs, Status>
+    ensures given { IfOk result (λ i. task_of i ≡ record { state = base.text.items; prices = prices; source = source.items }) }
+    ensures base { IfOk result (λ i. i.base ≡ base) }
     ensures term { IfOk result (λ i. IsSourceOf i.source.items i.term) }
     ensures closed { IfOk result (λ i. IsClosed i.term) }
     ensures cause { IfErr result (SourceCause source.items) }
 {
     match accept_term(alloc, source.as_slice()) {
         Ok(term) => Ok(Inputs {
-            state,
+            base,
             prices,
             source,
             term,
@@ -105,7 +101,7 @@ pub fn accept<S: Shelf>(
     ensures files { S.files shelf.new ≡ S.files shelf.old }
     ensures keep_faults { S.keep_faults shelf.new ≡ S.keep_faults shelf.old }
     ensures accepted { IfOk result (λ i. Told (S.files shelf.old) (λ files. accepted (run_of run.now) limit files ≡ Ok (task_of i))) }
-    ensures state { IfOk result (λ i. IsState i.state.items) }
+    ensures state { IfOk result (λ i. IsBase i.base) }
     ensures term { IfOk result (λ i. IsSourceOf i.source.items i.term) }
     ensures closed { IfOk result (λ i. IsClosed i.term) }
     ensures in_range { IfOk result (λ i. limit ≤ greatest_limit i.prices) }
@@ -113,7 +109,7 @@ pub fn accept<S: Shelf>(
     ensures told { IfOk result (λ _. Told (S.files shelf.old) (HasState (run_of run.now))) }
     ensures refused { IfErr result (RefusedFor (S.files shelf.old) (run_of run.now) limit (S.fetch_faults shelf.old) (S.fetch_faults shelf.new)) }
 {
-    let (state, prices) = match accept_limit(alloc, shelf, run, limit) {
+    let (base, prices) = match accept_limit(alloc, shelf, run, limit) {
         Ok(given) => given,
         Err(status) => return Err(status),
     };
@@ -121,7 +117,7 @@ pub fn accept<S: Shelf>(
         Ok(source) => source,
         Err(status) => return Err(status),
     };
-    match inputs_of(alloc, state, prices, source) {
+    match inputs_of(alloc, base, prices, source) {
         Ok(inputs) => Ok(inputs),
         Err(status) => Err(status),
     }
@@ -133,14 +129,14 @@ fn accept_replay_source<S: Shelf>(alloc: Global, shelf: &mut S, run: &Run) -> Re
     ensures keep_faults { S.keep_faults shelf.new ≡ S.keep_faults shelf.old }
     ensures fetch_faults { S.fetch_faults shelf.old ≤ S.fetch_faults shelf.new }
     ensures accepted { IfOk result (λ i. Told (S.files shelf.old) (λ files. accepted_source (run_of run.now) files ≡ Ok (task_of i))) }
-    ensures state { IfOk result (λ i. IsState i.state.items) }
+    ensures state { IfOk result (λ i. IsBase i.base) }
     ensures term { IfOk result (λ i. IsSourceOf i.source.items i.term) }
     ensures closed { IfOk result (λ i. IsClosed i.term) }
     ensures short { IfOk result (λ i. length i.source.items ≤ 1048576) }
     ensures told { IfOk result (λ _. Told (S.files shelf.old) (HasState (run_of run.now))) }
     ensures refused { IfErr result (ReplayRefusedFor (S.files shelf.old) (run_of run.now) (S.fetch_faults shelf.old) (S.fetch_faults shelf.new)) }
 {
-    let (state, prices) = match accept_prices(alloc, shelf, run) {
+    let (base, prices) = match accept_prices(alloc, shelf, run) {
         Ok(given) => given,
         Err(status) => return Err(status),
     };
@@ -148,7 +144,7 @@ fn accept_replay_source<S: Shelf>(alloc: Global, shelf: &mut S, run: &Run) -> Re
         Ok(source) => source,
         Err(status) => return Err(status),
     };
-    match inputs_of(alloc, state, prices, source) {
+    match inputs_of(alloc, base, prices, source) {
         Ok(inputs) => Ok(inputs),
         Err(status) => Err(status),
     }
@@ -175,7 +171,7 @@ pub fn accept_replay<S: Shelf>(
     ensures files { S.files shelf.new ≡ S.files shelf.old }
     ensures keep_faults { S.keep_faults shelf.new ≡ S.keep_faults shelf.old }
     ensures accepted { IfOk result (λ r. Told (S.files shelf.old) (λ files. IsOkAnd (accepted_log (run_of run.now) files) (IsGiven r))) }
-    ensures state { IfOk result (λ r. IsState r.inputs.state.items) }
+    ensures state { IfOk result (λ r. IsBase r.inputs.base) }
     ensures term { IfOk result (λ r. IsSourceOf r.inputs.source.items r.inputs.term) }
     ensures closed { IfOk result (λ r. IsClosed r.inputs.term) }
     ensures short { IfOk result (λ r. length r.inputs.source.items ≤ 1048576) }

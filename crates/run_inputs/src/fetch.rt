@@ -5,9 +5,12 @@ ghost use Rattle.rho_outside.specs.FileMap.{Gives};
 ghost use Rattle.rho_outside.specs.Told.{Told};
 ghost use Rattle.command_words.specs.Answers.{run_of};
 ghost use Rattle.run_inputs.specs.Inputs.{priced, accepted_state, accepted_prices, accepted_limit};
-ghost use Rattle.run_inputs.specs.Refused.{price_refusal, InputCause, PriceCause, PriceStatusOf, PricesRefusedFor, RefusedFor, StateCause};
-ghost use Rattle.run_inputs.specs.Runnable.{IsState, HasState};
+ghost use Rattle.run_inputs.specs.Given.{IsBase};
+ghost use Rattle.run_inputs.specs.Refused.{price_refusal, InputCause, PriceCause, PriceStatusOf, PricesRefusedFor, RefusedFor, StateCause, StateStatusOf};
+ghost use Rattle.run_inputs.specs.Runnable.{HasState};
 
+use base_states::{StateFault, read_base};
+use checkpoint::Checkpoint;
 use command_words::Run;
 use phlo_meter::{PriceFault, read_prices};
 use price_table::{Prices, most_limit};
@@ -20,9 +23,12 @@ const STATE_MAX: u64 = 268_435_456;
 
 const PRICES_MAX: u64 = 65_536;
 
-/// The empty state: its name, the version, a root of zeros and no rows.
-pub const EMPTY_STATE: &[u8] =
-    b"RHOSTATE\x01\0\0\0\0\0\0\0\0\0\0\0\0\0\0\0\0\0\0\0\0\0\0\0\0\0\0\0\0\0\0\0\0\0\0\0\0\0\0\0\0";
+/// The state that a run starts from: its text, and the rows that it holds.
+#[derive(Drop)]
+pub struct Base {
+    pub text: Vec<u8>,
+    pub checkpoint: Checkpoint,
+}
 
 /// The bytes of one input, at most `max` of them.
 pub(crate) fn take<S: Shelf>(
@@ -47,35 +53,43 @@ pub(crate) fn take<S: Shelf>(
     }
 }
 
-/// Reads a state: so far the empty one alone.
-fn read_base(state: &[u8]) -> Result<(), Status>
-    ensures state { IfOk result (λ _. IsState state.now) }
-    ensures cause { IfErr result (StateCause state.now) }
+/// The status of what the bytes of a state are refused for, or that memory is wanted.
+fn status_of_state_fault(fault: StateFault) -> Status
+    ensures { StateStatusOf fault result }
 {
-    if state == EMPTY_STATE {
-        Ok(())
-    } else {
-        Err(Status::Unbuilt {
-            input: Input::State,
-        })
+    match fault {
+        StateFault::NoMemory => Status::NoMemory,
+        fault => Status::State(fault),
+    }
+}
+
+/// The state whose text these bytes are.
+fn base_of(alloc: Global, text: Vec<u8>) -> Result<Base, Status>
+    ensures text { IfOk result (λ base. base.text.items ≡ text.items) }
+    ensures state { IfOk result IsBase }
+    ensures cause { IfErr result (StateCause text.items) }
+{
+    match read_base(alloc, text.as_slice()) {
+        Ok(checkpoint) => Ok(Base { text, checkpoint }),
+        Err(fault) => Err(status_of_state_fault(fault)),
     }
 }
 
 /// Fetches and checks the state.
-fn accept_state<S: Shelf>(alloc: Global, shelf: &mut S, run: &Run) -> Result<Vec<u8>, Status>
+fn accept_state<S: Shelf>(alloc: Global, shelf: &mut S, run: &Run) -> Result<Base, Status>
     ensures files { S.files shelf.new ≡ S.files shelf.old }
     ensures keep_faults { S.keep_faults shelf.new ≡ S.keep_faults shelf.old }
     ensures fetch_faults { S.fetch_faults shelf.old ≤ S.fetch_faults shelf.new }
-    ensures accepted { IfOk result (λ state. Told (S.files shelf.old) (λ files. accepted_state (run_of run.now) files ≡ Ok state.items)) }
-    ensures state { IfOk result (λ state. IsState state.items) }
+    ensures accepted { IfOk result (λ base. Told (S.files shelf.old) (λ files. accepted_state (run_of run.now) files ≡ Ok base.text.items)) }
+    ensures state { IfOk result IsBase }
     ensures refused { IfErr result (PricesRefusedFor (S.files shelf.old) (run_of run.now) (S.fetch_faults shelf.old) (S.fetch_faults shelf.new)) }
 {
-    let state = match take(alloc, shelf, run.state.as_str(), Input::State, STATE_MAX) {
-        Ok(state) => state,
+    let text = match take(alloc, shelf, run.state.as_str(), Input::State, STATE_MAX) {
+        Ok(text) => text,
         Err(status) => return Err(status),
     };
-    match read_base(state.as_slice()) {
-        Ok(()) => Ok(state),
+    match base_of(alloc, text) {
+        Ok(base) => Ok(base),
         Err(status) => Err(status),
     }
 }
@@ -101,22 +115,22 @@ fn prices_in(alloc: Global, text: &[u8]) -> Result<Prices, Status>
     }
 }
 
-/// Fetches and checks the prices, after the state. Gives the state's bytes with them.
+/// Fetches and checks the prices, after the state. Gives the state with them.
 pub(crate) fn accept_prices<S: Shelf>(
     alloc: Global,
     shelf: &mut S,
     run: &Run,
-) -> Result<(Vec<u8>, Prices), Status>
+) -> Result<(Base, Prices), Status>
     ensures files { S.files shelf.new ≡ S.files shelf.old }
     ensures keep_faults { S.keep_faults shelf.new ≡ S.keep_faults shelf.old }
     ensures fetch_faults { S.fetch_faults shelf.old ≤ S.fetch_faults shelf.new }
-    ensures accepted { IfOk result (λ p. Told (S.files shelf.old) (λ files. accepted_prices (run_of run.now) files ≡ Ok (p.0.items, p.1))) }
-    ensures state { IfOk result (λ p. IsState p.0.items) }
+    ensures accepted { IfOk result (λ p. Told (S.files shelf.old) (λ files. accepted_prices (run_of run.now) files ≡ Ok (p.0.text.items, p.1))) }
+    ensures state { IfOk result (λ p. IsBase p.0) }
     ensures told { IfOk result (λ _. Told (S.files shelf.old) (HasState (run_of run.now))) }
     ensures refused { IfErr result (PricesRefusedFor (S.files shelf.old) (run_of run.now) (S.fetch_faults shelf.old) (S.fetch_faults shelf.new)) }
 {
-    let state = match accept_state(alloc, shelf, run) {
-        Ok(state) => state,
+    let base = match accept_state(alloc, shelf, run) {
+        Ok(base) => base,
         Err(status) => return Err(status),
     };
     let text = match take(alloc, shelf, run.prices.as_str(), Input::Prices, PRICES_MAX) {
@@ -124,7 +138,7 @@ pub(crate) fn accept_prices<S: Shelf>(
         Err(status) => return Err(status),
     };
     match prices_in(alloc, text.as_slice()) {
-        Ok(prices) => Ok((state, prices)),
+        Ok(prices) => Ok((base, prices)),
         Err(status) => Err(status),
     }
 }
@@ -135,17 +149,17 @@ pub(crate) fn accept_limit<S: Shelf>(
     shelf: &mut S,
     run: &Run,
     limit: u64,
-) -> Result<(Vec<u8>, Prices), Status>
+) -> Result<(Base, Prices), Status>
     ensures files { S.files shelf.new ≡ S.files shelf.old }
     ensures keep_faults { S.keep_faults shelf.new ≡ S.keep_faults shelf.old }
     ensures fetch_faults { S.fetch_faults shelf.old ≤ S.fetch_faults shelf.new }
-    ensures accepted { IfOk result (λ p. Told (S.files shelf.old) (λ files. accepted_limit (run_of run.now) limit files ≡ Ok (p.0.items, p.1))) }
-    ensures state { IfOk result (λ p. IsState p.0.items) }
+    ensures accepted { IfOk result (λ p. Told (S.files shelf.old) (λ files. accepted_limit (run_of run.now) limit files ≡ Ok (p.0.text.items, p.1))) }
+    ensures state { IfOk result (λ p. IsBase p.0) }
     ensures told { IfOk result (λ _. Told (S.files shelf.old) (HasState (run_of run.now))) }
     ensures in_range { IfOk result (λ p. limit ≤ greatest_limit p.1) }
     ensures refused { IfErr result (RefusedFor (S.files shelf.old) (run_of run.now) limit (S.fetch_faults shelf.old) (S.fetch_faults shelf.new)) }
 {
-    let (state, prices) = match accept_prices(alloc, shelf, run) {
+    let (base, prices) = match accept_prices(alloc, shelf, run) {
         Ok(given) => given,
         Err(status) => return Err(status),
     };
@@ -153,5 +167,5 @@ pub(crate) fn accept_limit<S: Shelf>(
     if limit == 0 || limit > most {
         return Err(Status::Limit { limit, most });
     }
-    Ok((state, prices))
+    Ok((base, prices))
 }

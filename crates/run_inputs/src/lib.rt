@@ -4,7 +4,7 @@
 #![tactic(auto)]
 
 pub mod acceptance;
-mod fetch;
+pub mod fetch;
 
 pub use acceptance::{Inputs, ReplayInputs, accept, accept_replay};
-pub use fetch::EMPTY_STATE;
+pub use fetch::Base;

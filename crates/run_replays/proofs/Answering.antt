@@ -18,7 +18,8 @@ use Rattle.run_verdict.specs.declared.verdict.Verdict.{Verdict as Ending}
 use Rattle.run_verdict.specs.declared.verdict.Verdict.TheVariants as ending
 use Rattle.run_inputs.specs.Inputs.{Task}
 use Rattle.run_inputs.specs.Given.{IsGiven}
-use Rattle.run_inputs.specs.Runnable.{IsStateOf}
+use Rattle.base_states.specs.Bases.{IsStateOf}
+use Rattle.base_states.proofs.OneState.{one_state}
 use Rattle.run_inputs.specs.declared.acceptance.ReplayInputs.{ReplayInputs}
 use Rattle.run_status.specs.Endings.{status_of, HasEnded}
 use Rattle.run_status.specs.declared.status.Status.{Status}
@@ -37,7 +38,7 @@ module _ (inputs : Task × List ℕ) where
   pub one_reading : (q r : List Row) (t u : Tree) (h k : Header) (ss ts : List Step) → AreReadAs inputs q t h ss → AreReadAs inputs r u k ts → (q ≡ r) × ((t ≡ u) × ((h ≡ k) × (ss ≡ ts)))
   one_reading q r t u h k ss ts a b =
       let logs = same-log (h, ss) (k, ts) (sym a.log ∙ b.log) in
-      (a.state.none ∙ sym b.state.none, (one_term inputs.0.source t u a.spelt b.spelt, (ap (λ (p : Header × List Step). p.0) logs, ap (λ (p : Header × List Step). p.1) logs)))
+      (one_state inputs.0.state q r a.state b.state, (one_term inputs.0.source t u a.spelt b.spelt, (ap (λ (p : Header × List Step). p.0) logs, ap (λ (p : Header × List Step). p.1) logs)))
 
   -- their log has one answer
   pub one_answer_to : (x y : Answer) → IsAnswerTo inputs x → IsAnswerTo inputs y → x ≡ y
@@ -80,7 +81,7 @@ says-end (status.Prices f) o w h = subst HasEnded (sym h) (ends-for o.verdict)
 says-end (status.Limit n m) o w h = subst HasEnded (sym h) (ends-for o.verdict)
 says-end (status.Log f) o w h = subst HasEnded (sym h) (ends-for o.verdict)
 says-end (status.Replay f) o w h = subst HasEnded (sym h) (ends-for o.verdict)
-says-end (status.Unbuilt i) o w h = subst HasEnded (sym h) (ends-for o.verdict)
+says-end (status.State f) o w h = subst HasEnded (sym h) (ends-for o.verdict)
 says-end (status.UnbuiltVerb v) o w h = subst HasEnded (sym h) (ends-for o.verdict)
 says-end (status.TooLarge i n m) o w h = subst HasEnded (sym h) (ends-for o.verdict)
 
@@ -100,7 +101,7 @@ ends_if_run inputs s A B w x y t o a = go (t (replayed o) a)
     go (inr (inl h)) = inl (says-end s o no-fault h)
     go (inr (inr c)) = inr c
 
-module _ (rows : List Row) (r : ReplayInputs) (inputs : Task × List ℕ) (i : IsGiven r inputs) (state : IsStateOf r.inputs.state.items rows) (spelt : IsSourceOf r.inputs.source.items r.inputs.term) where
+module _ (rows : List Row) (r : ReplayInputs) (inputs : Task × List ℕ) (i : IsGiven r inputs) (state : IsStateOf r.inputs.base.text.items rows) (spelt : IsSourceOf r.inputs.source.items r.inputs.term) where
   -- the inputs that were read
   given-read : AreReadAs inputs rows r.inputs.term (header_in r) (steps_in r)
   given-read = record {

@@ -11,7 +11,8 @@ use Rattle.run_verdict.specs.declared.verdict.Verdict.{Verdict as Ending}
 use Rattle.run_verdict.specs.declared.verdict.Verdict.TheVariants as ending
 use Rattle.run_inputs.specs.Inputs.{Task, accepted_log}
 use Rattle.run_inputs.specs.Given.{IsGiven}
-use Rattle.run_inputs.specs.Runnable.{IsState, IsRunnable, HasState}
+use Rattle.base_states.specs.Bases.{IsState}
+use Rattle.run_inputs.specs.Runnable.{IsRunnable, HasState}
 use Rattle.run_inputs.specs.Replaying.{ReplayRefusedFor}
 use Rattle.run_inputs.specs.Ended.{IsReplayable, IsReplayAccepted, ReplayEnds}
 use Rattle.run_inputs.specs.declared.acceptance.ReplayInputs.{ReplayInputs}
@@ -35,7 +36,7 @@ module _ (told : Option FileMap) (names : RunRequest) (before now : ℕ) where
   pub replay_refused_ends : (s : Status) → ReplayRefusedFor told names before now s → ReplayEnds IsSettled told names before now s
   replay_refused_ends (status.ReadFault i) h = h
   replay_refused_ends (status.TooLarge i n m) h = h
-  replay_refused_ends (status.Unbuilt i) h = h
+  replay_refused_ends (status.State f) h = h
   replay_refused_ends (status.Prices f) h = h
   replay_refused_ends (status.Source f) h = h
   replay_refused_ends (status.Log f) h = h
@@ -50,7 +51,7 @@ module _ (told : Option FileMap) (names : RunRequest) (before now : ℕ) where
   replay_refused_ends (status.UnbuiltVerb v) h = absurd h
 
   module _ (r : ReplayInputs) (accepted : Told told (λ files. IsOkAnd (accepted_log names files) (IsGiven r))) (has : Told told (HasState names))
-      (state : IsState r.inputs.state.items) (spelt : IsSourceOf r.inputs.source.items r.inputs.term) where
+      (state : IsState r.inputs.base.text.items) (spelt : IsSourceOf r.inputs.source.items r.inputs.term) where
     accepted-so : (s : Status) → ((inputs : Task × List ℕ) → IsGiven r inputs → IsSettled s inputs) → IsReplayAccepted (IsSettled s) told names
     accepted-so s known files e = (has files e, ok_more (IsGiven r) (IsReplayable (IsSettled s)) (accepted_log names files) one (accepted files e))
       where
@@ -73,7 +74,7 @@ module _ (told : Option FileMap) (names : RunRequest) (before now : ℕ) where
     stop_ends (status.Log f) h = absurd h
     stop_ends (status.Prices f) h = absurd h
     stop_ends (status.Limit n m) h = absurd h
-    stop_ends (status.Unbuilt i) h = absurd h
+    stop_ends (status.State f) h = absurd h
     stop_ends (status.UnbuiltVerb v) h = absurd h
     stop_ends status.Exhausted h = absurd h
     stop_ends status.Faulted h = absurd h

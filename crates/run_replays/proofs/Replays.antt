@@ -1,5 +1,5 @@
 -- What a replay came to.
-use Rattle.std.proofs.Common.{◌≡◌, ◌≢◌, ◌∙◌, ◌⊎◌, inl, inr, ℕ, List, [], replicate, length, refl, sym, ap, subst, Result, Ok, Err, Option, Some, None, IfSome}
+use Rattle.std.proofs.Common.{◌≡◌, ◌≢◌, ◌∙◌, ◌⊎◌, inl, inr, ℕ, List, [], length, refl, sym, ap, subst, Result, Ok, Err, Option, Some, None, IfSome}
 use Rattle.std.specs.Prelude.{IsErrAnd, IsPermutation, ⊤}
 use Rattle.std.proofs.lemmas.List.{length-map}
 use Rattle.calculus.specs.Log.{Step, Header}
@@ -17,14 +17,14 @@ use Rattle.replay_faults.specs.Refusals.{refusal_of}
 use Rattle.replay_faults.specs.declared.fault.ReplayFault.{ReplayFault}
 use Rattle.ordered_replay.specs.Answers.{IsReplayed, IsAnswered}
 use Rattle.ordered_replay.specs.declared.replayed.Replayed.{Replayed}
-use Rattle.run_inputs.specs.Runnable.{IsStateOf}
+use Rattle.base_states.specs.Bases.{IsStateOf}
 use Rattle.run_inputs.specs.declared.acceptance.ReplayInputs.{ReplayInputs}
 use Rattle.run_status.specs.declared.status.Status.{Status}
 use Rattle.run_deploys.specs.Runs.{Left, printed}
 use Rattle.run_replays.specs.Replaying.{IsLeftByOutcome, IsLeftByAnswer}
 use Rattle.run_replays.specs.ReplayPlans.{given_of, header_in, steps_in, ClashIn, ReplayStatusOf, IsReplayStop, IsReplayPlan, IsPlanned}
 use Rattle.run_replays.specs.declared.replaying.ReplayPlan.{ReplayPlan}
-use Rattle.run_deploys.proofs.Running.{root_of_none, silent}
+use Rattle.run_deploys.proofs.Running.{silent}
 
 -- an outcome that is not done has no output
 abbrev IsQuiet : Answer → Type 0
@@ -69,7 +69,7 @@ module _ (rows made base : List Row) (digest text : List ℕ) where
       other : faulted step kind ≡ done → ⊥
       other k = cc
 
-module _ (rows : List Row) (r : ReplayInputs) (state : IsStateOf r.inputs.state.items rows) (result : Result Replayed ReplayFault)
+module _ (rows : List Row) (r : ReplayInputs) (state : IsStateOf r.inputs.base.text.items rows) (result : Result Replayed ReplayFault)
     (header : (x : Refusal) → header_refusal (given_of rows r) (header_in r) ≡ Some x → IsErrAnd result (λ e. refusal_of e ≡ Some x))
     (answered : IsAnswered (given_of rows r) (header_in r) (steps_in r) result ⊎ ClashIn rows r) where
   module _ (f : ReplayFault) (is : result ≡ Err f) where
@@ -92,7 +92,7 @@ module _ (rows : List Row) (r : ReplayInputs) (state : IsStateOf r.inputs.state.
     replay_stop (Some x) e s h = subst (IsReplayStop rows r) (sym h) (record { refusal = x; is = e; answer = answer-of x e (header_refusal (given_of rows r) (header_in r)) refl })
 
   -- what is made of what the log's replay came to
-  pub replay_plan : (x : Replayed) → result ≡ Ok x → (p : ReplayPlan) → IsPlanned r x p → IsReplayPlan rows r p
+  pub replay_plan : (x : Replayed) → result ≡ Ok x → (p : ReplayPlan) → IsPlanned r.inputs.base.text.items (root rows) (length r.log.steps.items) x p → IsReplayPlan rows r p
   replay_plan x is p planned =
       record {
         left = left;
@@ -117,14 +117,11 @@ module _ (rows : List Row) (r : ReplayInputs) (state : IsStateOf r.inputs.state.
       right : header_refusal (given_of rows r) (header_in r) ≡ None
       right = no-refusal (header_refusal (given_of rows r) (header_in r)) refl
 
-      base-root : replicate 32 0 ≡ root rows
-      base-root = root_of_none ∙ ap root (sym state.none)
-
       outcome : IsReplayed (given_of rows r) (header_in r) (steps_in r) x → (o : Outcome) × (Answers (given_of rows r) (header_in r) (steps_in r) (replayed o) × IsLeftByOutcome o left)
       outcome a =
           let ends =
           outcome-rows x.rows.items a.outcome.rows rows planned.digest p.next.items x.verdict a.outcome.verdict a.verdict_is a.left (λ n. (a.lost n).0)
-          planned.done (λ n. ((planned.old n).0 ∙ base-root, (planned.old n).1 ∙ state.text)) in (
+          planned.done (λ n. ((planned.old n).0, (planned.old n).1 ∙ state.text)) in (
             a.outcome,
             (
               a.answer,

@@ -1,5 +1,5 @@
 -- What a plan of a replay holds.
-use Rattle.std.specs.Prelude.{◌≡◌, ◌≢◌, ◌⊎◌, ◌++◌, ℕ, List, [], length, map, replicate, Option, Some, None, ⊤}
+use Rattle.std.specs.Prelude.{◌≡◌, ◌≢◌, ◌⊎◌, ◌++◌, ℕ, List, [], length, map, Option, Some, None, ⊤}
 use Rattle.calculus.specs.Log.{Step, Header}
 use Rattle.calculus.specs.Root.{root}
 use Rattle.calculus.specs.Rows.{Row}
@@ -63,16 +63,16 @@ pub record IsReplayPlan (rows : List Row) (r : ReplayInputs) (p : ReplayPlan) : 
   pub right : header_refusal (given_of rows r) (header_in r) ≡ None
   pub answer : IsLeftByAnswer (given_of rows r) (header_in r) left
   pub steps : left.report.steps ≡ length left.steps
-  pub old : left.report.verdict ≢ Done → left.next ≡ r.inputs.state.items
+  pub old : left.report.verdict ≢ Done → left.next ≡ r.inputs.base.text.items
   pub silent : left.report.verdict ≢ Done → left.output ≡ []
   pub next : p.next.items ≡ left.next
   pub bytes : p.bytes.items ≡ bytes_of left
   pub verdict : p.verdict ≡ left.report.verdict
 
--- the bytes that are made of what a log's replay came to
-pub record IsPlanned (r : ReplayInputs) (x : Replayed) (p : ReplayPlan) : Type 0 where
+-- the bytes that are made of what the replay of a log of so many steps came to, from a state with this text and this root
+pub record IsPlanned (text base : List ℕ) (count : ℕ) (x : Replayed) (p : ReplayPlan) : Type 0 where
   pub digest : List ℕ
   pub done : x.verdict ≡ Done → (digest ≡ root x.rows.items) × (p.next.items ≡ state_text x.rows.items)
-  pub old : x.verdict ≢ Done → (digest ≡ replicate 32 0) × (p.next.items ≡ r.inputs.state.items)
-  pub bytes : p.bytes.items ≡ printed (verdict_of x.verdict) x.output.items ++ report_line (record { verdict = x.verdict; cost = x.cost; root = digest; steps = length r.log.steps.items })
+  pub old : x.verdict ≢ Done → (digest ≡ base) × (p.next.items ≡ text)
+  pub bytes : p.bytes.items ≡ printed (verdict_of x.verdict) x.output.items ++ report_line (record { verdict = x.verdict; cost = x.cost; root = digest; steps = count })
   pub verdict : p.verdict ≡ x.verdict

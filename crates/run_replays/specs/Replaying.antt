@@ -21,7 +21,7 @@ use Rattle.rho_outside.specs.Put.{GrewBy}
 use Rattle.rho_outside.specs.Kept.{with_files}
 use Rattle.command_words.specs.Commands.{RunRequest}
 use Rattle.run_inputs.specs.Inputs.{Task, accepted_log}
-use Rattle.run_inputs.specs.Runnable.{IsStateOf}
+use Rattle.base_states.specs.Bases.{IsStateOf}
 use Rattle.run_reports.specs.Stops.{StopsOnTheWay}
 use Rattle.run_status.specs.Endings.{status_of}
 use Rattle.run_status.specs.declared.status.Status.{Status}

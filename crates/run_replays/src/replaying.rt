@@ -1,6 +1,5 @@
-ghost use Rattle.std.specs.Prelude.{◌≡◌, ◌≤◌, ◌⊎◌, ◌∷◌, [], List, length, IfOk, IfErr, OnOk, OnErr, IsErrOf, string_bytes};
+ghost use Rattle.std.specs.Prelude.{◌≡◌, ◌≤◌, ◌⊎◌, ◌∷◌, [], length, IfOk, IfErr, OnOk, OnErr, IsErrOf, string_bytes};
 ghost use Rattle.calculus.specs.Form.{IsClosed};
-ghost use Rattle.calculus.specs.Rows.{Row as StoredRow};
 ghost use Rattle.rho_outside.specs.Causes.{Rose};
 ghost use Rattle.rho_outside.specs.Put.{GrewBy};
 ghost use Rattle.rho_outside.specs.Kept.{with_files};
@@ -9,25 +8,25 @@ ghost use Rattle.sources.specs.Sources.{IsSourceOf};
 ghost use Rattle.replay_faults.specs.Refusals.{refusal_of};
 ghost use Rattle.command_words.specs.Answers.{run_of};
 ghost use Rattle.run_inputs.specs.Ended.{ReplayEnds};
-ghost use Rattle.run_inputs.specs.Runnable.{IsState, IsStateOf};
+ghost use Rattle.run_inputs.specs.Given.{IsBase};
 ghost use Rattle.run_status.specs.Endings.{OnRefusal, OnHalt, OnVerdict};
 ghost use Rattle.run_replays.specs.Replaying.{IsSettled, ReplayLeaves, ReplayLeavesInPart};
 ghost use Rattle.run_replays.specs.ReplayPlans.{IsPlanned, IsReplayPlan, IsReplayStop, ReplayStatusOf};
 ghost use Rattle.run_replays.specs.Replays.{IsReplay};
 ghost use Rattle.run_deploys.specs.World.{world};
 
+use calculus::Digest;
 use command_words::Run;
 use event_log::MOST_STEPS;
-use name_seed::{EMPTY_ROOT, bytes_digest};
+use name_seed::bytes_digest;
 use ordered_replay::{Replayed, replay as replay_log};
 use replay_faults::ReplayFault;
 use rho_outside::{Shelf, Sink};
 use run_deploys::{next_state, printed};
-use run_inputs::{ReplayInputs, accept_replay};
+use run_inputs::{Base, Inputs, ReplayInputs, accept_replay};
 use run_reports::{Halt, keep_and_put, report};
 use run_status::{Status, status_of};
 use run_verdict::Verdict;
-use space_row::Row;
 use std::alloc::{AllocError, Global};
 
 /// All the bytes that a replay writes, and how its run ended.
@@ -39,14 +38,16 @@ pub struct ReplayPlan {
     pub verdict: Verdict,
 }
 
-/// Makes all bytes that are to be written of what a log's replay came to.
+/// Makes all bytes that are to be written of what the replay of a log of so many steps came to, from a state with this
+/// text and this root.
 fn plan_of(
     alloc: Global,
-    inputs: &ReplayInputs,
+    text: Vec<u8>,
+    base: &Digest,
+    count: u32,
     replayed: Replayed,
 ) -> Result<ReplayPlan, AllocError>
-    requires few { length inputs.now.log.steps.items ≤ 1048608 }
-    ensures { IfOk result (IsPlanned inputs.now replayed) }
+    ensures { IfOk result (IsPlanned text.items base.now.0 count replayed) }
 {
     let Replayed {
         verdict,
@@ -54,9 +55,7 @@ fn plan_of(
         rows,
         output,
     } = replayed;
-    let state = inputs.inputs.state.as_slice();
-    let (root, next) = next_state(alloc, verdict, rows.as_slice(), &EMPTY_ROOT, state)?;
-    let count = inputs.log.steps.len() as u32;
+    let (root, next) = next_state(alloc, verdict, rows, base, text)?;
     let line = report(alloc, verdict, cost, &root, count)?;
     let mut bytes = printed(verdict, output);
     bytes.extend_from_slice(line.as_slice())?;
@@ -77,34 +76,35 @@ fn status_of_fault(fault: ReplayFault) -> Status
     }
 }
 
-/// Replays the log from the state, so far the empty one, and makes all bytes that are to be written.
-fn make_replay_plan(alloc: Global, inputs: &ReplayInputs) -> Result<ReplayPlan, Status>
-    requires state { IsState inputs.now.inputs.state.items }
-    requires source { IsSourceOf inputs.now.inputs.source.items inputs.now.inputs.term }
-    requires short { length inputs.now.inputs.source.items ≤ 1048576 }
-    requires closed { IsClosed inputs.now.inputs.term }
-    ensures plan { IfOk result (λ p. (rows : List StoredRow) → IsStateOf inputs.now.inputs.state.items rows → IsReplayPlan rows inputs.now p) }
-    ensures stop { IfErr result (λ s. (rows : List StoredRow) → IsStateOf inputs.now.inputs.state.items rows → IsReplayStop rows inputs.now s) }
+/// Replays the log from the state, and makes all bytes that are to be written.
+fn make_replay_plan(alloc: Global, inputs: ReplayInputs) -> Result<ReplayPlan, Status>
+    requires state { IsBase inputs.inputs.base }
+    requires source { IsSourceOf inputs.inputs.source.items inputs.inputs.term }
+    requires short { length inputs.inputs.source.items ≤ 1048576 }
+    requires closed { IsClosed inputs.inputs.term }
+    ensures plan { IfOk result (IsReplayPlan inputs.inputs.base.checkpoint inputs) }
+    ensures stop { IfErr result (IsReplayStop inputs.inputs.base.checkpoint inputs) }
 {
-    if inputs.log.steps.len() > MOST_STEPS {
+    let ReplayInputs { inputs, log } = inputs;
+    let Inputs {
+        base,
+        prices,
+        source,
+        term,
+    } = inputs;
+    let Base { text, checkpoint } = base;
+    if log.steps.len() > MOST_STEPS {
         return Err(Status::NoMemory);
     }
-    let given = &inputs.inputs;
-    let source = bytes_digest(given.source.as_slice());
-    let base: Vec<Row> = Vec::new(alloc);
-    let replayed = match replay_log(
-        alloc,
-        base.as_slice(),
-        &EMPTY_ROOT,
-        &given.term,
-        &source,
-        &given.prices,
-        &inputs.log,
-    ) {
+    let count = log.steps.len() as u32;
+    let source = bytes_digest(source.as_slice());
+    let root = checkpoint.root();
+    let rows = checkpoint.rows();
+    let replayed = match replay_log(alloc, rows, &root, &term, &source, &prices, &log) {
         Ok(replayed) => replayed,
         Err(fault) => return Err(status_of_fault(fault)),
     };
-    match plan_of(alloc, inputs, replayed) {
+    match plan_of(alloc, text, &root, count, replayed) {
         Ok(plan) => Ok(plan),
         Err(_) => Err(Status::NoMemory),
     }
@@ -141,7 +141,7 @@ fn replay_run<S: Shelf, O: Sink>(alloc: Global, run: &Run, shelf: &mut S, out: &
         Ok(inputs) => inputs,
         Err(status) => return status,
     };
-    let plan = match make_replay_plan(alloc, &inputs) {
+    let plan = match make_replay_plan(alloc, inputs) {
         Ok(plan) => plan,
         Err(status) => return status,
     };

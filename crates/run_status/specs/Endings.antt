@@ -5,7 +5,7 @@ use Rattle.command_words.specs.declared.usage.Usage.{Usage as Fault}
 use Rattle.run_verdict.specs.declared.verdict.Verdict.{Verdict}
 use Rattle.run_verdict.specs.declared.verdict.Verdict.TheVariants as ending
 use Rattle.run_status.specs.declared.status.Status.{Status}
-use Rattle.run_status.specs.declared.status.Status.TheVariants.{Done, Usage, ReadFault, WriteFault, Source, Prices, Limit, Log, Replay, Unbuilt, UnbuiltVerb, Exhausted, Faulted, NoMemory, TooLarge}
+use Rattle.run_status.specs.declared.status.Status.TheVariants.{Done, Usage, ReadFault, WriteFault, State, Source, Prices, Limit, Log, Replay, UnbuiltVerb, Exhausted, Faulted, NoMemory, TooLarge}
 
 -- the words were refused for this
 abbrev pub OnUsage : Status → (Fault → Type 0) → Type 0
@@ -23,21 +23,21 @@ abbrev pub OnUnbuiltVerb : Status → (Verb → Type 0) → Type 0
 OnUnbuiltVerb (UnbuiltVerb verb) P = P verb
 OnUnbuiltVerb _ P = ⊤
 
--- the words, the verb, a file, the prices, the limit, the source or the log was refused
+-- the words, the verb, a file, the state, the prices, the limit, the source or the log was refused
 abbrev pub OnRefusal : Status → Type 0 → Type 0
 OnRefusal (Usage u) P = P
 OnRefusal (ReadFault i) P = P
+OnRefusal (State f) P = P
 OnRefusal (Source f) P = P
 OnRefusal (Prices f) P = P
 OnRefusal (Limit n m) P = P
 OnRefusal (Log f) P = P
 OnRefusal (Replay f) P = P
-OnRefusal (Unbuilt i) P = P
 OnRefusal (UnbuiltVerb verb) P = P
 OnRefusal (TooLarge i n m) P = P
 OnRefusal _ P = ⊤
 
--- the verb, a file, the prices, the limit, the source or the log was refused
+-- the verb, a file, the state, the prices, the limit, the source or the log was refused
 abbrev pub OnFileRefusal : Status → Type 0 → Type 0
 OnFileRefusal (Usage u) P = ⊤
 OnFileRefusal status P = OnRefusal status P

@@ -22,6 +22,8 @@ use Rattle.scope_check.specs.declared.fault.ScopeFault.{ScopeFault}
 use Rattle.scope_check.specs.declared.fault.ScopeFault.TheVariants as scopes
 use Rattle.sources.specs.declared.fault.SourceFault.{SourceFault}
 use Rattle.sources.specs.declared.fault.SourceFault.TheVariants as source
+use Rattle.state_reader.specs.declared.fault.StateFault.{StateFault}
+use Rattle.state_reader.specs.declared.fault.StateFault.TheVariants as stated
 use Rattle.run_status.specs.declared.status.Input.{Input}
 use Rattle.run_status.specs.declared.status.Input.TheVariants as input
 use Rattle.run_status.specs.declared.status.Status.{Status}
@@ -33,6 +35,7 @@ code_of status.Done = 0
 code_of (status.Usage u) = 2
 code_of (status.ReadFault i) = 3
 code_of status.WriteFault = 4
+code_of (status.State f) = 5
 code_of (status.Source f) = 6
 code_of (status.Prices f) = 7
 code_of (status.Limit n m) = 7
@@ -42,7 +45,6 @@ code_of status.Exhausted = 10
 code_of status.Faulted = 11
 code_of status.NoMemory = 12
 code_of (status.TooLarge i n m) = 13
-code_of (status.Unbuilt i) = 20
 code_of (status.UnbuiltVerb v) = 20
 
 -- how an input is named in messages
@@ -127,6 +129,18 @@ digest_text d = encode_lower d.0
 abbrev pub digests_text : List Digest → List ℕ
 digests_text ds = join_by digest_text (codes ",") ds
 
+-- the same of a step that is still allowed: the id of its receiver, and those of its data
+abbrev pub step_text : Digest → List Digest → List ℕ
+step_text cont taken = codes "Reducible cont=" ++ (digest_text cont ++ (codes " taken=" ++ digests_text taken))
+
+-- the same of what the bytes of a state are refused for
+abbrev pub state_text : StateFault → List ℕ
+state_text (stated.Short at) = codes "Short at=" ++ decimal at
+state_text (stated.NotCanonical at) = codes "NotCanonical at=" ++ decimal at
+state_text (stated.WrongRoot stored found) = codes "WrongRoot stored=" ++ (digest_text stored ++ (codes " found=" ++ digest_text found))
+state_text (stated.Reducible cont taken) = step_text cont taken.items
+state_text stated.NoMemory = codes "NoMemory"
+
 -- the same of what a log is refused for as that of a run
 abbrev pub replay_text : ReplayFault → List ℕ
 replay_text (replayed.WrongBase log state) = codes "WrongBase log=" ++ (digest_text log ++ (codes " state=" ++ digest_text state))
@@ -134,7 +148,7 @@ replay_text (replayed.WrongSource log given) = codes "WrongSource log=" ++ (dige
 replay_text (replayed.WrongPrices log given) = codes "WrongPrices log=" ++ (digest_text log ++ (codes " given=" ++ digest_text given))
 replay_text (replayed.WrongLimit log most) = codes "WrongLimit log=" ++ (decimal log ++ (codes " most=" ++ decimal most))
 replay_text (replayed.NoRun step) = codes "NoRun step=" ++ decimal step
-replay_text (replayed.Reducible cont taken) = codes "Reducible cont=" ++ (digest_text cont ++ (codes " taken=" ++ digests_text taken.items))
+replay_text (replayed.Reducible cont taken) = step_text cont taken.items
 replay_text replayed.NoMemory = codes "NoMemory"
 
 -- the line that is written for a status, without its end: the group, the name and each field
@@ -143,12 +157,12 @@ message_of status.Done = []
 message_of (status.Usage u) = codes "rho: usage: " ++ usage_text u
 message_of (status.ReadFault i) = codes "rho: read: ReadFault input=" ++ input_name i
 message_of status.WriteFault = codes "rho: write: WriteFault"
+message_of (status.State f) = codes "rho: state: " ++ state_text f
 message_of (status.Source f) = codes "rho: source: " ++ source_text f
 message_of (status.Prices f) = codes "rho: prices: " ++ price_text f
 message_of (status.Limit n m) = codes "rho: prices: Limit limit=" ++ (decimal n ++ (codes " most=" ++ decimal m))
 message_of (status.Log f) = codes "rho: log: " ++ log_text f
 message_of (status.Replay f) = codes "rho: replay: " ++ replay_text f
-message_of (status.Unbuilt i) = codes "rho: unbuilt: Unbuilt input=" ++ input_name i
 message_of (status.UnbuiltVerb v) = codes "rho: unbuilt: UnbuiltVerb verb=" ++ verb_name v
 message_of status.Exhausted = []
 message_of status.Faulted = []

@@ -2,13 +2,16 @@ ghost use Rattle.std.specs.Prelude.{◌≡◌, IfOk, string_bytes};
 ghost use Rattle.run_status.specs.Endings.{status_of};
 ghost use Rattle.run_status.specs.Message.{code_of, message_of};
 
-use crate::wording::{log_text, price_text, replay_text, source_text, usage_text, verb_name};
+use crate::wording::{
+    log_text, price_text, replay_text, source_text, state_text, usage_text, verb_name,
+};
 use command_words::{Usage, Verb};
 use event_log::LogFault;
 use phlo_meter::PriceFault;
 use replay_faults::ReplayFault;
 use run_verdict::Verdict;
 use sources::SourceFault;
+use state_reader::StateFault;
 use std::alloc::{AllocError, Global};
 use std::fmt;
 
@@ -33,6 +36,8 @@ pub enum Status {
     ReadFault { input: Input },
     /// A file could not be kept, or the report not be put.
     WriteFault,
+    /// The bytes of the state are refused. Want of memory is no such fault.
+    State(StateFault),
     /// The source is refused. Want of memory is no such fault.
     Source(SourceFault),
     /// The price text is refused. Want of memory is no such fault.
@@ -43,8 +48,6 @@ pub enum Status {
     Log(LogFault),
     /// The log is refused as that of a run. Want of memory is no such fault.
     Replay(ReplayFault),
-    /// An input has a form that is not built yet.
-    Unbuilt { input: Input },
     /// The words ask for a verb that is not built yet.
     UnbuiltVerb { verb: Verb },
     /// The verdict is Exhausted: the price passed the limit.
@@ -83,6 +86,7 @@ impl Status {
             Status::Usage(_) => 2,
             Status::ReadFault { .. } => 3,
             Status::WriteFault => 4,
+            Status::State(_) => 5,
             Status::Source(_) => 6,
             Status::Prices(_) | Status::Limit { .. } => 7,
             Status::Log(_) => 8,
@@ -91,7 +95,7 @@ impl Status {
             Status::Faulted => 11,
             Status::NoMemory => 12,
             Status::TooLarge { .. } => 13,
-            Status::Unbuilt { .. } | Status::UnbuiltVerb { .. } => 20,
+            Status::UnbuiltVerb { .. } => 20,
         }
     }
 
@@ -113,6 +117,10 @@ impl Status {
             }
             Status::ReadFault { input } => format!(in alloc; "rho: read: ReadFault input={input}"),
             Status::WriteFault => String::from_str(alloc, "rho: write: WriteFault"),
+            Status::State(fault) => {
+                let fault = state_text(alloc, fault)?;
+                format!(in alloc; "rho: state: {fault}")
+            }
             Status::Source(fault) => {
                 let fault = source_text(alloc, fault)?;
                 format!(in alloc; "rho: source: {fault}")
@@ -132,7 +140,6 @@ impl Status {
                 let fault = replay_text(alloc, fault)?;
                 format!(in alloc; "rho: replay: {fault}")
             }
-            Status::Unbuilt { input } => format!(in alloc; "rho: unbuilt: Unbuilt input={input}"),
             Status::UnbuiltVerb { verb } => {
                 let verb = verb_name(*verb);
                 format!(in alloc; "rho: unbuilt: UnbuiltVerb verb={verb}")

@@ -1,5 +1,5 @@
 ghost use Rattle.std.specs.Prelude.{◌≡◌, IfOk, string_bytes};
-ghost use Rattle.run_status.specs.Message.{digest_text, digests_text, lex_text, log_text, parse_text, price_text, replay_text, scope_text, source_text, usage_text, verb_name};
+ghost use Rattle.run_status.specs.Message.{digest_text, digests_text, lex_text, log_text, parse_text, price_text, replay_text, scope_text, source_text, state_text, step_text, usage_text, verb_name};
 
 use calculus::Digest;
 use command_words::{Usage, Verb};
@@ -10,6 +10,7 @@ use rho_lexer::LexFault;
 use rho_parser::ParseFault;
 use scope_check::ScopeFault;
 use sources::SourceFault;
+use state_reader::StateFault;
 use std::alloc::{AllocError, Global};
 
 /// The name and the field of what the words are refused for.
@@ -38,6 +39,32 @@ pub(crate) fn verb_name(verb: Verb) -> &'static str
         Verb::Inspect => "inspect",
         Verb::Workload => "workload",
     }
+}
+
+/// The name and the fields of what the bytes of a state are refused for.
+pub(crate) fn state_text(alloc: Global, fault: &StateFault) -> Result<String, AllocError>
+    ensures { IfOk result (λ text. string_bytes text ≡ state_text fault.now) }
+{
+    match fault {
+        StateFault::Short { at } => format!(in alloc; "Short at={at}"),
+        StateFault::NotCanonical { at } => format!(in alloc; "NotCanonical at={at}"),
+        StateFault::WrongRoot { stored, found } => {
+            let stored = digest_text(alloc, stored)?;
+            let found = digest_text(alloc, found)?;
+            format!(in alloc; "WrongRoot stored={stored} found={found}")
+        }
+        StateFault::Reducible { cont, taken } => step_text(alloc, cont, taken.as_slice()),
+        StateFault::NoMemory => String::from_str(alloc, "NoMemory"),
+    }
+}
+
+/// The name and the fields of a step that is still allowed: the id of its receiver, and those of its data.
+fn step_text(alloc: Global, cont: &Digest, taken: &[Digest]) -> Result<String, AllocError>
+    ensures { IfOk result (λ text. string_bytes text ≡ step_text cont.now taken.now) }
+{
+    let cont = digest_text(alloc, cont)?;
+    let taken = digests_text(alloc, taken)?;
+    format!(in alloc; "Reducible cont={cont} taken={taken}")
 }
 
 /// The name and the fields of what a source is refused for.
@@ -142,11 +169,7 @@ pub(crate) fn replay_text(alloc: Global, fault: &ReplayFault) -> Result<String, 
             format!(in alloc; "WrongLimit log={log} most={most}")
         }
         ReplayFault::NoRun { step } => format!(in alloc; "NoRun step={step}"),
-        ReplayFault::Reducible { cont, taken } => {
-            let cont = digest_text(alloc, cont)?;
-            let taken = digests_text(alloc, taken.as_slice())?;
-            format!(in alloc; "Reducible cont={cont} taken={taken}")
-        }
+        ReplayFault::Reducible { cont, taken } => step_text(alloc, cont, taken.as_slice()),
         ReplayFault::NoMemory => String::from_str(alloc, "NoMemory"),
     }
 }

@@ -15,11 +15,11 @@ returns g c =
     record {
       is_exact = record {
         ends = d.ends;
-        exact = λ files e. deploy_exact told names limit before now files e s d.ends;
-        state_exact = λ files e. if_ok _ (accepted_state names files) (λ state a. deploy_state_exact told names limit before now files e s d.ends state a);
-        source_exact = λ files e has. if_ok _ (accepted names limit files) (λ task a n. deploy_source_exact told names limit before now files e task a n has s d.ends);
+        exact = λ files e own. deploy_exact told names limit before now files e own s d.ends;
+        state_exact = λ files e own. if_ok _ (accepted_state names files) (λ state a. deploy_state_exact told names limit before now files e own s d.ends state a);
+        source_exact = λ files e own has. if_ok _ (accepted names limit files) (λ task a n. deploy_source_exact told names limit before now files e own task a n has s d.ends);
       };
-      complete = λ files e has. if_ok _ (accepted names limit files) (λ task a process n k p. deploy_complete told names limit before now files e task a n has s _ _ d.ends process d.write_fault k p);
+      complete = λ files e own has. if_ok _ (accepted names limit files) (λ task a process n k p. deploy_complete told names limit before now files e own task a n has s _ _ d.ends process d.write_fault k p);
       stays = d.stays;
       write_fault = d.write_fault;
       verdict = d.verdict;

@@ -14,12 +14,12 @@ pub returns-in-Ok-write_plan-clause-ends : goal.returns-in-Ok-write_plan-clause-
 returns-in-Ok-write_plan-clause-ends g c =
     let i = c.in-Ok.inputs in
     verdict_ends (g.S.Shelf.files c.args.shelf.now) (run_of c.args.run.now) c.args.limit (g.S.Shelf.fetch_faults c.args.shelf.now) (g.S.Shelf.fetch_faults c.write_plan.new.shelf) c.in-Ok-make_plan.plan.verdict c.status_of.result c.status_of.ensures
-    (accepted_in (g.S.Shelf.files c.args.shelf.now) (run_of c.args.run.now) c.args.limit (task_of i) c.in-Ok.ensures.accepted c.in-Ok.ensures.told c.in-Ok.ensures.state i.term c.in-Ok.ensures.term)
+    (accepted_in (g.S.Shelf.files c.args.shelf.now) (run_of c.args.run.now) c.args.limit (task_of i) c.in-Ok.ensures.accepted c.in-Ok.ensures.told (i.base.checkpoint, c.in-Ok.ensures.state) i.term c.in-Ok.ensures.term)
 
 pub returns-in-Err-WriteFault-clause-ends : goal.returns-in-Err-WriteFault-clause-ends
 returns-in-Err-WriteFault-clause-ends g c =
     let i = c.in-Ok.inputs in
-    accepted_in (g.S.Shelf.files c.args.shelf.now) (run_of c.args.run.now) c.args.limit (task_of i) c.in-Ok.ensures.accepted c.in-Ok.ensures.told c.in-Ok.ensures.state i.term c.in-Ok.ensures.term
+    accepted_in (g.S.Shelf.files c.args.shelf.now) (run_of c.args.run.now) c.args.limit (task_of i) c.in-Ok.ensures.accepted c.in-Ok.ensures.told (i.base.checkpoint, c.in-Ok.ensures.state) i.term c.in-Ok.ensures.term
 
 pub returns-in-Ok-write_plan-clause-verdict : goal.returns-in-Ok-write_plan-clause-verdict
 returns-in-Ok-write_plan-clause-verdict g c =

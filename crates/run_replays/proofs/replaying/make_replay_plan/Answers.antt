@@ -1,43 +1,52 @@
-use Rattle.std.proofs.Common.{◌≡◌, ◌∙◌, ◌⊎◌, List, ℕ, Some, refl, sym, ap, subst}
+use Rattle.std.proofs.Common.{◌≡◌, ◌∙◌, ◌⊎◌, List, ℕ, Some, length, refl, sym, ap, subst}
 use Rattle.std.specs.Prelude.{IsErrAnd}
 use Rattle.sha2.specs.Sha256.{sha256}
 use Rattle.calculus.specs.Rows.{Row}
 use Rattle.calculus.specs.Root.{root}
+use Rattle.calculus.specs.Steps.{differ}
 use Rattle.replays.specs.Replays.{Refusal, header_refusal, deploy_under}
 use Rattle.ordered_replay.specs.Answers.{Clashes, IsAnswered}
 use Rattle.ordered_replay.specs.Bases.{asked}
+use Rattle.ordered_replay.specs.Rows.{ids_of}
 use Rattle.replay_faults.specs.Refusals.{refusal_of}
-use Rattle.run_replays.specs.ReplayPlans.{header_in, steps_in}
-use Rattle.run_deploys.proofs.Running.{numberable, root_of_none}
+use Rattle.run_replays.specs.ReplayPlans.{header_in, steps_in, IsPlanned}
+use Rattle.run_deploys.proofs.Running.{numberable}
 use Rattle.run_replays.proofs.Replays.{replay_stop, replay_plan}
 use Rattle.run_replays.proofs.replaying.make_replay_plan.Goals as goal
 
 pub replay-requires-clause-root : goal.replay-requires-clause-root
-replay-requires-clause-root c = ap root (c.as_slice-2.ensures.value ∙ c.new-base.ensures.items) ∙ sym root_of_none
+replay-requires-clause-root c = ap root c.rows-rows.ensures.is ∙ sym c.root-root.ensures
+
+pub replay-requires-clause-ids : goal.replay-requires-clause-ids
+replay-requires-clause-ids c = subst (λ (rs : List Row). differ (ids_of rs) ≡ _) (sym c.rows-rows.ensures.is) c.requires.state.kept.order.ids
 
 pub replay-requires-clause-numberable : goal.replay-requires-clause-numberable
-replay-requires-clause-numberable c = numberable c.args.inputs.now.inputs.source.items c.args.inputs.now.inputs.term c.requires.source c.requires.short
+replay-requires-clause-numberable c = numberable c.args.inputs.inputs.source.items c.args.inputs.inputs.term c.requires.source c.requires.short
 
 pub returns-in-Err-clause-stop : goal.returns-in-Err-clause-stop
 returns-in-Err-clause-stop c =
-    let r = c.args.inputs.now in
+    let r = c.args.inputs in
+    let rows = r.inputs.base.checkpoint in
     let H : List Row → List ℕ → Type 0 = λ rows s. (x : Refusal) → header_refusal (asked rows r.inputs.term s r.inputs.prices) (header_in r) ≡ Some x → IsErrAnd c.replay.result (λ e. refusal_of e ≡ Some x) in
     let A : List Row → List ℕ → Type 0 = λ rows s. IsAnswered (asked rows r.inputs.term s r.inputs.prices) (header_in r) (steps_in r) c.replay.result ⊎ Clashes (deploy_under (header_in r).limit (asked rows r.inputs.term s r.inputs.prices)) (steps_in r) in
     let source : c.bytes_digest-source.result.0 ≡ sha256 r.inputs.source.items = c.bytes_digest-source.ensures ∙ ap sha256 c.as_slice.ensures.value in
-    λ rows state.
-    let base = c.as_slice-2.ensures.value ∙ (c.new-base.ensures.items ∙ sym state.none) in
+    let base = c.rows-rows.ensures.is in
     let header : H rows (sha256 r.inputs.source.items) = subst (λ (s : List ℕ). H rows s) source (subst (λ (rs : List Row). H rs c.bytes_digest-source.result.0) base c.replay.ensures.refused) in
     let answered : A rows (sha256 r.inputs.source.items) = subst (λ (s : List ℕ). A rows s) source (subst (λ (rs : List Row). A rs c.bytes_digest-source.result.0) base c.replay.ensures.answered) in
-    replay_stop rows r state c.replay.result header answered c.in-Err.fault c.in-Err.is (refusal_of c.in-Err.fault) refl c.status_of_fault.result c.status_of_fault.ensures
+    replay_stop rows r c.requires.state c.replay.result header answered c.in-Err.fault c.in-Err.is (refusal_of c.in-Err.fault) refl c.status_of_fault.result c.status_of_fault.ensures
 
 pub returns-in-Ok-plan_of-clause-plan : goal.returns-in-Ok-plan_of-clause-plan
 returns-in-Ok-plan_of-clause-plan c =
-    let r = c.args.inputs.now in
+    let r = c.args.inputs in
+    let rows = r.inputs.base.checkpoint in
     let H : List Row → List ℕ → Type 0 = λ rows s. (x : Refusal) → header_refusal (asked rows r.inputs.term s r.inputs.prices) (header_in r) ≡ Some x → IsErrAnd c.replay.result (λ e. refusal_of e ≡ Some x) in
     let A : List Row → List ℕ → Type 0 = λ rows s. IsAnswered (asked rows r.inputs.term s r.inputs.prices) (header_in r) (steps_in r) c.replay.result ⊎ Clashes (deploy_under (header_in r).limit (asked rows r.inputs.term s r.inputs.prices)) (steps_in r) in
     let source : c.bytes_digest-source.result.0 ≡ sha256 r.inputs.source.items = c.bytes_digest-source.ensures ∙ ap sha256 c.as_slice.ensures.value in
-    λ rows state.
-    let base = c.as_slice-2.ensures.value ∙ (c.new-base.ensures.items ∙ sym state.none) in
+    let base = c.rows-rows.ensures.is in
     let header : H rows (sha256 r.inputs.source.items) = subst (λ (s : List ℕ). H rows s) source (subst (λ (rs : List Row). H rs c.bytes_digest-source.result.0) base c.replay.ensures.refused) in
     let answered : A rows (sha256 r.inputs.source.items) = subst (λ (s : List ℕ). A rows s) source (subst (λ (rs : List Row). A rs c.bytes_digest-source.result.0) base c.replay.ensures.answered) in
-    replay_plan rows r state c.replay.result header answered c.in-Ok.replayed c.in-Ok.is c.in-Ok-plan_of.plan c.in-Ok-plan_of.ensures
+    let count : c.len-count.result ≡ length r.log.steps.items = c.len-count.ensures ∙ r.log.steps.ok.0 in
+    let planned : IsPlanned r.inputs.base.text.items (root rows) (length r.log.steps.items) c.in-Ok.replayed c.in-Ok-plan_of.plan =
+    subst (λ (n : ℕ). IsPlanned r.inputs.base.text.items (root rows) n c.in-Ok.replayed c.in-Ok-plan_of.plan) count
+    (subst (λ (d : List ℕ). IsPlanned r.inputs.base.text.items d c.len-count.result c.in-Ok.replayed c.in-Ok-plan_of.plan) c.root-root.ensures c.in-Ok-plan_of.ensures) in
+    replay_plan rows r c.requires.state c.replay.result header answered c.in-Ok.replayed c.in-Ok.is c.in-Ok-plan_of.plan planned

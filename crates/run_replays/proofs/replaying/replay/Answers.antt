@@ -17,13 +17,13 @@ returns g c =
     record {
       is_exact = record {
         ends = d.ends;
-        exact = λ files e. replay_exact IsSettled told names before now files e s d.ends;
-        state_exact = λ files e. if_ok _ (accepted_state names files) (λ state a. replay_state_exact IsSettled told names before now files e s d.ends state a);
-        source_exact = λ files e has. if_ok _ (accepted_source names files) (λ task a n. replay_source_exact IsSettled told names before now files e task a n has s d.ends);
-        log_exact = λ files e has. if_ok _ (accepted_log names files) (λ inputs a run n. replay_log_exact IsSettled told names before now files e inputs a n has s d.ends run);
-        answer_exact = λ files e has. if_ok _ (accepted_log names files) (λ inputs a run n. tells_of inputs s (λ k. replay_known IsSettled told names before now files e inputs a n has s d.ends run k));
+        exact = λ files e own. replay_exact IsSettled told names before now files e own s d.ends;
+        state_exact = λ files e own. if_ok _ (accepted_state names files) (λ state a. replay_state_exact IsSettled told names before now files e own s d.ends state a);
+        source_exact = λ files e own has. if_ok _ (accepted_source names files) (λ task a n. replay_source_exact IsSettled told names before now files e own task a n has s d.ends);
+        log_exact = λ files e own has. if_ok _ (accepted_log names files) (λ inputs a run n. replay_log_exact IsSettled told names before now files e own inputs a n has s d.ends run);
+        answer_exact = λ files e own has. if_ok _ (accepted_log names files) (λ inputs a run n. tells_of inputs s (λ k. replay_known IsSettled told names before now files e own inputs a n has s d.ends run k));
       };
-      complete = λ files e has. if_ok _ (accepted_log names files) (λ inputs a run n k p. ends_if_run inputs s _ _ d.write_fault k p (tells_of inputs s (λ l. replay_known IsSettled told names before now files e inputs a n has s d.ends run l)));
+      complete = λ files e own has. if_ok _ (accepted_log names files) (λ inputs a run n k p. ends_if_run inputs s _ _ d.write_fault k p (tells_of inputs s (λ l. replay_known IsSettled told names before now files e own inputs a n has s d.ends run l)));
       stays = d.stays;
       write_fault = d.write_fault;
       verdict = d.verdict;

@@ -17,4 +17,4 @@ returns c =
     let u = under-ids i.sends.entries i.receivers.entries es t.filed in
     let ids = c.ids_of.ensures ∙ ap (group i.sends.entries) c.in_ok-key.ensures in
     subst (λ (rs : List Row). HasSends rs ch (map (λ d. d.0) c.ids_of.result.now)) c.self.view_is
-    (subst (λ (ds : List Digest). HasSends (rows_in es) ch (map (λ d. d.0) ds)) (sym ids) (sends-found es i.sends.entries i.receivers.entries t (ids-tell es t.ordered u) ch c.requires))
+    (subst (λ (ds : List Digest). HasSends (rows_in es) ch (map (λ d. d.0) ds)) (sym ids) (sends-found es i.sends.entries i.receivers.entries i.shards t (ids-tell es t.ordered u) ch c.requires))

@@ -4,9 +4,9 @@ use Rattle.std.specs.List.{list_any}
 use Rattle.calculus.specs.Rows.{Row}
 use Rattle.row_search.proofs.Looping.{take-whole}
 use Rattle.shard_rows.specs.Shards.{stands_in}
-use Rattle.rspace_table.specs.Bits.{AreBits}
+use Rattle.shard_counts.specs.Bits.{AreBits, AreBitsBeside}
 use Rattle.rspace_table.specs.Hands.{InHand, shown_at}
-use Rattle.rspace_table.proofs.SetBits.{more-bits, or-none, same-bits}
+use Rattle.shard_bits.proofs.SetBits.{beside-on, or-none, same-bits}
 use Rattle.rspace_table.proofs.InHand.{shown-in-hand}
 use Rattle.rspace_table.proofs.held.Held.shards_of.Goals as goal
 
@@ -15,8 +15,8 @@ loop-shard-init c = same-bits _ _ _ (λ k. sym (or-none (stands_in k c.args.op.n
 
 pub loop-shard-preserved : goal.loop-shard-preserved
 loop-shard-preserved c =
-    more-bits (λ k. stands_in k c.args.op.now) (λ (x : Option (List Row)) (k : ℕ). shown_at x c.args.op.now k) c.deref-shard-items.result.now c.loop-shard.shard-index _ _ _ c.loop-shard-test.true c.loop-shard.invariant
-    (subst (λ (x : Option (List Row)). AreBits (shown_at x c.args.op.now) c.in_ok-bits-2.field-0) c.shard-item.is c.in_ok-bits-2.ensures)
+    beside-on (λ k. stands_in k c.args.op.now) (λ (x : Option (List Row)) (k : ℕ). shown_at x c.args.op.now k) c.deref-shard-items.result.now c.loop-shard.shard-index _ _ _ c.loop-shard-test.true c.loop-shard.invariant
+    (subst (λ (x : Option (List Row)). AreBitsBeside (λ k. stands_in k c.args.op.now) (shown_at x c.args.op.now) c.in_ok-bits-2.field-0) c.shard-item.is c.in_ok-bits-2.ensures)
 
 pub returns : goal.returns
 returns c all are =

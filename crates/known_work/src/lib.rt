@@ -1,0 +1,6 @@
+//! What a closed process unfolds to, as clauses name it.
+#![tactic(auto)]
+
+mod known;
+
+pub use crate::known::{KnownWork, known_work};

@@ -1,0 +1,4 @@
+mod Tallying
+mod Emptying
+mod Storing
+mod Closing

@@ -1,0 +1,7 @@
+mod Sums
+mod Causes
+mod Closes
+mod Opens
+mod Beginning
+mod Sides
+pub mod Crossing

@@ -1,0 +1,9 @@
+//! A deploy played by 1 to 32 workers.
+#![tactic(auto)]
+
+mod closing;
+mod opening;
+mod playing;
+mod side_by_side;
+
+pub use crate::playing::play;

@@ -1,0 +1,186 @@
+//! A play, from a base to what it came to.
+ghost use Rattle.std.specs.Prelude.{◌≡◌, ◌≢◌, ◌<◌, ◌≤◌, ◌+◌, ◌/◌, ◌^◌, ◌⊎◌, [], length, map, All, IfOk};
+ghost use Rattle.calculus.specs.Form.{IsBytes, IsClosed};
+ghost use Rattle.calculus.specs.Limits.{most_limit};
+ghost use Rattle.calculus.specs.Runs.{deploy_of, work_fault, work_price, work_products, Deploy, Work};
+ghost use Rattle.calculus.specs.Storing.{IsStorable};
+ghost use Rattle.calculus.specs.Seeds.{digest_of, Start};
+ghost use Rattle.calculus.specs.Unfolding.{rows_of, Unfolds};
+ghost use Rattle.event_log.specs.View.{step_of, TakesInRange};
+ghost use Rattle.fresh_digests.specs.Numbers.{IsNumberable};
+ghost use Rattle.fresh_digests.specs.Premises.{Collides};
+ghost use Rattle.run_entries.specs.Allowed.{ShowsAnId};
+ghost use Rattle.run_entries.specs.Entries.{steps_of, total_of};
+ghost use Rattle.play_scene.specs.Plays.{entries_of};
+ghost use Rattle.play_hub.specs.Endings.{play_of};
+ghost use Rattle.run_verdict.specs.View.{verdict_of};
+ghost use Rattle.play_outcome.specs.Bases.{IsQuietBase};
+ghost use Rattle.play_outcome.specs.Runs.{EndedPlay, IsRunOf};
+ghost use Rattle.play_pool.specs.Closing.{ClosesPlay};
+
+use crate::closing::close_play;
+use crate::opening::{open_play, rows_may_be_stored};
+use crate::side_by_side::side_by_side;
+use calculus::{Digest, FaultKind};
+use group_locks::{Closed, Pool};
+use known_work::{KnownWork, known_work};
+use name_seed::Seed;
+use play_hub::{PlayScene, PlayTerms};
+use play_outcome::{Played, outcome};
+use price_table::Prices;
+use rho_outside::Gate;
+use rho_term::Term;
+use run_verdict::Verdict;
+use shard_tables::ShardTables;
+use space_row::Row;
+use std::alloc::{AllocError, Global};
+use std::marker::Brand;
+use std::sync::Wait;
+use std::thread::Threads;
+use step_work::{Worked, work_source};
+
+// Opens a hub over the base with what the source offers and cost, lets each seat work in a thread of its own, and closes it. Want of
+// memory is the one error.
+fn run_hub<J: PlayTerms + Sync, T: ShardTables + Sync, R: Threads + Wait + Sync, G: Gate + Sync>(
+    rt: &R,
+    alloc: Global,
+    gate: &G,
+    workers: u32,
+    base: Vec<Row>,
+    offers: Vec<Row>,
+    price: u64,
+    prices: &Prices,
+    limit: u64,
+) -> Result<Closed<PlayScene<J, T>>, AllocError>
+    requires workers { (1 ≤ workers) × (workers ≤ 32) }
+    requires limit { limit ≤ most_limit prices.now }
+    requires terms { (J.deploy.prices ≡ prices.now) × (J.deploy.limit ≡ limit) × (J.deploy.rows ≡ base.items) }
+    requires source { (work_price J.deploy.limit J.source ≡ price) × (price ≤ limit + 1) × (offers.items ≡ rows_of (work_products J.source)) }
+    requires comm { 1 ≤ J.deploy.prices.comm }
+    ensures shards { IfOk result (λ r. length r.shards.items ≡ 64) }
+    ensures closes { IfOk result (λ r. ClosesPlay J.deploy J.source workers r.entries.items (map T.rows r.shards.items) r.charged) }
+{
+    let comm = prices.comm();
+    prove!(1 <= comm && comm <= 1_000_000);
+    let Pool { hub, seats } = open_play::<J, T>(alloc, base, offers, workers, price, limit)?;
+    let seats = side_by_side(rt, alloc, gate, &hub, seats, prices, limit)?;
+    close_play(hub, seats, workers)
+}
+
+// What a closed hub comes to, where the source has this fault. Want of memory is the one error.
+fn tell<J: PlayTerms + Sync, T: ShardTables + Sync>(
+    alloc: Global,
+    closed: Closed<PlayScene<J, T>>,
+    fault: Option<FaultKind>,
+    limit: u64,
+) -> Result<Played, AllocError>
+    requires few { length (steps_of (entries_of (play_of closed.entries.items))) < 2 ^ 32 }
+    requires shards { length closed.shards.items ≡ 64 }
+    ensures steps { IfOk result (λ played. map step_of played.steps.items ≡ steps_of (entries_of (play_of closed.entries.items))) }
+    ensures taken { IfOk result (λ played. All TakesInRange played.steps.items) }
+    ensures old { IfOk result (λ played. played.verdict ≢ Verdict.Done → played.rows.items ≡ []) }
+    ensures run { (deploy : Deploy) (source : Work) → deploy.limit ≡ limit → total_of deploy source (entries_of (play_of closed.entries.items)) ≡ closed.charged → work_fault source ≡ fault
+        → IsClosed deploy.process → All IsStorable deploy.rows → EndedPlay deploy source (play_of closed.entries.items) (map T.rows closed.shards.items)
+        → IfOk result (λ played. IsRunOf deploy (map step_of played.steps.items) (verdict_of played.verdict) played.cost played.rows.items played.output.items) }
+{
+    let Closed {
+        entries,
+        shards,
+        left: _,
+        charged,
+        stop: _,
+    } = closed;
+    outcome::<T>(alloc, entries, shards, charged, fault, limit)
+}
+
+// Plays a source that came to this. Contracts name the deploy and the work by the terms.
+fn play_source<
+    J: PlayTerms + Sync,
+    T: ShardTables + Sync,
+    R: Threads + Wait + Sync,
+    G: Gate + Sync,
+>(
+    rt: &R,
+    alloc: Global,
+    gate: &G,
+    workers: u32,
+    base: Vec<Row>,
+    root: &Digest,
+    term: &Term,
+    source: &Digest,
+    prices: &Prices,
+    limit: u64,
+    worked: Worked,
+    known: KnownWork,
+) -> Result<Played, AllocError>
+    requires workers { (1 ≤ workers) × (workers ≤ 32) }
+    requires limit { limit ≤ most_limit prices.now }
+    requires closed { IsClosed term.now }
+    requires deploy { J.deploy ≡ deploy_of prices.now limit base.items term.now source.now.0 }
+    requires unfolds { Unfolds prices.now limit term.now (digest_of (Start root.now.0 source.now.0)) J.source }
+    requires source { (work_price limit J.source ≡ worked.price) × (work_fault J.source ≡ worked.fault) × (worked.price ≤ limit + 1) × (worked.offers.items ≡ rows_of (work_products J.source)) }
+    ensures count { IfOk result (λ played. length played.steps.items ≤ limit / prices.now.comm + workers) }
+    ensures most { IfOk result (λ played. length played.steps.items ≤ 1048608) }
+    ensures taken { IfOk result (λ played. All TakesInRange played.steps.items) }
+    ensures old { IfOk result (λ played. played.verdict ≢ Verdict.Done → played.rows.items ≡ []) }
+    ensures run { IsNumberable term.now → IsBytes source.now.0 → IsQuietBase base.items root.now.0
+        → IfOk result (λ played. IsRunOf J.deploy (map step_of played.steps.items) (verdict_of played.verdict) played.cost played.rows.items played.output.items
+        ⊎ (ShowsAnId J.deploy (map step_of played.steps.items) ⊎ Collides J.deploy (map step_of played.steps.items))) }
+{
+    let _ = root;
+    let _ = term;
+    let _ = source;
+    let _ = known;
+    let comm = prices.comm();
+    prove!(1 <= comm && comm <= 1_000_000);
+    rows_may_be_stored(base.as_slice());
+    let Worked {
+        price,
+        offers,
+        fault,
+    } = worked;
+    let closed = run_hub::<J, T, R, G>(
+        rt, alloc, gate, workers, base, offers, price, prices, limit,
+    )?;
+    tell::<J, T>(alloc, closed, fault, limit)
+}
+
+/// Plays a closed process from a state of these rows with 1 to 32 workers side by side, over tables of this kind, until nothing is pending,
+/// a body has a fault or the price passes the limit. `root` is the root of the rows, and `source` the digest of the source's bytes. Each
+/// worker passes the gate where it has taken shards in hand, and where it has given them home.
+///
+/// Its steps are a run, or an id of the rows is shown that is built in or made again, or two of the texts that the deploy hashes are shown
+/// to have one digest. Want of memory is the one error.
+pub fn play<R: Threads + Wait + Sync, G: Gate + Sync, T: ShardTables + Sync>(
+    rt: &R,
+    alloc: Global,
+    gate: &G,
+    workers: u32,
+    base: Vec<Row>,
+    root: &Digest,
+    term: &Term,
+    source: &Digest,
+    prices: &Prices,
+    limit: u64,
+) -> Result<Played, AllocError>
+    requires workers { (1 ≤ workers) × (workers ≤ 32) }
+    requires limit { limit ≤ most_limit prices.now }
+    requires closed { IsClosed term.now }
+    ensures count { IfOk result (λ played. length played.steps.items ≤ limit / prices.now.comm + workers) }
+    ensures most { IfOk result (λ played. length played.steps.items ≤ 1048608) }
+    ensures taken { IfOk result (λ played. All TakesInRange played.steps.items) }
+    ensures old { IfOk result (λ played. played.verdict ≢ Verdict.Done → played.rows.items ≡ []) }
+    ensures run { IsNumberable term.now → IsBytes source.now.0 → IsQuietBase base.items root.now.0
+        → IfOk result (λ played. IsRunOf (deploy_of prices.now limit base.items term.now source.now.0) (map step_of played.steps.items) (verdict_of played.verdict) played.cost played.rows.items played.output.items
+        ⊎ (ShowsAnId (deploy_of prices.now limit base.items term.now source.now.0) (map step_of played.steps.items)
+        ⊎ Collides (deploy_of prices.now limit base.items term.now source.now.0) (map step_of played.steps.items))) }
+{
+    let comm = prices.comm();
+    prove!(1 <= comm && comm <= 1_000_000);
+    let seed = Seed::start(root, source);
+    let known = known_work(term, &seed, prices, limit);
+    let worked = work_source(alloc, term, &seed, prices, limit)?;
+    play_source::<Brand, T, R, G>(
+        rt, alloc, gate, workers, base, root, term, source, prices, limit, worked, known,
+    )
+}

@@ -1,0 +1,3 @@
+pub mod Headers
+mod Lawful
+pub mod Clashing

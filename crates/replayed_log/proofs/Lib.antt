@@ -1,0 +1,5 @@
+pub mod SetBits
+pub mod Showing
+pub mod Doing
+pub mod Becoming
+pub mod Crossing

@@ -1,0 +1,3 @@
+pub mod Names
+pub mod Replay
+pub mod Making

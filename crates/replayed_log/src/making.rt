@@ -1,0 +1,66 @@
+// A step of the log, ready to be drawn.
+ghost use Rattle.std.specs.Prelude.{◌≤◌, length, All, IfOk};
+ghost use Rattle.calculus.specs.Form.{IsClosed};
+ghost use Rattle.calculus.specs.Limits.{most_limit};
+ghost use Rattle.calculus.specs.Substitution.{put};
+ghost use Rattle.replayed_log.specs.Making.{IsMade};
+
+use crate::tries::{arrivals, hub_tries, with_tries};
+use event_log::LogStep;
+use name_seed::Seed;
+use price_table::Prices;
+use replay_hub::{Made, Try};
+use replay_shards::Ready;
+use replay_worker::Doing;
+use rho_term::Term;
+use space_row::Row;
+use std::alloc::{AllocError, Global};
+use std::snapshot::Snapshot;
+use step_work::{line_of, work_body};
+
+/// The step that a try names, done with what was found. Want of memory is the one error.
+pub(crate) fn make_step(
+    alloc: Global,
+    prices: &Prices,
+    limit: u64,
+    step: &LogStep,
+    tried: &Try<Term>,
+    ready: Ready,
+) -> Result<Doing<Row, Term>, AllocError>
+    requires limit { limit ≤ most_limit prices.now }
+    requires taken { length step.now.taken.items ≤ 16 }
+    requires bound { All IsClosed ready.found.bound.items }
+    requires closed { IsClosed (put ready.found.bound.items ready.found.body) }
+    ensures { IfOk result (IsMade prices.now limit step.now tried.now ready) }
+{
+    let Ready { found, next } = ready;
+    let comm = prices.comm();
+    let seed = Seed::comm(&step.cont, step.taken.as_slice(), step.repeat);
+    let worked = work_body(
+        alloc,
+        &found.body,
+        found.bound.as_slice(),
+        &seed,
+        prices,
+        limit,
+    )?;
+    let line = line_of(alloc, &found)?;
+    let next = hub_tries(alloc, next)?;
+    let made = Made {
+        step: tried.step,
+        channel: Snapshot::of(&tried.channel),
+        made: Snapshot::of(step),
+        gone: Snapshot::of(&found.gone),
+        offers: Snapshot::of(&worked.offers),
+        next: Snapshot::of(&next),
+        price: comm + worked.price,
+        fault: worked.fault,
+        line,
+    };
+    let tasks = with_tries(arrivals(alloc, tried.step, worked.offers)?, next)?;
+    Ok(Doing {
+        made,
+        gone: found.gone,
+        tasks,
+    })
+}

@@ -1,9 +1,0 @@
-use Rattle.std.proofs.Common.{◌∷◌, ◌++◌, map, take, length}
-use Rattle.sha2.specs.Hashers.{Holds256}
-use Rattle.calculus.specs.Bytes.{be32, joined}
-use Rattle.state_writer.proofs.root.group_digest.Given as goal
-
--- the hasher holds the tag, the key, the number of rows and the codes so far
-abbrev pub invariant-loop-row : goal.invariant-loop-row
-invariant-loop-row l =
-    Holds256 l.hasher (0x10 ∷ (l.key.0 ++ (be32 (length l.rows) ++ joined (map (λ r. r.now.code.items) (take l.row-index l.rows)))))
