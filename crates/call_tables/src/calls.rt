@@ -1,17 +1,10 @@
 use crate::files::{Files, told_bytes};
 use rho_main::{Status, run};
-use rho_outside::{MemSink, OpenGate};
+use rho_outside::OpenGate;
 use std::alloc::Global;
 use std::sync::Wait;
 use std::thread::Threads;
 use table_lines::LineFault;
-
-/// What a call came to: its status, and what it put.
-#[derive(Drop)]
-struct Ended {
-    status: Status,
-    out: MemSink,
-}
 
 /// The words of a command line, which stand between spaces. An empty text has none.
 fn words_of(alloc: Global, text: &str) -> Result<Vec<String>, LineFault> {
@@ -30,44 +23,52 @@ fn call<R: Threads + Wait + Sync>(
     alloc: Global,
     text: &str,
     files: &mut Files,
-) -> Result<Ended, LineFault> {
+) -> Result<Status, LineFault> {
     let words = words_of(alloc, text)?;
-    let mut out = MemSink::new(alloc);
-    let status = run(
+    Ok(run(
         rt,
         alloc,
         words.as_slice(),
         &mut files.shelf,
-        &mut out,
+        &mut files.out,
         &OpenGate,
-    );
-    Ok(Ended { status, out })
+    ))
 }
 
 /// One thing that a call came to: its code, its message, what it put, or the bytes of a file.
-fn shown(alloc: Global, ended: &Ended, files: &mut Files, name: &str) -> Result<String, LineFault> {
+fn shown(
+    alloc: Global,
+    status: &Status,
+    files: &mut Files,
+    name: &str,
+) -> Result<String, LineFault> {
     match name {
-        "code" => Ok(format!(in alloc; "{}", ended.status.code())?),
-        "message" => told_bytes(alloc, ended.status.message(alloc)?.as_slice()),
-        "out" => told_bytes(alloc, ended.out.bytes.as_slice()),
+        "code" => Ok(format!(in alloc; "{}", status.code())?),
+        "message" => told_bytes(alloc, status.message(alloc)?.as_slice()),
+        "out" => told_bytes(alloc, files.out.bytes.as_slice()),
         _ => files.told(alloc, name),
     }
 }
 
 /// What a call came to, by the names of what is shown.
-fn told(alloc: Global, ended: &Ended, files: &mut Files, names: &str) -> Result<String, LineFault> {
+fn told(
+    alloc: Global,
+    status: &Status,
+    files: &mut Files,
+    names: &str,
+) -> Result<String, LineFault> {
     let mut told = String::new(alloc);
     for name in names.split('+') {
         if !told.is_empty() {
             told.push_str(" | ")?;
         }
-        told.push_str(shown(alloc, ended, files, name)?.as_str())?;
+        told.push_str(shown(alloc, status, files, name)?.as_str())?;
     }
     Ok(told)
 }
 
 /// A call. `shows` is what is shown of it, names with `+` between them; the fields are its words, and behind each `<>` a file,
-/// its name and its text with `=` between them.
+/// its name and its text with `=` between them, or which call of the files or of the output fails.
 pub fn answer<R: Threads + Wait + Sync>(
     rt: &R,
     alloc: Global,
@@ -80,6 +81,6 @@ pub fn answer<R: Threads + Wait + Sync>(
     for part in parts {
         files.set(alloc, part)?;
     }
-    let ended = call(rt, alloc, words, &mut files)?;
-    told(alloc, &ended, &mut files, shows)
+    let status = call(rt, alloc, words, &mut files)?;
+    told(alloc, &status, &mut files, shows)
 }

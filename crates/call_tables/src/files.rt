@@ -1,4 +1,4 @@
-use rho_outside::{MemShelf, Shelf};
+use rho_outside::{MemShelf, MemSink, Shelf};
 use sha2::{Digest as _, Sha256};
 use std::alloc::Global;
 use std::str;
@@ -10,21 +10,31 @@ const MOST: u64 = 1_000_000;
 /// The most bytes that are shown one by one. Of more the digest is shown.
 const FEW: usize = 600;
 
-/// Files in memory.
+/// Files and an output in memory.
 #[derive(Drop)]
 pub struct Files {
     pub shelf: MemShelf,
+    pub out: MemSink,
 }
 
 impl Files {
     pub fn new(alloc: Global) -> Files {
         Files {
             shelf: MemShelf::new(alloc),
+            out: MemSink::new(alloc),
         }
     }
 
-    /// Keeps a file: its name, `=` and its text with escapes.
+    /// Keeps a file: its name, `=` and its text with escapes. Or the next call of the files fails, or that of the output.
     pub fn set(&mut self, alloc: Global, part: &str) -> Result<(), LineFault> {
+        match part {
+            "file fails" => Ok(self.shelf.failing.push(self.shelf.calls)?),
+            "put fails" => Ok(self.out.failing.push(self.out.calls)?),
+            _ => self.keep(alloc, part),
+        }
+    }
+
+    fn keep(&mut self, alloc: Global, part: &str) -> Result<(), LineFault> {
         let (name, text) = part.split_once('=').ok_or(LineFault::Field)?;
         let bytes = unescape(alloc, text)?;
         match self.shelf.keep(alloc, name, bytes.as_slice()) {

@@ -72,7 +72,7 @@ fn call<R: Threads + Wait + Sync>(
     Ok((status.code(), out.bytes))
 }
 
-/// What an example prints with the report behind it, and whether its replay says and leaves the same.
+/// What an example prints, and whether its replay says and leaves the same.
 fn run_example<R: Threads + Wait + Sync + Files>(
     rt: &R,
     alloc: Global,
@@ -91,9 +91,19 @@ fn run_example<R: Threads + Wait + Sync + Files>(
     let alike = code == again && played.as_slice() == replayed.as_slice();
     let same = is_same_file(alloc, &mut files)?;
     let text = String::from_utf8_lossy(alloc, played.as_slice())?;
+    let printed = before_report(&text);
     Ok(format!(in alloc;
-        "{name}: code {code}, replayed alike: {alike}, same state: {same}\n{text}"
+        "{name}: code {code}, replayed alike: {alike}, same state: {same}\n{printed}"
     )?)
+}
+
+/// What stands before the report. Which rows meet decides their ids and what is evaluated, so the root and the cost may differ from
+/// run to run.
+fn before_report(text: &str) -> &str {
+    match text.split_once("{\"cost\":") {
+        Some((before, _report)) => before,
+        None => text,
+    }
 }
 
 /// Whether the replay left the state that the deploy left.

@@ -17,40 +17,62 @@ ghost use Rattle.replay_hub.specs.Values.{entry_of, values};
 use group_locks::{Closed, Hub, Pool, Seat};
 use replay_hub::{ReplayScene, Task, close_replay};
 use replay_worker::{ReplayTables, work_through};
+use rho_outside::Gate;
 use std::alloc::{AllocError, Global};
 use std::sync::Wait;
 use std::thread;
 use std::thread::Threads;
 
+// These things with their numbers, from 0 on. Want of memory is the one error.
+fn numbered<A: Drop>(alloc: Global, things: Vec<A>) -> Result<Vec<(u32, A)>, AllocError>
+    requires few { length things.items ≤ 32 }
+    ensures { IfOk result (λ v. map (λ p. p.1) v.items ≡ things.items) }
+{
+    let mut pairs = Vec::new(alloc);
+    let mut number = 0u32;
+    for thing in things {
+        pairs.push((number, thing))?;
+        number += 1;
+    }
+    Ok(pairs)
+}
+
 // Does all jobs of a hub, each seat in a thread of its own. Want of memory is the one error.
-fn side_by_side<J: ReplayTables + Sync, R: Threads + Wait + Sync>(
+fn side_by_side<J: ReplayTables + Sync, R: Threads + Wait + Sync, G: Gate + Sync>(
     rt: &R,
     alloc: Global,
+    gate: &G,
     tables: &J,
     hub: &Hub<ReplayScene<J>>,
     seats: Vec<Seat<ReplayScene<J>>>,
 ) -> Result<Vec<Seat<ReplayScene<J>>>, AllocError>
+    requires few { length seats.items ≤ 32 }
     requires knows { J.knows tables.now }
     requires seats { All (λ s. IsIdle hub.now.table.shared.table_id s.state) seats.items }
     ensures count { IfOk result (λ v. length v.items ≡ length seats.items) }
     ensures each { IfOk result (λ v. All (λ s. AtRest hub.now.table.shared.table_id s.state × FoundAnEnd s.state) v.items) }
 {
+    let jobs = numbered(alloc, seats)?;
     thread::map_vec(
         rt,
-        seats,
-        &|seat: Seat<ReplayScene<J>>| -> Seat<ReplayScene<J>>
-            requires { J.knows tables.now × IsIdle hub.now.table.shared.table_id seat.state }
+        jobs,
+        &|job: (u32, Seat<ReplayScene<J>>)| -> Seat<ReplayScene<J>>
+            requires { J.knows tables.now × IsIdle hub.now.table.shared.table_id job.1.state }
             ensures { AtRest hub.entry.now.table.shared.table_id result.state × FoundAnEnd result.state }
-        { work_through(rt, alloc, tables, hub, seat) },
+        {
+            let (worker, seat) = job;
+            work_through(rt, alloc, gate, worker, tables, hub, seat)
+        },
     )
 }
 
 /// Replays a log by 1 to 32 workers, over these shards and with these jobs, with which a replay of the log may open. Once it
 /// has ended, what its entries did and its shards decide the log, or the digests of some replay of the log clash. Want of
-/// memory is the one error.
-pub fn replay_side_by_side<J: ReplayTables + Sync, R: Threads + Wait + Sync>(
+/// memory is the one error. Workers are numbered from 0, and pass the gate around each entry.
+pub fn replay_side_by_side<J: ReplayTables + Sync, R: Threads + Wait + Sync, G: Gate + Sync>(
     rt: &R,
     alloc: Global,
+    gate: &G,
     tables: &J,
     shards: Vec<J::Shard>,
     tasks: Vec<Task<J::Row, J::Channel>>,
@@ -65,7 +87,7 @@ pub fn replay_side_by_side<J: ReplayTables + Sync, R: Threads + Wait + Sync>(
 {
     let scene = ReplayScene::new();
     let Pool { hub, seats } = Hub::start(alloc, scene, shards, tasks, workers, 0, MOST_CHARGED)?;
-    let seats = side_by_side(rt, alloc, tables, &hub, seats)?;
+    let seats = side_by_side(rt, alloc, gate, tables, &hub, seats)?;
     let Ok(closed) = close_replay(hub, seats) else {
         return Err(AllocError);
     };

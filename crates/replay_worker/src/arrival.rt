@@ -8,11 +8,12 @@ ghost use Rattle.replay_hub.specs.declared.deed.Task.TheVariants.{Arrive};
 ghost use Rattle.replay_hub.specs.Values.{values};
 ghost use Rattle.replay_worker.specs.Looking.{IsArriving};
 
-use crate::ends::{give_back, give_up, leave};
+use crate::ends::{give_up, leave};
 use crate::tables::{Arriving, ReplayTables};
 use group_locks::{Hub, Seat};
 use replay_hub::worker::draw_entry;
 use replay_hub::{Arrived, Coming, Did, Entry, ReplayScene, Task};
+use rho_outside::{Gate, Moment};
 use std::alloc::Global;
 use std::snapshot::Snapshot;
 use std::sync::Wait;
@@ -52,10 +53,13 @@ fn draw_arrival<J: ReplayTables + Sync>(
     Some(tasks)
 }
 
-/// Brings a row in, and leaves the try of its first use. False where memory was wanting; the hub is then stopped.
-pub(crate) fn bring_in<J: ReplayTables + Sync, R: Wait>(
+/// Brings a row in, and leaves the try of its first use. The gate is passed as soon as the row's shards are in hand, and again when
+/// they are home. False where memory was wanting; the hub is then stopped.
+pub(crate) fn bring_in<J: ReplayTables + Sync, R: Wait, G: Gate>(
     rt: &R,
     alloc: Global,
+    gate: &G,
+    worker: u32,
     tables: &J,
     hub: &Hub<ReplayScene<J>>,
     seat: &mut Seat<ReplayScene<J>>,
@@ -75,10 +79,14 @@ pub(crate) fn bring_in<J: ReplayTables + Sync, R: Wait>(
     let Ok(arriving) = tables.prepare(alloc, &coming) else {
         return give_up(hub, seat);
     };
-    seat.take_group(rt, hub, held, arriving.shards);
-    let Some(tasks) = draw_arrival(alloc, tables, hub, seat, held, coming, arriving) else {
-        return give_back(hub, seat, held);
-    };
+    let shards = arriving.shards;
+    seat.take_group(rt, hub, held, shards);
+    gate.pass(rt, worker, Moment::Held { shards });
+    let drawn = draw_arrival(alloc, tables, hub, seat, held, coming, arriving);
     seat.give_group(hub, held);
-    leave(rt, hub, seat, tasks)
+    gate.pass(rt, worker, Moment::Freed { shards });
+    match drawn {
+        Some(tasks) => leave(rt, hub, seat, tasks),
+        None => give_up(hub, seat),
+    }
 }

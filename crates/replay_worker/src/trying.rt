@@ -15,6 +15,7 @@ use crate::tables::{Doing, Looked, ReplayTables};
 use group_locks::{Hub, Seat};
 use replay_hub::worker::{draw_entry, end_idle};
 use replay_hub::{Did, Entry, ReplayScene, Task, Try};
+use rho_outside::{Gate, Moment};
 use std::alloc::Global;
 use std::sync::Wait;
 
@@ -49,10 +50,12 @@ fn draw_step<J: ReplayTables + Sync>(
     tasks
 }
 
-// Does a step with the shards in hand, gives them home, and leaves what the step offers. False where memory was wanting;
-// the hub is then stopped.
-fn do_step<J: ReplayTables + Sync, R: Wait>(
+// Does a step with the shards in hand, gives them home, and leaves what the step offers. The gate is passed before the step is
+// done, and again when the shards are home. False where memory was wanting; the hub is then stopped.
+fn do_step<J: ReplayTables + Sync, R: Wait, G: Gate>(
     rt: &R,
+    gate: &G,
+    worker: u32,
     tables: &J,
     hub: &Hub<ReplayScene<J>>,
     seat: &mut Seat<ReplayScene<J>>,
@@ -72,16 +75,22 @@ fn do_step<J: ReplayTables + Sync, R: Wait>(
     ensures left { result ≡ true → hand_of seat.new.state ≡ [] }
     ensures stopped { result ≡ false → 0 < stops_of seat.new.state }
 {
+    gate.pass(rt, worker, Moment::Held { shards });
     let tasks = draw_step(tables, hub, seat, held, shards, doing);
     seat.give_group(hub, held);
+    gate.pass(rt, worker, Moment::Freed { shards });
     leave(rt, hub, seat, tasks)
 }
 
-// Ends a try whose step may not be done, and gives the shards in hand home.
-fn idle<J: ReplayTables + Sync>(
+// Ends a try whose step may not be done, and gives the shards in hand home. The gate is passed before, and again when they are home.
+fn idle<J: ReplayTables + Sync, R: Wait, G: Gate>(
+    rt: &R,
+    gate: &G,
+    worker: u32,
     hub: &Hub<ReplayScene<J>>,
     seat: &mut Seat<ReplayScene<J>>,
     held: &mut J::Held,
+    shards: u64,
     tried: Try<J::Channel>,
 )
     requires hub { (home_of seat.old.state ≡ hub.now.table.shared.table_id) × (due_of seat.old.state ≡ []) }
@@ -93,15 +102,19 @@ fn idle<J: ReplayTables + Sync>(
     ensures empty { (k : ℕ) → J.in_hand held.new k ≡ None }
     ensures left { hand_of seat.new.state ≡ [] }
 {
+    gate.pass(rt, worker, Moment::Held { shards });
     end_idle(hub, seat, held, tried);
     seat.give_group(hub, held);
+    gate.pass(rt, worker, Moment::Freed { shards });
 }
 
 /// Does the step of a try, and leaves what it offers, or ends the try where its step may not be done. It looks with more
 /// shards in hand where the step's receiver stands in more. False where memory was wanting; the hub is then stopped.
-pub(crate) fn try_step<J: ReplayTables + Sync, R: Wait>(
+pub(crate) fn try_step<J: ReplayTables + Sync, R: Wait, G: Gate>(
     rt: &R,
     alloc: Global,
+    gate: &G,
+    worker: u32,
     tables: &J,
     hub: &Hub<ReplayScene<J>>,
     seat: &mut Seat<ReplayScene<J>>,
@@ -126,9 +139,11 @@ pub(crate) fn try_step<J: ReplayTables + Sync, R: Wait>(
         seat.take_group(rt, hub, held, shards);
         match tables.look(alloc, held, &tried, shards) {
             Err(_) => return give_back(hub, seat, held),
-            Ok(Looked::Fits(doing)) => return do_step(rt, tables, hub, seat, held, shards, doing),
+            Ok(Looked::Fits(doing)) => {
+                return do_step(rt, gate, worker, tables, hub, seat, held, shards, doing);
+            }
             Ok(Looked::Idle) => {
-                idle(hub, seat, held, tried);
+                idle(rt, gate, worker, hub, seat, held, shards, tried);
                 return true;
             }
             Ok(Looked::Wider(more)) => {

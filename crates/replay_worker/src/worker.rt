@@ -8,13 +8,16 @@ use crate::tables::ReplayTables;
 use crate::trying::try_step;
 use group_locks::{Hub, Seat, StopCause};
 use replay_hub::{ReplayScene, Task};
+use rho_outside::Gate;
 use std::alloc::Global;
 use std::sync::Wait;
 
 // Does one job, and leaves those that follow. False where memory was wanting; the hub is then stopped.
-fn do_task<J: ReplayTables + Sync, R: Wait>(
+fn do_task<J: ReplayTables + Sync, R: Wait, G: Gate>(
     rt: &R,
     alloc: Global,
+    gate: &G,
+    worker: u32,
     tables: &J,
     hub: &Hub<ReplayScene<J>>,
     seat: &mut Seat<ReplayScene<J>>,
@@ -32,15 +35,18 @@ fn do_task<J: ReplayTables + Sync, R: Wait>(
     ensures stopped { result ≡ false → 0 < stops_of seat.new.state }
 {
     match task {
-        Task::Arrive(coming) => bring_in(rt, alloc, tables, hub, seat, held, coming),
-        Task::Index(tried) => try_step(rt, alloc, tables, hub, seat, held, tried),
+        Task::Arrive(coming) => bring_in(rt, alloc, gate, worker, tables, hub, seat, held, coming),
+        Task::Index(tried) => try_step(rt, alloc, gate, worker, tables, hub, seat, held, tried),
     }
 }
 
-/// Does jobs of a hub until nothing is pending or the hub stops. It stops the hub where memory is wanting.
-pub fn work_through<J: ReplayTables + Sync, R: Wait>(
+/// Does jobs of a hub until nothing is pending or the hub stops. It stops the hub where memory is wanting. The worker of this number
+/// passes the gate before each entry that it draws, and again when the shards are home.
+pub fn work_through<J: ReplayTables + Sync, R: Wait, G: Gate>(
     rt: &R,
     alloc: Global,
+    gate: &G,
+    worker: u32,
     tables: &J,
     hub: &Hub<ReplayScene<J>>,
     seat: Seat<ReplayScene<J>>,
@@ -59,7 +65,9 @@ pub fn work_through<J: ReplayTables + Sync, R: Wait>(
         let Some(task) = seat.take_op(rt, hub) else {
             return seat;
         };
-        if !do_task(rt, alloc, tables, hub, &mut seat, &mut held, task) {
+        if !do_task(
+            rt, alloc, gate, worker, tables, hub, &mut seat, &mut held, task,
+        ) {
             return seat;
         }
     }

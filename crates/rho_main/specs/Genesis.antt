@@ -8,7 +8,7 @@ use Rattle.run_reports.specs.Stops.{StopsOnTheWay}
 use Rattle.run_status.specs.Endings.{OnHalt}
 use Rattle.run_status.specs.declared.status.Status.{Status}
 use Rattle.run_status.specs.declared.status.Status.TheVariants.{Done, WriteFault, NoMemory}
-use Rattle.run_deploys.specs.World.{World}
+use Rattle.run_reports.specs.World.{World}
 
 -- the bytes of the empty state: its name, the version, a root of zeros and no rows
 abbrev pub empty_state : List ℕ

@@ -27,9 +27,13 @@ abbrev pub GenesisIn : Answer → (Text → Type 0) → Type 0
 GenesisIn (Some (Ok (genesis file))) P = P file
 GenesisIn _ P = ⊤
 
+-- the same of the showing of a state, and of its name
+abbrev pub InspectIn : Answer → (Text → Type 0) → Type 0
+InspectIn (Some (Ok (inspect file))) P = P file
+InspectIn _ P = ⊤
+
 -- the same of a verb that is not built yet
 abbrev pub UnbuiltIn : Answer → (Verb → Type 0) → Type 0
-UnbuiltIn (Some (Ok (inspect file))) P = P verb.Inspect
 UnbuiltIn (Some (Ok (workload request))) P = P verb.Workload
 UnbuiltIn _ P = ⊤
 
@@ -45,13 +49,16 @@ OnReplay words P = ReplayIn (answer_of words) P
 abbrev pub OnGenesis : List Text → (Text → Type 0) → Type 0
 OnGenesis words P = GenesisIn (answer_of words) P
 
+-- where the words ask for a state to be shown, this holds of its name
+abbrev pub OnInspect : List Text → (Text → Type 0) → Type 0
+OnInspect words P = InspectIn (answer_of words) P
+
 -- where the words ask for a verb that is not built yet, this holds of the verb
 abbrev pub OnUnbuilt : List Text → (Verb → Type 0) → Type 0
 OnUnbuilt words P = UnbuiltIn (answer_of words) P
 
 -- a verb that is not built yet is that of the answer
 abbrev pub IsUnbuiltIn : Answer → Verb → Type 0
-IsUnbuiltIn answer verb.Inspect = (file : Text) × (answer ≡ Some (Ok (inspect file)))
 IsUnbuiltIn answer verb.Workload = (request : WorkloadRequest) × (answer ≡ Some (Ok (workload request)))
 IsUnbuiltIn answer _ = ⊥
 

@@ -3,7 +3,7 @@ ghost use Rattle.rho_outside.specs.Causes.{Rose};
 ghost use Rattle.run_reports.specs.Stops.{StopsOnTheWay};
 ghost use Rattle.run_status.specs.Endings.{OnHalt};
 ghost use Rattle.rho_main.specs.Genesis.{IsGenesis, EndsGenesis, FoundsAll, empty_line, entries_of};
-ghost use Rattle.run_deploys.specs.World.{world};
+ghost use Rattle.run_reports.specs.World.{world};
 
 use name_seed::EMPTY_ROOT;
 use rho_outside::{Shelf, Sink};

@@ -1,16 +1,18 @@
 ghost use Rattle.std.specs.Prelude.{◌≡◌, ◌⊎◌, IfOk, IfErr, Some, Ok, map, string_bytes};
 ghost use Rattle.command_words.specs.Answers.{answer_of, request_of};
 ghost use Rattle.run_status.specs.Endings.{OnUsage, OnUnbuiltVerb, SaysUsage};
-ghost use Rattle.rho_main.specs.Words.{IsRefusal, IsSaidBy, IsUnbuiltIn, OnDeploy, OnGenesis, OnReplay, OnUnbuilt, Tells};
+ghost use Rattle.rho_main.specs.Words.{IsRefusal, IsSaidBy, IsUnbuiltIn, OnDeploy, OnGenesis, OnInspect, OnReplay, OnUnbuilt, Tells};
 ghost use Rattle.run_deploys.specs.Deploys.{IsDeploy};
 ghost use Rattle.rho_main.specs.Genesis.{IsGenesis};
+ghost use Rattle.run_inspects.specs.Inspects.{IsInspect};
 ghost use Rattle.run_replays.specs.Replays.{IsReplay};
-ghost use Rattle.run_deploys.specs.World.{world};
+ghost use Rattle.run_reports.specs.World.{world};
 
 use crate::genesis::genesis;
 use command_words::{Command, Usage, Verb, read_command};
 use rho_outside::{Gate, Shelf, Sink};
 use run_deploys::deploy;
+use run_inspects::inspect;
 use run_replays::replay;
 use run_status::Status;
 use std::alloc::Global;
@@ -32,14 +34,14 @@ fn read_words(alloc: Global, words: &[String]) -> Result<Command, Usage>
 ///
 /// Nothing is kept or put before all inputs were accepted and the run has ended. A refusal leaves the files
 /// and the output as they were. Then the log is kept, then the next state, then what the run printed is put
-/// with the report behind it. A replay keeps no log.
+/// with the report behind it. A replay keeps no log, and the showing of a state keeps nothing.
 pub fn run<R: Threads + Wait + Sync, S: Shelf, O: Sink, G: Gate + Sync>(
-    _rt: &R,
+    rt: &R,
     alloc: Global,
     words: &[String],
     shelf: &mut S,
     out: &mut O,
-    _gate: &G,
+    gate: &G,
 ) -> Status
     // The words.
     ensures usage { OnUsage result (IsSaidBy (answer_of (map string_bytes words.now))) }
@@ -59,14 +61,15 @@ pub fn run<R: Threads + Wait + Sync, S: Shelf, O: Sink, G: Gate + Sync>(
     ensures replay { OnReplay (map string_bytes words.now) (λ names. IsReplay names
         (world (S.files shelf.old) (S.fetch_faults shelf.old) (S.keep_faults shelf.old) (O.written out.old) (O.faults out.old))
         (world (S.files shelf.new) (S.fetch_faults shelf.new) (S.keep_faults shelf.new) (O.written out.new) (O.faults out.new)) result) }
+    ensures inspect { OnInspect (map string_bytes words.now) (λ name. IsInspect name
+        (world (S.files shelf.old) (S.fetch_faults shelf.old) (S.keep_faults shelf.old) (O.written out.old) (O.faults out.old))
+        (world (S.files shelf.new) (S.fetch_faults shelf.new) (S.keep_faults shelf.new) (O.written out.new) (O.faults out.new)) result) }
 {
     match read_words(alloc, words) {
         Ok(Command::Genesis { file }) => genesis(alloc, file.as_str(), shelf, out),
-        Ok(Command::Deploy { run, limit }) => deploy(alloc, &run, limit, shelf, out),
-        Ok(Command::Replay(run)) => replay(alloc, &run, shelf, out),
-        Ok(Command::Inspect { .. }) => Status::UnbuiltVerb {
-            verb: Verb::Inspect,
-        },
+        Ok(Command::Deploy { run, limit }) => deploy(rt, alloc, &run, limit, shelf, out, gate),
+        Ok(Command::Replay(run)) => replay(rt, alloc, &run, shelf, out, gate),
+        Ok(Command::Inspect { file }) => inspect(alloc, file.as_str(), shelf, out),
         Ok(Command::Workload(_)) => Status::UnbuiltVerb {
             verb: Verb::Workload,
         },

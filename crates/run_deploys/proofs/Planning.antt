@@ -1,28 +1,26 @@
 -- The plan of a deploy, from what was played.
 use Rattle.std.proofs.Common.{◌≡◌, ◌≤◌, ◌⊎◌, ℕ, List, length, refl, sym, ◌∙◌, ap, arith}
-use Rattle.std.specs.Prelude.{All}
 use Rattle.std.proofs.lemmas.List.{length-map}
 use Rattle.sha2.specs.Sha256.{sha256}
 use Rattle.calculus.specs.Limits.{price_digest}
 use Rattle.calculus.specs.Log.{Header, Step, log_text}
 use Rattle.calculus.specs.Root.{root}
-use Rattle.calculus.specs.Rows.{Row}
 use Rattle.calculus.specs.Runs.{Deploy, deploy_of}
 use Rattle.event_log.specs.View as logged
 use Rattle.event_log.specs.View.{step_of}
 use Rattle.event_log.specs.declared.log.LogHeader.{LogHeader}
 use Rattle.sources.specs.Sources.{IsSourceOf}
 use Rattle.run_verdict.specs.View.{verdict_of}
-use Rattle.worker_round.specs.Bases.{IsQuietBase}
-use Rattle.worker_round.specs.Courses.{IsRunOf}
-use Rattle.worker_round.specs.declared.played.Played.{Played}
+use Rattle.play_outcome.specs.Bases.{IsQuietBase}
+use Rattle.play_outcome.specs.Runs.{IsRunOf}
+use Rattle.play_outcome.specs.declared.played.Played.{Played}
 use Rattle.run_inputs.specs.Given.{task_of, IsBase}
 use Rattle.run_inputs.specs.declared.acceptance.Inputs.{Inputs}
 use Rattle.run_inputs.specs.declared.fetch.Base.{Base}
 use Rattle.run_deploys.specs.Runs.{Left, header_of, printed, ShowsAClash, IsLeftBySource}
 use Rattle.run_deploys.specs.Plan.{IsMade, IsPlan}
 use Rattle.run_deploys.specs.declared.deploys.Plan.{Plan}
-use Rattle.run_deploys.proofs.Running.{left_or_clash, silent, takes}
+use Rattle.run_deploys.proofs.Running.{left_or_clash, silent}
 
 -- a deploy may begin with the rows of a state
 pub quiet-base : (b : Base) → IsBase b → (digest : List ℕ) → digest ≡ root b.checkpoint → IsQuietBase b.checkpoint digest
@@ -49,8 +47,8 @@ Plays deploy o = IsRunOf deploy (logged.steps_of o.steps.items) (verdict_of o.ve
 
 -- the bytes that are made of it are a plan
 pub is_plan : (i : Inputs) (limit : ℕ) (h : LogHeader) (o : Played) (p : Plan) → IsBase i.base → IsSourceOf i.source.items i.term → IsHeaderOf i limit h
-    → Plays (deploy_of i.prices limit i.base.checkpoint i.term (sha256 i.source.items)) o → length o.steps.items ≤ 1048577 → All logged.TakesInRange o.steps.items → IsMade i.base.text.items h o p → IsPlan limit (task_of i) p
-is_plan i limit h o p is spelt x played few taken m =
+    → Plays (deploy_of i.prices limit i.base.checkpoint i.term (sha256 i.source.items)) o → length o.steps.items ≤ 1048608 → IsMade i.base.text.items h o p → IsPlan limit (task_of i) p
+is_plan i limit h o p is spelt x played few m =
     let rows = i.base.checkpoint in
     let steps : List Step = logged.steps_of o.steps.items in
     let count : length steps ≡ length o.steps.items = length-map o.steps.items step_of in
@@ -62,7 +60,7 @@ is_plan i limit h o p is spelt x played few taken m =
       run = left_or_clash (deploy_of i.prices limit rows i.term (sha256 i.source.items)) steps o.verdict o.cost o.rows.items o.output.items m.digest p.next.items (length o.steps.items) played m.done
           (λ n. ((m.old n).0 ∙ x.base_is, (m.old n).1 ∙ is.text));
       few = omega (arith, count, few);
-      taken = takes o.steps.items taken;
+      readable = m.readable;
       steps = sym count;
       old = λ n. (m.old n).1;
       silent = silent o.verdict o.output.items;

@@ -1,18 +1,12 @@
 -- What a run leaves, from what was played.
-use Rattle.std.proofs.Common.{◌≡◌, ◌≢◌, ◌≤◌, ◌⊎◌, inl, inr, ℕ, List, [], ◌∷◌, ◌++◌, length, get_or, map as each, refl, sym, ◌∙◌, ap, subst, arith}
-use Rattle.std.specs.Prelude.{All, IsPermutation}
-use Rattle.std.proofs.lemmas.List.{length-map}
-use Rattle.std.proofs.lemmas.List.Elements.{All-map}
-use Rattle.calculus.specs.declared.ids.Digest.{Digest}
+use Rattle.std.proofs.Common.{◌≡◌, ◌≢◌, ◌≤◌, ◌⊎◌, inl, inr, ℕ, List, [], ◌∷◌, ◌++◌, length, refl, sym, ◌∙◌, ap, subst}
+use Rattle.std.specs.Prelude.{IsPermutation}
 use Rattle.calculus.specs.Tree.{Tree}
 use Rattle.calculus.specs.Log.{Step}
 use Rattle.calculus.specs.Rows.{Row}
 use Rattle.calculus.specs.Root.{root}
 use Rattle.calculus.specs.Steps.{Bag, stored_rows}
 use Rattle.calculus.specs.Runs.{Deploy, State, IsLegal, IsRun, Verdict, done, verdict, next_rows}
-use Rattle.event_log.specs.declared.log.LogStep.{LogStep}
-use Rattle.event_log.specs.View as logged
-use Rattle.event_log.specs.View.{step_of}
 use Rattle.states.specs.States.{state_text}
 use Rattle.states.proofs.Groups.{root_ignores_order, text_ignores_order}
 use Rattle.sources.specs.Sources.{IsSourceOf}
@@ -23,8 +17,8 @@ use Rattle.fresh_sources.proofs.Sources.{source_texts_are_numberable}
 use Rattle.run_verdict.specs.View.{verdict_of}
 use Rattle.run_verdict.specs.declared.verdict.Verdict.{Verdict as Ending}
 use Rattle.run_verdict.specs.declared.verdict.Verdict.TheVariants as ending
-use Rattle.worker_round.specs.Courses.{IsRunOf}
-use Rattle.run_deploys.specs.Runs.{printed, SpendsOnce, TakesInRange, ShowsAClash, IsLeftByRun}
+use Rattle.play_outcome.specs.Runs.{IsRunOf}
+use Rattle.run_deploys.specs.Runs.{printed, SpendsOnce, ShowsAClash, IsLeftByRun}
 
 -- along a run whose digests are fresh no id is spent twice
 spends-once : (deploy : Deploy) (ss : List Step) (a : State) → IsRun deploy ss a → AreFresh deploy ss → SpendsOnce deploy ss
@@ -79,12 +73,3 @@ pub numberable : (source : List ℕ) (t : Tree) → IsSourceOf source t → leng
 numberable source t s few =
     let spelt = s.accepted.spelt in
     subst IsNumberable (sym s.normal) (source_texts_are_numberable _ source spelt.spanned s.process spelt.height spelt.tokens spelt.spells few)
-
-one-takes : (s : LogStep) → logged.TakesInRange s → TakesInRange (step_of s)
-one-takes s h =
-    let e = length-map s.taken.items (λ (id : Digest). id.0) in
-    record { some = omega (arith, e, h.0); few = omega (arith, e, h.1) }
-
--- steps that take as many data as a log's may are such steps
-pub takes : (ss : List LogStep) → All logged.TakesInRange ss → All TakesInRange (each step_of ss)
-takes ss h = All-map TakesInRange step_of ss (λ k d lt. one-takes (get_or ss k d) (h k d lt))

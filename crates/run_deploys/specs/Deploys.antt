@@ -13,7 +13,7 @@ use Rattle.run_status.specs.Endings.{OnRefusal, OnHalt, OnVerdict, HasEnded}
 use Rattle.run_status.specs.declared.status.Status.{Status}
 use Rattle.run_status.specs.declared.status.Status.TheVariants.{WriteFault}
 use Rattle.run_deploys.specs.Ends.{Leaves, LeavesInPart}
-use Rattle.run_deploys.specs.World.{World}
+use Rattle.run_reports.specs.World.{World}
 
 -- the end of a deploy from one world to the next has its cause; and where no row of the told state has the id of a built-in receiver, what its files, its state and its source are refused for is said
 pub record DeployIsExact (names : RunRequest) (limit : ℕ) (a b : World) (s : Status) : Type 0 where

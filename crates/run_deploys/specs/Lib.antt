@@ -1,4 +1,3 @@
-pub mod World
 pub mod Runs
 pub mod Ends
 pub mod Deploys

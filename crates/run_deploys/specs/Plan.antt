@@ -4,11 +4,12 @@ use Rattle.calculus.specs.Log.{log_text}
 use Rattle.calculus.specs.Root.{root}
 use Rattle.calculus.specs.Rows.{Row}
 use Rattle.states.specs.States.{state_text}
+use Rattle.event_log.specs.Laws.{AreSteps}
 use Rattle.event_log.specs.View.{header_of as header_in, steps_of}
 use Rattle.event_log.specs.declared.log.LogHeader.{LogHeader}
 use Rattle.run_verdict.specs.View.{verdict_of}
 use Rattle.run_verdict.specs.declared.verdict.Verdict.TheVariants.{Done}
-use Rattle.worker_round.specs.declared.played.Played.{Played}
+use Rattle.play_outcome.specs.declared.played.Played.{Played}
 use Rattle.run_reports.specs.Report.{report_line}
 use Rattle.run_inputs.specs.Inputs.{Task}
 use Rattle.run_deploys.specs.Runs.{Left, header_of, printed, IsLeftBySource}
@@ -30,6 +31,7 @@ pub record IsMade (text : List ℕ) (header : LogHeader) (o : Played) (p : Plan)
   pub digest : List ℕ
   pub done : o.verdict ≡ Done → (digest ≡ root o.rows.items) × (p.next.items ≡ state_text o.rows.items)
   pub old : o.verdict ≢ Done → (digest ≡ header.base.0) × (p.next.items ≡ text)
+  pub readable : AreSteps (steps_of o.steps.items)
   pub log : p.log.items ≡ log_text (header_in header) (steps_of o.steps.items)
   pub bytes : p.bytes.items ≡ printed (verdict_of o.verdict) o.output.items ++ report_line (record { verdict = o.verdict; cost = o.cost; root = digest; steps = length o.steps.items })
   pub verdict : p.verdict ≡ o.verdict

@@ -1,5 +1,5 @@
 -- What a run of a source leaves.
-use Rattle.std.specs.Prelude.{◌≡◌, ◌≢◌, ◌⊎◌, ◌≤◌, ℕ, List, [], ◌∷◌, ◌++◌, length, All}
+use Rattle.std.specs.Prelude.{◌≡◌, ◌≢◌, ◌⊎◌, ◌≤◌, ℕ, List, [], ◌∷◌, ◌++◌, length}
 use Rattle.sha2.specs.Sha256.{sha256}
 use Rattle.calculus.specs.Tree.{Tree}
 use Rattle.calculus.specs.Limits.{price_digest}
@@ -8,6 +8,7 @@ use Rattle.calculus.specs.Rows.{Row}
 use Rattle.calculus.specs.Root.{root}
 use Rattle.calculus.specs.Runs.{Deploy, deploy_of, State, IsRun, Verdict, done, verdict, cost, next_rows}
 use Rattle.states.specs.States.{state_text}
+use Rattle.event_log.specs.Laws.{AreSteps}
 use Rattle.sources.specs.Sources.{IsSourceOf}
 use Rattle.events.specs.Spending.{IsSpentBy}
 use Rattle.fresh_digests.specs.Premises.{Collides}
@@ -54,23 +55,18 @@ pub record IsLeftByRun (deploy : Deploy) (left : Left) : Type 0 where
   pub next_is : left.next ≡ state_text (next_rows deploy.rows (verdict deploy.prices deploy.limit state) state.bag)
   pub output_is : left.output ≡ printed (verdict deploy.prices deploy.limit state) state.output
 
--- a step takes 1 to 16 data
-pub record TakesInRange (s : Step) : Type 0 where
-  pub some : 1 ≤ length s.data_ids
-  pub few : length s.data_ids ≤ 16
-
 -- an id of the rows that a deploy begins with is built in or made again along these steps, or two of the texts that it hashes with them have one digest
 abbrev pub ShowsAClash : Deploy → List Step → Type 0
 ShowsAClash deploy ss = ShowsAnId deploy ss ⊎ Collides deploy ss
 
--- what is left is what a run leaves of the process that the source of a task spells, from the rows of its state, or digests are shown to clash. In either case the log is no longer than a log may be, each of its steps takes as many data as a step may; the report counts its steps; and with another verdict than done the next state is the old one and nothing is printed
+-- what is left is what a run leaves of the process that the source of a task spells, from the rows of its state, or digests are shown to clash. In either case the log is no longer than a log may be, each of its steps fits a log's text; the report counts its steps; and with another verdict than done the next state is the old one and nothing is printed
 pub record IsLeftBySource (rows : List Row) (task : Task) (limit : ℕ) (left : Left) : Type 0 where
   pub state : IsStateOf task.state rows
   pub process : Tree
   pub spelt : IsSourceOf task.source process
   pub run : IsLeftByRun (deploy_in rows task limit process) left ⊎ ShowsAClash (deploy_in rows task limit process) left.steps
   pub few : length left.steps ≤ 1048608
-  pub taken : All TakesInRange left.steps
+  pub readable : AreSteps left.steps
   pub steps : left.report.steps ≡ length left.steps
   pub old : left.report.verdict ≢ ending.Done → left.next ≡ task.state
   pub silent : left.report.verdict ≢ ending.Done → left.output ≡ []

@@ -14,20 +14,24 @@ ghost use Rattle.run_status.specs.Endings.{OnRefusal, OnHalt, OnVerdict};
 ghost use Rattle.run_deploys.specs.Deploys.{IsDeploy};
 ghost use Rattle.run_deploys.specs.Ends.{Leaves, LeavesInPart};
 ghost use Rattle.run_deploys.specs.Plan.{IsMade, IsPlan};
-ghost use Rattle.run_deploys.specs.World.{world};
+ghost use Rattle.run_reports.specs.World.{world};
 
 use crate::next::{next_state, printed};
-use channel_table::ChannelTable;
 use command_words::Run;
 use event_log::{Log, LogHeader, write_log};
 use name_seed::bytes_digest;
-use rho_outside::{Shelf, Sink};
+use play_outcome::Played;
+use play_pool::play;
+use readable_logs::steps_are_readable;
+use rho_outside::{Gate, Shelf, Sink};
+use rspace_table::SpaceTables;
 use run_inputs::{Base, Inputs, accept};
 use run_reports::{Halt, keep_both_and_put, report};
 use run_status::{Status, status_of};
 use run_verdict::Verdict;
 use std::alloc::{AllocError, Global};
-use worker_round::{Played, play};
+use std::sync::Wait;
+use std::thread::Threads;
 
 /// All the bytes that a deploy writes, and how its run ended.
 #[derive(Drop)]
@@ -46,7 +50,7 @@ fn plan_of(
     header: LogHeader,
     played: Played,
 ) -> Result<Plan, AllocError>
-    requires few { length played.steps.items ≤ 1048577 }
+    requires few { length played.steps.items ≤ 1048608 }
     requires taken { All TakesInRange played.steps.items }
     ensures { IfOk result (IsMade text.items header played) }
 {
@@ -62,6 +66,7 @@ fn plan_of(
     let line = report(alloc, verdict, cost, &root, count)?;
     let mut bytes = printed(verdict, output);
     bytes.extend_from_slice(line.as_slice())?;
+    steps_are_readable(steps.as_slice());
     let log = write_log(alloc, &Log { header, steps })?;
     Ok(Plan {
         log,
@@ -71,8 +76,16 @@ fn plan_of(
     })
 }
 
-/// Runs the source from the state, and makes all bytes that are to be written.
-fn make_plan(alloc: Global, inputs: Inputs, limit: u64) -> Result<Plan, AllocError>
+/// Runs the source from the state by so many workers, and makes all bytes that are to be written.
+fn make_plan<R: Threads + Wait + Sync, G: Gate + Sync>(
+    rt: &R,
+    alloc: Global,
+    gate: &G,
+    workers: u32,
+    inputs: Inputs,
+    limit: u64,
+) -> Result<Plan, AllocError>
+    requires workers { (1 ≤ workers) × (workers ≤ 32) }
     requires limit { limit ≤ greatest_limit inputs.prices }
     requires state { IsBase inputs.base }
     requires source { IsSourceOf inputs.source.items inputs.term }
@@ -90,7 +103,9 @@ fn make_plan(alloc: Global, inputs: Inputs, limit: u64) -> Result<Plan, AllocErr
     let source = bytes_digest(source.as_slice());
     let root = checkpoint.root();
     let rows = checkpoint.into_rows();
-    let played = play::<ChannelTable>(alloc, rows, &root, &term, &source, &prices, limit)?;
+    let played = play::<R, G, SpaceTables>(
+        rt, alloc, gate, workers, rows, &root, &term, &source, &prices, limit,
+    )?;
     let header = LogHeader {
         base: root,
         source,
@@ -120,13 +135,23 @@ fn write_plan<S: Shelf, O: Sink>(
     keep_both_and_put(alloc, shelf, out, log, next, plan.bytes.as_slice())
 }
 
+/// How many workers run: as many as the words name, which is 1 to 32 in each command that was read, and else the nearest of these.
+pub fn worker_count(run: &Run) -> u32
+    ensures range { (1 ≤ result) × (result ≤ 32) }
+    ensures named { 1 ≤ run.now.workers → run.now.workers ≤ 32 → result ≡ run.now.workers }
+{
+    run.workers.max(1).min(32)
+}
+
 /// Runs a source, as `deploy` does.
-fn deploy_run<S: Shelf, O: Sink>(
+fn deploy_run<R: Threads + Wait + Sync, S: Shelf, O: Sink, G: Gate + Sync>(
+    rt: &R,
     alloc: Global,
     run: &Run,
     limit: u64,
     shelf: &mut S,
     out: &mut O,
+    gate: &G,
 ) -> Status
     ensures ends { DeployEnds (S.files shelf.old) (run_of run.now) limit (S.fetch_faults shelf.old) (S.fetch_faults shelf.new) result }
     ensures stays { OnRefusal result ((S.files shelf.new ≡ S.files shelf.old) × (O.written out.new ≡ O.written out.old)) }
@@ -138,7 +163,7 @@ fn deploy_run<S: Shelf, O: Sink>(
         Ok(inputs) => inputs,
         Err(status) => return status,
     };
-    let plan = match make_plan(alloc, inputs, limit) {
+    let plan = match make_plan(rt, alloc, gate, worker_count(run), inputs, limit) {
         Ok(plan) => plan,
         Err(_) => return Status::NoMemory,
     };
@@ -149,17 +174,19 @@ fn deploy_run<S: Shelf, O: Sink>(
     }
 }
 
-/// Runs a source: nothing is kept or put before all inputs are accepted and the run has ended.
-pub fn deploy<S: Shelf, O: Sink>(
+/// Runs a source by as many workers as the words name: nothing is kept or put before all inputs are accepted and the run has ended.
+pub fn deploy<R: Threads + Wait + Sync, S: Shelf, O: Sink, G: Gate + Sync>(
+    rt: &R,
     alloc: Global,
     run: &Run,
     limit: u64,
     shelf: &mut S,
     out: &mut O,
+    gate: &G,
 ) -> Status
     ensures { IsDeploy (run_of run.now) limit
         (world (S.files shelf.old) (S.fetch_faults shelf.old) (S.keep_faults shelf.old) (O.written out.old) (O.faults out.old))
         (world (S.files shelf.new) (S.fetch_faults shelf.new) (S.keep_faults shelf.new) (O.written out.new) (O.faults out.new)) result }
 {
-    deploy_run(alloc, run, limit, shelf, out)
+    deploy_run(rt, alloc, run, limit, shelf, out, gate)
 }

@@ -1,5 +1,5 @@
 -- Which states and sources are run.
-use Rattle.std.specs.Prelude.{List, IsOkAnd, IfOk}
+use Rattle.std.specs.Prelude.{IsOkAnd, IfOk}
 use Rattle.calculus.specs.Tree.{Tree}
 use Rattle.base_states.specs.Bases.{IsState, HasOwnIds}
 use Rattle.sources.specs.Sources.{IsSourceOf}

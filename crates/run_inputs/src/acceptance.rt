@@ -1,6 +1,6 @@
 ghost use Rattle.std.specs.Prelude.{◌≡◌, ◌≤◌, Ok, IsOkAnd, IfOk, IfErr, length, map};
 ghost use Rattle.event_log.specs.Reading.{log_of};
-ghost use Rattle.event_log.specs.View.{header_of, step_of};
+ghost use Rattle.event_log.specs.View.{header_of, step_of, IsWritable};
 ghost use Rattle.sources.specs.Faults.{refusal_of};
 ghost use Rattle.calculus.specs.Form.{IsClosed};
 ghost use Rattle.calculus.specs.Limits.{most_limit as greatest_limit};
@@ -17,6 +17,7 @@ use crate::fetch::{Base, accept_limit, accept_prices, take};
 use command_words::Run;
 use event_log::{Log, LogFault, read_log};
 use price_table::Prices;
+use readable_logs::laws::read_logs_are_writable;
 use rho_lexer::LexFault;
 use rho_outside::Shelf;
 use rho_parser::ParseFault;
@@ -153,8 +154,10 @@ fn accept_replay_source<S: Shelf>(alloc: Global, shelf: &mut S, run: &Run) -> Re
 /// The log of these bytes. Want of memory has a status of its own.
 fn log_of_bytes(alloc: Global, bytes: &[u8]) -> Result<Log, Status>
     ensures read { IfOk result (λ log. log_of bytes.now ≡ Ok (header_of log.header, map step_of log.steps.items)) }
+    ensures writable { IfOk result IsWritable }
     ensures refused { IfErr result (LogCause bytes.now) }
 {
+    read_logs_are_writable();
     match read_log(alloc, bytes) {
         Ok(log) => Ok(log),
         Err(LogFault::NoMemory) => Err(Status::NoMemory),
@@ -176,6 +179,7 @@ pub fn accept_replay<S: Shelf>(
     ensures closed { IfOk result (λ r. IsClosed r.inputs.term) }
     ensures short { IfOk result (λ r. length r.inputs.source.items ≤ 1048576) }
     ensures told { IfOk result (λ _. Told (S.files shelf.old) (HasState (run_of run.now))) }
+    ensures writable { IfOk result (λ r. IsWritable r.log) }
     ensures refused { IfErr result (ReplayRefusedFor (S.files shelf.old) (run_of run.now) (S.fetch_faults shelf.old) (S.fetch_faults shelf.new)) }
 {
     let inputs = match accept_replay_source(alloc, shelf, run) {

@@ -11,7 +11,7 @@ use Rattle.sources.specs.Sources.{IsSourceOf}
 use Rattle.sources.proofs.Answering.{one_term}
 use Rattle.event_log.specs.Reading.{log_of}
 use Rattle.event_log.specs.declared.fault.LogFault.{LogFault}
-use Rattle.ordered_replay.specs.Answers.{Clashes}
+use Rattle.replay_answers.specs.Answers.{Clashes}
 use Rattle.replay_faults.specs.declared.fault.ReplayFault.{ReplayFault}
 use Rattle.run_verdict.specs.View.{verdict_of}
 use Rattle.run_verdict.specs.declared.verdict.Verdict.{Verdict as Ending}

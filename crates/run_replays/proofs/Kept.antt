@@ -4,12 +4,16 @@ use Rattle.std.specs.Prelude.{cond, leb, ◌&&◌}
 use Rattle.std.proofs.lemmas.Bool.{le-leb}
 use Rattle.std.proofs.lemmas.Slice.Eq.{bytes_eq-Decides}
 use Rattle.sha2.specs.Sha256.{sha256}
+use Rattle.sha2.proofs.Facts256.{length-sha256}
 use Rattle.calculus.specs.Limits.{most_limit, price_digest}
 use Rattle.calculus.specs.Root.{root}
 use Rattle.calculus.specs.Rows.{Row}
 use Rattle.calculus.specs.Runs.{Verdict, done, exhausted, faulted, verdict}
 use Rattle.calculus.specs.Tree.{Tree}
 use Rattle.replays.specs.Replays.{Outcome, Refusal, replayed, header_refusal, unless_equal, wrong_limit, outcome_of, output_of, Answers, by_end}
+use Rattle.event_log.specs.Laws.{IsHeader}
+use Rattle.event_log.proofs.Written.{written_logs_are_read}
+use Rattle.state_laws.proofs.Exact.{root-length}
 use Rattle.run_inputs.specs.Inputs.{Task}
 use Rattle.run_deploys.specs.Runs.{header_of, deploy_in, printed, ShowsAClash, IsLeftByRun}
 use Rattle.run_replays.specs.Replaying.{given_in, IsLeftByOutcome}
@@ -34,14 +38,18 @@ right-header rows task limit t l m =
     same-passes (root rows) _ _ ∙ (same-passes (sha256 task.source) _ _ ∙ (same-passes (price_digest task.prices) _ _ ∙ in-range limit (most_limit task.prices) l m))
 
 pub kept_logs_are_answered : KeptLogsAreAnswered
-kept_logs_are_answered rows task limit left l m s =
+kept_logs_are_answered rows task limit left l m f s =
     record {
       process = s.process;
       spelt = s.spelt;
+      read = written_logs_are_read (header_of rows task limit) left.steps header s.readable s.few;
       right = right;
       answer = go s.run;
     }
   where
+    header : IsHeader (header_of rows task limit)
+    header = record { base = root-length rows; source = length-sha256 task.source; prices = length-sha256 _; limit = f }
+
     right : header_refusal (given_in rows task s.process) (header_of rows task limit) ≡ None
     right = right-header rows task limit s.process l m
 

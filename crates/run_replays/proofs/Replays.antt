@@ -15,8 +15,8 @@ use Rattle.run_verdict.specs.declared.verdict.Verdict.{Verdict as Ending}
 use Rattle.run_verdict.specs.declared.verdict.Verdict.TheVariants as ending
 use Rattle.replay_faults.specs.Refusals.{refusal_of}
 use Rattle.replay_faults.specs.declared.fault.ReplayFault.{ReplayFault}
-use Rattle.ordered_replay.specs.Answers.{IsReplayed, IsAnswered}
-use Rattle.ordered_replay.specs.declared.replayed.Replayed.{Replayed}
+use Rattle.replay_answers.specs.Answers.{IsReplayed, IsAnswered}
+use Rattle.replay_answers.specs.declared.replayed.Replayed.{Replayed}
 use Rattle.base_states.specs.Bases.{IsStateOf}
 use Rattle.run_inputs.specs.declared.acceptance.ReplayInputs.{ReplayInputs}
 use Rattle.run_status.specs.declared.status.Status.{Status}

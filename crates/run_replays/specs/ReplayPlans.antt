@@ -8,8 +8,8 @@ use Rattle.replays.specs.Replays.{Given, Refusal, refused, header_refusal, deplo
 use Rattle.event_log.specs.View.{header_of, step_of}
 use Rattle.replay_faults.specs.Refusals.{refusal_of}
 use Rattle.replay_faults.specs.declared.fault.ReplayFault.{ReplayFault}
-use Rattle.ordered_replay.specs.Answers.{Clashes}
-use Rattle.ordered_replay.specs.declared.replayed.Replayed.{Replayed}
+use Rattle.replay_answers.specs.Answers.{Clashes}
+use Rattle.replay_answers.specs.declared.replayed.Replayed.{Replayed}
 use Rattle.run_verdict.specs.View.{verdict_of}
 use Rattle.run_verdict.specs.declared.verdict.Verdict.TheVariants.{Done}
 use Rattle.run_inputs.specs.Given.{task_of}
@@ -34,7 +34,7 @@ header_in r = header_of r.log.header
 abbrev pub steps_in : ReplayInputs → List Step
 steps_in r = map step_of r.log.steps.items
 
--- digests clash along a legal beginning of the log
+-- digests clash along some of the log's steps, which are legal in some order
 abbrev pub ClashIn : List Row → ReplayInputs → Type 0
 ClashIn rows r = Clashes (deploy_under (header_in r).limit (given_of rows r)) (steps_in r)
 

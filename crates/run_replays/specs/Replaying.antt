@@ -13,8 +13,8 @@ use Rattle.sources.specs.Sources.{IsSourceOf}
 use Rattle.run_verdict.specs.View.{verdict_of}
 use Rattle.run_verdict.specs.declared.verdict.Verdict.TheVariants as ending
 use Rattle.replay_faults.specs.Refusals.{refusal_of}
-use Rattle.ordered_replay.specs.Answers.{Clashes}
-use Rattle.ordered_replay.specs.Bases.{asked}
+use Rattle.replay_answers.specs.Answers.{Clashes}
+use Rattle.replay_answers.specs.Bases.{asked}
 use Rattle.rho_outside.specs.FileMap.{FileMap}
 use Rattle.rho_outside.specs.Told.{Told}
 use Rattle.rho_outside.specs.Put.{GrewBy}
@@ -48,7 +48,7 @@ pub record IsAnswerTo (inputs : Task × List ℕ) (answer : Answer) : Type 0 whe
   pub read : AreReadAs inputs rows process header steps
   pub is : Answers (given_in rows inputs.0 process) header steps answer
 
--- the header of their log is right, and digests clash along a legal beginning of its steps
+-- the header of their log is right, and digests clash along some of its steps, which are legal in some order
 pub record HasClash (inputs : Task × List ℕ) : Type 0 where
   pub rows : List Row
   pub process : Tree

@@ -17,7 +17,7 @@ use Rattle.run_status.specs.Endings.{OnRefusal, OnHalt, OnVerdict, HasEnded}
 use Rattle.run_status.specs.declared.status.Status.{Status}
 use Rattle.run_status.specs.declared.status.Status.TheVariants.{WriteFault, NoMemory}
 use Rattle.run_replays.specs.Replaying.{IsAnswerTo, HasClash, SaysAnswer, IsSettled, ReplayLeaves, ReplayLeavesInPart}
-use Rattle.run_deploys.specs.World.{World}
+use Rattle.run_reports.specs.World.{World}
 
 -- where the log of these inputs has this answer, a status says it, or memory is wanted, or digests clash
 abbrev pub TellsAnswer : Task × List ℕ → Status → Type 0

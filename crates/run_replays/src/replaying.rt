@@ -7,27 +7,30 @@ ghost use Rattle.run_reports.specs.Stops.{StopsOnTheWay};
 ghost use Rattle.sources.specs.Sources.{IsSourceOf};
 ghost use Rattle.replay_faults.specs.Refusals.{refusal_of};
 ghost use Rattle.command_words.specs.Answers.{run_of};
+ghost use Rattle.event_log.specs.View.{IsWritable};
 ghost use Rattle.run_inputs.specs.Ended.{ReplayEnds};
 ghost use Rattle.run_inputs.specs.Given.{IsBase};
 ghost use Rattle.run_status.specs.Endings.{OnRefusal, OnHalt, OnVerdict};
 ghost use Rattle.run_replays.specs.Replaying.{IsSettled, ReplayLeaves, ReplayLeavesInPart};
 ghost use Rattle.run_replays.specs.ReplayPlans.{IsPlanned, IsReplayPlan, IsReplayStop, ReplayStatusOf};
 ghost use Rattle.run_replays.specs.Replays.{IsReplay};
-ghost use Rattle.run_deploys.specs.World.{world};
+ghost use Rattle.run_reports.specs.World.{world};
 
 use calculus::Digest;
 use command_words::Run;
-use event_log::MOST_STEPS;
 use name_seed::bytes_digest;
-use ordered_replay::{Replayed, replay as replay_log};
+use replay_answers::Replayed;
 use replay_faults::ReplayFault;
-use rho_outside::{Shelf, Sink};
-use run_deploys::{next_state, printed};
+use replay_runs::replay as replay_log;
+use rho_outside::{Gate, Shelf, Sink};
+use run_deploys::{next_state, printed, worker_count};
 use run_inputs::{Base, Inputs, ReplayInputs, accept_replay};
 use run_reports::{Halt, keep_and_put, report};
 use run_status::{Status, status_of};
 use run_verdict::Verdict;
 use std::alloc::{AllocError, Global};
+use std::sync::Wait;
+use std::thread::Threads;
 
 /// All the bytes that a replay writes, and how its run ended.
 #[derive(Drop)]
@@ -76,12 +79,20 @@ fn status_of_fault(fault: ReplayFault) -> Status
     }
 }
 
-/// Replays the log from the state, and makes all bytes that are to be written.
-fn make_replay_plan(alloc: Global, inputs: ReplayInputs) -> Result<ReplayPlan, Status>
+/// Replays the log from the state by so many workers, and makes all bytes that are to be written.
+fn make_replay_plan<R: Threads + Wait + Sync, G: Gate + Sync>(
+    rt: &R,
+    alloc: Global,
+    gate: &G,
+    workers: u32,
+    inputs: ReplayInputs,
+) -> Result<ReplayPlan, Status>
+    requires workers { (1 ≤ workers) × (workers ≤ 32) }
     requires state { IsBase inputs.inputs.base }
     requires source { IsSourceOf inputs.inputs.source.items inputs.inputs.term }
     requires short { length inputs.inputs.source.items ≤ 1048576 }
     requires closed { IsClosed inputs.inputs.term }
+    requires writable { IsWritable inputs.log }
     ensures plan { IfOk result (IsReplayPlan inputs.inputs.base.checkpoint inputs) }
     ensures stop { IfErr result (IsReplayStop inputs.inputs.base.checkpoint inputs) }
 {
@@ -93,14 +104,13 @@ fn make_replay_plan(alloc: Global, inputs: ReplayInputs) -> Result<ReplayPlan, S
         term,
     } = inputs;
     let Base { text, checkpoint } = base;
-    if log.steps.len() > MOST_STEPS {
-        return Err(Status::NoMemory);
-    }
     let count = log.steps.len() as u32;
     let source = bytes_digest(source.as_slice());
     let root = checkpoint.root();
     let rows = checkpoint.rows();
-    let replayed = match replay_log(alloc, rows, &root, &term, &source, &prices, &log) {
+    let replayed = match replay_log(
+        rt, alloc, gate, workers, rows, &root, &term, &source, &prices, log,
+    ) {
         Ok(replayed) => replayed,
         Err(fault) => return Err(status_of_fault(fault)),
     };
@@ -130,7 +140,14 @@ fn write_replay<S: Shelf, O: Sink>(
 }
 
 /// Replays a log, as `replay` does.
-fn replay_run<S: Shelf, O: Sink>(alloc: Global, run: &Run, shelf: &mut S, out: &mut O) -> Status
+fn replay_run<R: Threads + Wait + Sync, S: Shelf, O: Sink, G: Gate + Sync>(
+    rt: &R,
+    alloc: Global,
+    run: &Run,
+    shelf: &mut S,
+    out: &mut O,
+    gate: &G,
+) -> Status
     ensures ends { ReplayEnds IsSettled (S.files shelf.old) (run_of run.now) (S.fetch_faults shelf.old) (S.fetch_faults shelf.new) result }
     ensures stays { OnRefusal result ((S.files shelf.new ≡ S.files shelf.old) × (O.written out.new ≡ O.written out.old)) }
     ensures write_fault { result ≡ Status.WriteFault → Rose (S.keep_faults shelf.old) (S.keep_faults shelf.new) ⊎ Rose (O.faults out.old) (O.faults out.new) }
@@ -141,7 +158,7 @@ fn replay_run<S: Shelf, O: Sink>(alloc: Global, run: &Run, shelf: &mut S, out: &
         Ok(inputs) => inputs,
         Err(status) => return status,
     };
-    let plan = match make_replay_plan(alloc, inputs) {
+    let plan = match make_replay_plan(rt, alloc, gate, worker_count(run), inputs) {
         Ok(plan) => plan,
         Err(status) => return status,
     };
@@ -152,11 +169,18 @@ fn replay_run<S: Shelf, O: Sink>(alloc: Global, run: &Run, shelf: &mut S, out: &
     }
 }
 
-/// Replays a log: nothing is kept or put before all inputs are accepted and the replay has ended.
-pub fn replay<S: Shelf, O: Sink>(alloc: Global, run: &Run, shelf: &mut S, out: &mut O) -> Status
+/// Replays a log by as many workers as the words name: nothing is kept or put before all inputs are accepted and the replay has ended.
+pub fn replay<R: Threads + Wait + Sync, S: Shelf, O: Sink, G: Gate + Sync>(
+    rt: &R,
+    alloc: Global,
+    run: &Run,
+    shelf: &mut S,
+    out: &mut O,
+    gate: &G,
+) -> Status
     ensures { IsReplay (run_of run.now)
         (world (S.files shelf.old) (S.fetch_faults shelf.old) (S.keep_faults shelf.old) (O.written out.old) (O.faults out.old))
         (world (S.files shelf.new) (S.fetch_faults shelf.new) (S.keep_faults shelf.new) (O.written out.new) (O.faults out.new)) result }
 {
-    replay_run(alloc, run, shelf, out)
+    replay_run(rt, alloc, run, shelf, out, gate)
 }

@@ -1,3 +1,4 @@
 pub mod Report
 pub mod Halts
 pub mod Stops
+pub mod World

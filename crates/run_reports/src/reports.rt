@@ -28,7 +28,7 @@ pub fn report(
 }
 
 /// The line that reports a state: compact JSON with its keys in byte order, and a line feed.
-pub fn state_report(alloc: Global, root: &Digest, rows: u32) -> Result<Vec<u8>, AllocError>
+pub fn state_report(alloc: Global, root: &Digest, rows: u64) -> Result<Vec<u8>, AllocError>
     ensures { IfOk result (λ line. line.items ≡ state_line root.now.0 rows) }
 {
     let root = hex::encode(alloc, root.0.as_slice())?;
@@ -38,7 +38,7 @@ pub fn state_report(alloc: Global, root: &Digest, rows: u32) -> Result<Vec<u8>, 
     Ok(line.into_bytes())
 }
 
-fn state_value(alloc: Global, root: &str, rows: u32) -> Result<Value, AllocError>
+fn state_value(alloc: Global, root: &str, rows: u64) -> Result<Value, AllocError>
     ensures { IfOk result (λ v. view v ≡ object (state_members root.now rows)) }
 {
     json!(in alloc; {"root": root, "rows": rows})

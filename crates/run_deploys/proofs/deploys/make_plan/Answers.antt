@@ -1,3 +1,4 @@
+use denote.Param.Send.{sendable}
 use Rattle.std.proofs.Common.{◌≡◌, ◌∙◌, ℕ, List, ap, sym, refl, subst}
 use Rattle.std.proofs.lemmas.Result.{IfOk-weaker}
 use Rattle.sha2.specs.Sha256.{sha256}
@@ -5,13 +6,14 @@ use Rattle.calculus.specs.Form.{IsBytes}
 use Rattle.calculus.specs.Rows.{Row}
 use Rattle.calculus.specs.Runs.{deploy_of}
 use Rattle.calculus.proofs.Digests.{digest-fits}
-use Rattle.worker_round.specs.Bases.{IsQuietBase}
+use Rattle.play_outcome.specs.Bases.{IsQuietBase}
 use Rattle.run_deploys.proofs.Planning.{Plays, is_plan, quiet-base, IsHeaderOf}
 use Rattle.run_deploys.proofs.Running.{numberable}
+use Rattle.sent_tables.proofs.Crossing.{shard-send, shard-sync, held-send, held-sync}
 use Rattle.run_deploys.proofs.deploys.make_plan.Goals as goal
 
 pub returns : goal.returns
-returns c =
+returns g c =
     let i = c.args.inputs in
     let limit = c.args.limit in
     let bytes = i.source.items in
@@ -26,4 +28,16 @@ returns c =
     let says : Says c.into_rows-rows.result.items digest = c.in_ok-played.ensures.run (numberable bytes i.term c.requires.source c.requires.short) is_bytes quiet in
     let played : Says i.base.checkpoint (sha256 bytes) = subst (λ (s : List ℕ). Says i.base.checkpoint s) source (subst (λ (rs : List Row). Says rs digest) rows says) in
     let header : IsHeaderOf i limit _ = record { base_is = c.root-root.ensures; source_is = source; prices_is = c.digest.ensures; limit_is = refl } in
-    IfOk-weaker c.plan_of.result _ _ (λ p m. is_plan i limit _ o p is c.requires.source header played c.in_ok-played.ensures.most c.in_ok-played.ensures.taken m) c.plan_of.ensures
+    IfOk-weaker c.plan_of.result _ _ (λ p m. is_plan i limit _ o p is c.requires.source header played c.in_ok-played.ensures.most m) c.plan_of.ensures
+
+pub play-requires-send-T-Shard : goal.play-requires-send-T-Shard
+play-requires-send-T-Shard g c κs = let a = shard-send in search sendable depth 10
+
+pub play-requires-send-T-Held : goal.play-requires-send-T-Held
+play-requires-send-T-Held g c κs = let a = held-send in search sendable depth 10
+
+pub play-requires-sync-T-Shard : goal.play-requires-sync-T-Shard
+play-requires-sync-T-Shard g c κs = let a = shard-sync in search sendable depth 10
+
+pub play-requires-sync-T-Held : goal.play-requires-sync-T-Held
+play-requires-sync-T-Held g c κs = let a = held-sync in search sendable depth 10

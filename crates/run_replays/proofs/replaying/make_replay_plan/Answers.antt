@@ -5,9 +5,8 @@ use Rattle.calculus.specs.Rows.{Row}
 use Rattle.calculus.specs.Root.{root}
 use Rattle.calculus.specs.Steps.{differ}
 use Rattle.replays.specs.Replays.{Refusal, header_refusal, deploy_under}
-use Rattle.ordered_replay.specs.Answers.{Clashes, IsAnswered}
-use Rattle.ordered_replay.specs.Bases.{asked}
-use Rattle.ordered_replay.specs.Rows.{ids_of}
+use Rattle.replay_answers.specs.Answers.{Clashes, IsAnswered}
+use Rattle.replay_answers.specs.Bases.{asked, ids_of, AreQuiet}
 use Rattle.replay_faults.specs.Refusals.{refusal_of}
 use Rattle.run_replays.specs.ReplayPlans.{header_in, steps_in, IsPlanned}
 use Rattle.run_deploys.proofs.Running.{numberable}
@@ -15,16 +14,19 @@ use Rattle.run_replays.proofs.Replays.{replay_stop, replay_plan}
 use Rattle.run_replays.proofs.replaying.make_replay_plan.Goals as goal
 
 pub replay-requires-clause-root : goal.replay-requires-clause-root
-replay-requires-clause-root c = ap root c.rows-rows.ensures.is ∙ sym c.root-root.ensures
+replay-requires-clause-root g c κs within = ap root c.rows-rows.ensures.is ∙ sym c.root-root.ensures
 
 pub replay-requires-clause-ids : goal.replay-requires-clause-ids
-replay-requires-clause-ids c = subst (λ (rs : List Row). differ (ids_of rs) ≡ _) (sym c.rows-rows.ensures.is) c.requires.state.kept.order.ids
+replay-requires-clause-ids g c κs within = subst (λ (rs : List Row). differ (ids_of rs) ≡ _) (sym c.rows-rows.ensures.is) c.requires.state.kept.order.ids
+
+pub replay-requires-clause-quiet : goal.replay-requires-clause-quiet
+replay-requires-clause-quiet g c κs within = subst (λ (rs : List Row). AreQuiet rs) (sym c.rows-rows.ensures.is) c.requires.state.kept.quiet
 
 pub replay-requires-clause-numberable : goal.replay-requires-clause-numberable
-replay-requires-clause-numberable c = numberable c.args.inputs.inputs.source.items c.args.inputs.inputs.term c.requires.source c.requires.short
+replay-requires-clause-numberable g c κs within = numberable c.args.inputs.inputs.source.items c.args.inputs.inputs.term c.requires.source c.requires.short
 
 pub returns-in-Err-clause-stop : goal.returns-in-Err-clause-stop
-returns-in-Err-clause-stop c =
+returns-in-Err-clause-stop g c =
     let r = c.args.inputs in
     let rows = r.inputs.base.checkpoint in
     let H : List Row → List ℕ → Type 0 = λ rows s. (x : Refusal) → header_refusal (asked rows r.inputs.term s r.inputs.prices) (header_in r) ≡ Some x → IsErrAnd c.replay.result (λ e. refusal_of e ≡ Some x) in
@@ -36,7 +38,7 @@ returns-in-Err-clause-stop c =
     replay_stop rows r c.requires.state c.replay.result header answered c.in-Err.fault c.in-Err.is (refusal_of c.in-Err.fault) refl c.status_of_fault.result c.status_of_fault.ensures
 
 pub returns-in-Ok-plan_of-clause-plan : goal.returns-in-Ok-plan_of-clause-plan
-returns-in-Ok-plan_of-clause-plan c =
+returns-in-Ok-plan_of-clause-plan g c =
     let r = c.args.inputs in
     let rows = r.inputs.base.checkpoint in
     let H : List Row → List ℕ → Type 0 = λ rows s. (x : Refusal) → header_refusal (asked rows r.inputs.term s r.inputs.prices) (header_in r) ≡ Some x → IsErrAnd c.replay.result (λ e. refusal_of e ≡ Some x) in

@@ -1,0 +1,49 @@
+//! Eight channels in eight shards, with a receive on each, or a send.
+use crate::fault::GateFault;
+use sources::read_source;
+use std::alloc::Global;
+use term_encoder::shard_of;
+
+// The shard of the channel that a number is, below 64.
+fn shard_of_number(alloc: Global, number: u32) -> Result<u32, GateFault> {
+    let digits = format!(in alloc; "{number}")?;
+    match read_source(alloc, digits.as_bytes()) {
+        Ok(term) => Ok(shard_of(alloc, &term)?),
+        Err(_) => Err(GateFault::Source),
+    }
+}
+
+/// The first eight numbers, from 0 on, whose channels stand in eight shards.
+pub fn apart(alloc: Global) -> Result<Vec<u32>, GateFault> {
+    let mut found = Vec::new(alloc);
+    let mut shards = 0u64;
+    for number in 0..1000u32 {
+        let bit = 1u64 << (shard_of_number(alloc, number)? & 63);
+        if shards & bit == 0 {
+            shards |= bit;
+            found.push(number)?;
+        }
+        if found.len() == 8 {
+            break;
+        }
+    }
+    Ok(found)
+}
+
+/// A receive for each number, in parallel.
+pub fn receives(alloc: Global, numbers: &[u32]) -> Result<String, GateFault> {
+    let mut text = String::from_str(alloc, "Nil")?;
+    for number in numbers {
+        text.push_str(format!(in alloc; " | for (@x <- @{number}) {{ Nil }}")?.as_str())?;
+    }
+    Ok(text)
+}
+
+/// A send for each number, in parallel.
+pub fn sends(alloc: Global, numbers: &[u32]) -> Result<String, GateFault> {
+    let mut text = String::from_str(alloc, "Nil")?;
+    for number in numbers {
+        text.push_str(format!(in alloc; " | @{number}!(0)")?.as_str())?;
+    }
+    Ok(text)
+}

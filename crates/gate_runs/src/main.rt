@@ -1,0 +1,26 @@
+//! Two workers of a play, of a deploy and of a replay that are at work at once.
+#![tactic(auto)]
+
+mod channels;
+mod fault;
+mod meeting;
+mod plays;
+mod runs;
+
+use fault::GateFault;
+use std::alloc::Global;
+use std::sync::Wait;
+use std::thread::Threads;
+
+/// What each call came to, a line each.
+fn told<R: Threads + Wait + Sync>(rt: &R, alloc: Global) -> Result<String, GateFault> {
+    let mut text = plays::told(rt, alloc)?;
+    text.push_str(runs::told(rt, alloc)?.as_str())?;
+    Ok(text)
+}
+
+fn main(rt: HostRuntime) -> anyhow::Result<()> {
+    let text = told(&rt, rt.alloc())?;
+    print!(rt; "{text}")?;
+    Ok(())
+}

@@ -1,0 +1,91 @@
+//! A gate at which the first worker that has shards in hand waits for another.
+use rho_outside::{Gate, Moment};
+use std::sync::{Mutex, Wait};
+use std::thread;
+
+/// How often the first worker looks before it gives up.
+const MOST_LOOKS: u32 = 10_000_000;
+
+/// The first worker that had shards in hand, and what came of its wait.
+#[derive(Drop, Clone, Copy)]
+struct Seen {
+    came: bool,
+    worker: u32,
+    shards: u64,
+    met: bool,
+    failed: bool,
+}
+
+/// A gate whose first worker to have shards in hand waits there until another one gave shards home of which none is its.
+#[derive(Drop)]
+pub struct Meeting {
+    seen: Mutex<Seen>,
+}
+
+impl Meeting {
+    pub fn new() -> Meeting {
+        Meeting {
+            seen: Mutex::new(Seen {
+                came: false,
+                worker: 0,
+                shards: 0,
+                met: false,
+                failed: false,
+            }),
+        }
+    }
+
+    // Whether no worker had shards in hand before this one.
+    fn is_first<R: Wait>(&self, rt: &R, worker: u32, shards: u64) -> bool {
+        let mut seen = self.seen.lock(rt);
+        if seen.came {
+            return false;
+        }
+        seen.came = true;
+        seen.worker = worker;
+        seen.shards = shards;
+        true
+    }
+
+    /// Whether another worker gave other shards home while the first one waited.
+    pub fn has_met<R: Wait>(&self, rt: &R) -> bool {
+        self.seen.lock(rt).met
+    }
+
+    /// Whether the first worker gave up.
+    pub fn has_failed<R: Wait>(&self, rt: &R) -> bool {
+        self.seen.lock(rt).failed
+    }
+
+    // Waits for another worker.
+    fn wait<R: Wait>(&self, rt: &R) {
+        for _ in 0..MOST_LOOKS {
+            if self.has_met(rt) {
+                return;
+            }
+            thread::yield_now();
+        }
+        self.seen.lock(rt).failed = true;
+    }
+
+    // Tells that a worker gave shards home.
+    fn tell<R: Wait>(&self, rt: &R, worker: u32, shards: u64) {
+        let mut seen = self.seen.lock(rt);
+        if seen.came && seen.worker != worker && seen.shards & shards == 0 {
+            seen.met = true;
+        }
+    }
+}
+
+impl Gate for Meeting {
+    fn pass<R: Wait>(&self, rt: &R, worker: u32, moment: Moment) {
+        match moment {
+            Moment::Held { shards } => {
+                if self.is_first(rt, worker, shards) {
+                    self.wait(rt);
+                }
+            }
+            Moment::Freed { shards } => self.tell(rt, worker, shards),
+        }
+    }
+}

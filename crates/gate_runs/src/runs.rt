@@ -1,0 +1,83 @@
+//! Calls of the program, over files in memory.
+use crate::channels::{apart, receives, sends};
+use crate::fault::GateFault;
+use crate::meeting::Meeting;
+use rho_main::run;
+use rho_outside::{Gate, MemShelf, MemSink, OpenGate, Shelf};
+use std::alloc::Global;
+use std::sync::Wait;
+use std::thread::Threads;
+
+const PRICES: &[u8] = b"comm = 10\nsend = 3\nreceive = 4\nname = 2\ncase = 1\nop = 1\nbyte = 0\n";
+
+const STORE: &str =
+    "deploy receives --state empty --prices prices --limit 1000 --log first --next state --workers 1";
+
+const DEPLOY: &str =
+    "deploy sends --state state --prices prices --limit 1000 --log log --next next --workers 2";
+
+const REPLAY: &str =
+    "replay sends --state state --prices prices --log log --next again --workers 2";
+
+fn keep(alloc: Global, shelf: &mut MemShelf, name: &str, bytes: &[u8]) -> Result<(), GateFault> {
+    match shelf.keep(alloc, name, bytes) {
+        Ok(()) => Ok(()),
+        Err(_) => Err(GateFault::NoMemory),
+    }
+}
+
+// Files in memory: prices, receives and sends.
+fn files(alloc: Global) -> Result<MemShelf, GateFault> {
+    let numbers = apart(alloc)?;
+    let receives = receives(alloc, numbers.as_slice())?;
+    let sends = sends(alloc, numbers.as_slice())?;
+    let mut shelf = MemShelf::new(alloc);
+    keep(alloc, &mut shelf, "prices", PRICES)?;
+    keep(alloc, &mut shelf, "receives", receives.as_bytes())?;
+    keep(alloc, &mut shelf, "sends", sends.as_bytes())?;
+    Ok(shelf)
+}
+
+// Runs the words of a text with a gate: its code, and what it put.
+fn call<R: Threads + Wait + Sync, G: Gate + Sync>(
+    rt: &R,
+    alloc: Global,
+    shelf: &mut MemShelf,
+    gate: &G,
+    text: &str,
+) -> Result<String, GateFault> {
+    let mut words = Vec::new(alloc);
+    for word in text.split(' ') {
+        words.push(String::from_str(alloc, word)?)?;
+    }
+    let mut out = MemSink::new(alloc);
+    let status = run(rt, alloc, words.as_slice(), shelf, &mut out, gate);
+    let code = status.code();
+    let put = String::from_utf8_lossy(alloc, out.bytes.as_slice())?;
+    Ok(format!(in alloc; "code {code}, {put}")?)
+}
+
+// Runs the words of a text with a gate at which two workers meet.
+fn meet<R: Threads + Wait + Sync>(
+    rt: &R,
+    alloc: Global,
+    shelf: &mut MemShelf,
+    text: &str,
+) -> Result<String, GateFault> {
+    let gate = Meeting::new();
+    let came = call(rt, alloc, shelf, &gate, text)?;
+    let met = gate.has_met(rt);
+    let failed = gate.has_failed(rt);
+    Ok(format!(in alloc; "met {met}, gave up {failed}, {came}")?)
+}
+
+/// A deploy of eight sends by two workers, from a state of eight receives, and its replay by two, each with a gate at which the
+/// workers meet.
+pub fn told<R: Threads + Wait + Sync>(rt: &R, alloc: Global) -> Result<String, GateFault> {
+    let mut shelf = files(alloc)?;
+    call(rt, alloc, &mut shelf, &OpenGate, "genesis empty")?;
+    call(rt, alloc, &mut shelf, &OpenGate, STORE)?;
+    let deployed = meet(rt, alloc, &mut shelf, DEPLOY)?;
+    let replayed = meet(rt, alloc, &mut shelf, REPLAY)?;
+    Ok(format!(in alloc; "deploy: {deployed}replay: {replayed}")?)
+}

@@ -1,0 +1,3 @@
+pub mod MadeInput
+pub mod Examples
+pub mod Laws

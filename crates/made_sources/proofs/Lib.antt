@@ -1,0 +1,5 @@
+mod Bridging
+mod Lexing
+mod Lanes
+mod Reading
+pub mod Sources

@@ -1,5 +1,0 @@
-use Rattle.ordered_replay.proofs.Lawful.{answers_say_same}
-use Rattle.ordered_replay.proofs.laws.answers_say_same.Goals as goal
-
-pub returns : goal.returns
-returns c = record { law = answers_say_same }

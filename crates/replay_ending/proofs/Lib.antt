@@ -1,0 +1,3 @@
+mod Channels
+mod Closing
+mod Answering

@@ -1,0 +1,3 @@
+mod Forged
+mod Starting
+mod Raced

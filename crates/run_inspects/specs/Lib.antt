@@ -1,0 +1,2 @@
+pub mod Inspects
+pub mod Faults

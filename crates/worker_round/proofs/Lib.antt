@@ -1,9 +1,0 @@
-pub mod Works
-pub mod Limits
-pub mod Bodies
-pub mod Rounds
-pub mod Stepping
-pub mod Advancing
-pub mod Bases
-pub mod Beginnings
-pub mod Closing

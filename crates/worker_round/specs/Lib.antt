@@ -1,4 +1,0 @@
-pub mod Works
-pub mod Making
-pub mod Courses
-pub mod Bases
