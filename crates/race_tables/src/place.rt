@@ -17,12 +17,21 @@ pub struct Place {
     shelf: MemShelf,
 }
 
-/// What a call came to: its status, what it put, and the next state that it kept.
+/// What a call came to: the code and the message of its status, what it put, and the next state that it kept.
 #[derive(Drop)]
 pub struct Told {
-    pub status: Status,
+    pub code: u8,
+    pub message: Vec<u8>,
     pub report: Vec<u8>,
     pub next: Vec<u8>,
+}
+
+// The code and the message of a status.
+fn ending_of(alloc: Global, status: Status) -> Result<(u8, Vec<u8>), LineFault> {
+    match status.message(alloc) {
+        Ok(message) => Ok((status.code(), message)),
+        Err(_) => Err(LineFault::NoMemory),
+    }
 }
 
 impl Place {
@@ -62,12 +71,13 @@ impl Place {
         alloc: Global,
         out: &mut MemSink,
         text: &str,
-    ) -> Result<Status, LineFault> {
+    ) -> Result<(u8, Vec<u8>), LineFault> {
         let mut words = Vec::new(alloc);
         for word in text.split(' ') {
             words.push(String::from_str(alloc, word)?)?;
         }
-        Ok(run(rt, alloc, words.as_slice(), &mut self.shelf, out, &OpenGate))
+        let status = run(rt, alloc, words.as_slice(), &mut self.shelf, out, &OpenGate);
+        ending_of(alloc, status)
     }
 
     // Runs the words of a text, and tells what they came to, with the next state of this name.
@@ -80,12 +90,13 @@ impl Place {
     ) -> Result<Told, LineFault> {
         self.set(alloc, next, b"")?;
         let mut out = MemSink::new(alloc);
-        let status = self.run(rt, alloc, &mut out, text)?;
+        let (code, message) = self.run(rt, alloc, &mut out, text)?;
         let next = self.file(alloc, next);
         let mut report = Vec::new(alloc);
         report.extend_from_slice(out.bytes.as_slice())?;
         Ok(Told {
-            status,
+            code,
+            message,
             report,
             next,
         })

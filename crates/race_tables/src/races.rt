@@ -22,14 +22,11 @@ fn place_of<'a, R: Threads + Wait + Sync>(
 }
 
 // Whether two calls came to the same.
-fn agree(alloc: Global, one: &Told, other: &Told) -> Result<bool, LineFault> {
-    if one.status.code() != other.status.code() {
-        return Ok(false);
-    }
-    if one.status.message(alloc)? != other.status.message(alloc)? {
-        return Ok(false);
-    }
-    Ok(one.report == other.report && one.next == other.next)
+fn agree(one: &Told, other: &Told) -> bool {
+    one.code == other.code
+        && one.message == other.message
+        && one.report == other.report
+        && one.next == other.next
 }
 
 /// Deploys a source with 1, 2, 4 and 32 workers, and replays each log with 1, 2, 3 and 8: whether each replay came to what its
@@ -44,11 +41,10 @@ pub fn race<R: Threads + Wait + Sync>(
         let deployed = place.deploy(rt, alloc, limit, *workers)?;
         for others in REPLAYERS {
             let replayed = place.replay(rt, alloc, *others)?;
-            if !agree(alloc, &deployed, &replayed)? {
+            if !agree(&deployed, &replayed) {
                 return Ok(format!(in alloc;
                     "{workers} workers: code {}, {others} to replay it: code {}",
-                    deployed.status.code(),
-                    replayed.status.code()
+                    deployed.code, replayed.code
                 )?);
             }
         }
@@ -71,11 +67,10 @@ pub fn damage<R: Threads + Wait + Sync>(
         place.set(alloc, "l", log.as_slice())?;
         let one = place.replay(rt, alloc, 1)?;
         let four = place.replay(rt, alloc, 4)?;
-        if !agree(alloc, &one, &four)? {
+        if !agree(&one, &four) {
             return Ok(format!(in alloc;
                 "byte {at}: one worker code {}, four code {}",
-                one.status.code(),
-                four.status.code()
+                one.code, four.code
             )?);
         }
         log[at] ^= 1;

@@ -1,2 +1,4 @@
 pub mod Words
 pub mod Genesis
+pub mod Calls
+pub mod Accepting

@@ -3,8 +3,6 @@ use Rattle.std.specs.Prelude.{◌≡◌, ℕ, List, Option, Some, None, Result, 
 use Rattle.command_words.specs.Answers.{answer_of}
 use Rattle.command_words.specs.Arguments.{Text}
 use Rattle.command_words.specs.Commands.{Refusal, Request, RunRequest, WorkloadRequest, bad_number, deploy, genesis, inspect, missing, replay, same_file, surplus, unknown_verb, workload}
-use Rattle.command_words.specs.declared.command.Verb.{Verb}
-use Rattle.command_words.specs.declared.command.Verb.TheVariants as verb
 use Rattle.command_words.specs.declared.usage.Usage.{Usage}
 use Rattle.command_words.specs.declared.usage.Usage.TheVariants.{BadWords, BadNumber, Missing, NoMemory, SameFile, Surplus, UnknownVerb}
 
@@ -32,10 +30,10 @@ abbrev pub InspectIn : Answer → (Text → Type 0) → Type 0
 InspectIn (Some (Ok (inspect file))) P = P file
 InspectIn _ P = ⊤
 
--- the same of a verb that is not built yet
-abbrev pub UnbuiltIn : Answer → (Verb → Type 0) → Type 0
-UnbuiltIn (Some (Ok (workload request))) P = P verb.Workload
-UnbuiltIn _ P = ⊤
+-- the same of a workload
+abbrev pub WorkloadIn : Answer → (WorkloadRequest → Type 0) → Type 0
+WorkloadIn (Some (Ok (workload request))) P = P request
+WorkloadIn _ P = ⊤
 
 -- where the words ask for a deploy, this holds of its run and its limit
 abbrev pub OnDeploy : List Text → (RunRequest → ℕ → Type 0) → Type 0
@@ -53,14 +51,9 @@ OnGenesis words P = GenesisIn (answer_of words) P
 abbrev pub OnInspect : List Text → (Text → Type 0) → Type 0
 OnInspect words P = InspectIn (answer_of words) P
 
--- where the words ask for a verb that is not built yet, this holds of the verb
-abbrev pub OnUnbuilt : List Text → (Verb → Type 0) → Type 0
-OnUnbuilt words P = UnbuiltIn (answer_of words) P
-
--- a verb that is not built yet is that of the answer
-abbrev pub IsUnbuiltIn : Answer → Verb → Type 0
-IsUnbuiltIn answer verb.Workload = (request : WorkloadRequest) × (answer ≡ Some (Ok (workload request)))
-IsUnbuiltIn answer _ = ⊥
+-- where the words ask for a workload, this holds of what they ask
+abbrev pub OnWorkload : List Text → (WorkloadRequest → Type 0) → Type 0
+OnWorkload words P = WorkloadIn (answer_of words) P
 
 -- no request is answered
 abbrev pub IsRefusal : Answer → Type 0

@@ -1,15 +1,13 @@
 -- How a deploy ended, as far as its inputs tell.
-use Rattle.std.proofs.Common.{◌≡◌, ℕ, Option, Ok, sym, subst}
-use Rattle.calculus.specs.Tree.{Tree}
+use Rattle.std.proofs.Common.{◌≡◌, ℕ, Option, sym, subst}
 use Rattle.rho_outside.specs.FileMap.{FileMap}
-use Rattle.rho_outside.specs.Told.{Told}
 use Rattle.command_words.specs.Commands.{RunRequest}
-use Rattle.sources.specs.Sources.{IsSourceOf}
 use Rattle.run_verdict.specs.declared.verdict.Verdict.{Verdict}
 use Rattle.run_verdict.specs.declared.verdict.Verdict.TheVariants as ending
-use Rattle.run_inputs.specs.Inputs.{Task, accepted}
-use Rattle.base_states.specs.Bases.{IsState}
-use Rattle.run_inputs.specs.Runnable.{IsRunnable, HasState}
+use Rattle.run_inputs.specs.Given.{task_of, AreAccepted}
+use Rattle.run_inputs.specs.Inputs.{accepted}
+use Rattle.run_inputs.specs.Runnable.{IsRunnable}
+use Rattle.run_inputs.specs.declared.acceptance.Inputs.{Inputs}
 use Rattle.run_inputs.specs.Refused.{RefusedFor}
 use Rattle.run_inputs.specs.Ended.{IsAccepted, DeployEnds}
 use Rattle.run_status.specs.Endings.{status_of}
@@ -34,7 +32,6 @@ module _ (told : Option FileMap) (names : RunRequest) (limit before now : ℕ) w
   refused_ends (status.Usage u) h = absurd h
   refused_ends (status.Log f) h = absurd h
   refused_ends (status.Replay f) h = absurd h
-  refused_ends (status.UnbuiltVerb v) h = absurd h
 
   -- with a verdict all was accepted
   pub verdict_ends : (v : Verdict) (s : Status) → s ≡ status_of v → IsAccepted told names limit → DeployEnds told names limit before now s
@@ -43,5 +40,5 @@ module _ (told : Option FileMap) (names : RunRequest) (limit before now : ℕ) w
   verdict_ends (ending.Faulted step kind) s e h = subst (λ (x : Status). DeployEnds told names limit before now x) (sym e) h
 
 -- what a deploy accepted
-pub accepted_in : (told : Option FileMap) (names : RunRequest) (limit : ℕ) (task : Task) → Told told (λ files. accepted names limit files ≡ Ok task) → Told told (HasState names) → IsState task.state → (t : Tree) → IsSourceOf task.source t → IsAccepted told names limit
-accepted_in told names limit task there has is t spelt = λ files e. (has files e, ok_and IsRunnable (accepted names limit files) task (there files e) (is, (t, spelt)))
+pub accepted_in : (told : Option FileMap) (names : RunRequest) (limit : ℕ) (i : Inputs) → AreAccepted told names limit i → IsAccepted told names limit
+accepted_in told names limit i a = λ files e. (a.has_state files e, ok_and IsRunnable (accepted names limit files) (task_of i) (a.accepted files e) ((i.base.checkpoint, a.state), (i.term, a.term)))

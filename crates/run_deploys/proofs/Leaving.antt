@@ -8,9 +8,9 @@ use Rattle.rho_outside.specs.Kept.{with_files}
 use Rattle.command_words.specs.Commands.{RunRequest}
 use Rattle.run_inputs.specs.Inputs.{Task}
 use Rattle.run_reports.specs.Stops.{StopsOnTheWay}
-use Rattle.run_status.specs.Endings.{OnVerdict, status_of}
+use Rattle.run_status.specs.Endings.{OnRefusal, OnHalt, OnVerdict, status_of}
 use Rattle.run_status.specs.declared.status.Status.{Status}
-use Rattle.run_status.specs.declared.status.Status.TheVariants.{Done, Usage, ReadFault, WriteFault, State, Source, Prices, Limit, Log, Replay, UnbuiltVerb, Exhausted, Faulted, NoMemory, TooLarge}
+use Rattle.run_status.specs.declared.status.Status.TheVariants.{Done, Usage, ReadFault, WriteFault, State, Source, Prices, Limit, Log, Replay, Exhausted, Faulted, NoMemory, TooLarge}
 use Rattle.run_deploys.specs.Runs.{header_of}
 use Rattle.run_deploys.specs.Ends.{LeavesAll, LeavesSome, entries_of, bytes_of}
 use Rattle.run_deploys.specs.Plan.{IsPlan}
@@ -30,9 +30,27 @@ on_verdict (Limit n m) P p = tt
 on_verdict (Log f) P p = tt
 on_verdict (Replay f) P p = tt
 on_verdict (State f) P p = tt
-on_verdict (UnbuiltVerb v) P p = tt
 on_verdict NoMemory P p = tt
 on_verdict (TooLarge i n m) P p = tt
+
+-- what holds where nothing was kept or put holds of a status with a cause that no verdict and no failed write has
+module _ (Cause : Status → Type 0) (done : Cause Done → ⊥) (exhausted : Cause Exhausted → ⊥) (faulted : Cause Faulted → ⊥) (fault : Cause WriteFault → ⊥)
+    (P Q R W : Type 0) (p : P) (r : R) where
+  pub on_refused : (s : Status) → Cause s → OnRefusal s P × (OnVerdict s Q × (OnHalt s R × (s ≡ WriteFault → W)))
+  on_refused Done h = absurd (done h)
+  on_refused Exhausted h = absurd (exhausted h)
+  on_refused Faulted h = absurd (faulted h)
+  on_refused WriteFault h = absurd (fault h)
+  on_refused (Usage u) h = (p, (tt, (tt, λ e. cc)))
+  on_refused (ReadFault i) h = (p, (tt, (tt, λ e. cc)))
+  on_refused (Source f) h = (p, (tt, (tt, λ e. cc)))
+  on_refused (Prices f) h = (p, (tt, (tt, λ e. cc)))
+  on_refused (Limit n m) h = (p, (tt, (tt, λ e. cc)))
+  on_refused (Log f) h = (p, (tt, (tt, λ e. cc)))
+  on_refused (Replay f) h = (p, (tt, (tt, λ e. cc)))
+  on_refused (State f) h = (p, (tt, (tt, λ e. cc)))
+  on_refused NoMemory h = (tt, (tt, (r, λ e. cc)))
+  on_refused (TooLarge i n m) h = (p, (tt, (tt, λ e. cc)))
 
 -- a result that is this value has what the value has
 pub ok_and : {A E : Type 0} (P : A → Type 0) (r : Result A E) (x : A) → r ≡ Ok x → P x → IsOkAnd r P
@@ -49,23 +67,22 @@ same-entries names limit task p plan =
     ∙ ap (λ (n : List ℕ). (names.log, log_text (header_of plan.rows task limit) plan.left.steps) ∷ (names.next, n) ∷ []) plan.next
 
 -- a plan that was written is all that a deploy leaves
-pub leaves_all : (s : Status) (names : RunRequest) (limit : ℕ) (task : Task) (p : Plan) (old mid new : Option FileMap) (before after : Option (List ℕ))
-    → IsPlan limit task p → s ≡ status_of p.verdict → mid ≡ old
-    → new ≡ with_files ((names.log, p.log.items) ∷ (names.next, p.next.items) ∷ []) mid → GrewBy p.bytes.items before after
+pub leaves_all : (s : Status) (names : RunRequest) (limit : ℕ) (task : Task) (p : Plan) (old new : Option FileMap) (before after : Option (List ℕ))
+    → IsPlan limit task p → s ≡ status_of p.verdict
+    → new ≡ with_files ((names.log, p.log.items) ∷ (names.next, p.next.items) ∷ []) old → GrewBy p.bytes.items before after
     → LeavesAll s names limit old new before after task
-leaves_all s names limit task p old mid new before after plan e same kept put =
+leaves_all s names limit task p old new before after plan e kept put =
     let entries = entries_of names plan.rows task limit plan.left in
-    let files : new ≡ with_files entries old = kept ∙ (ap (λ es. with_files es mid) (same-entries names limit task p plan) ∙ ap (with_files entries) same) in
+    let files : new ≡ with_files entries old = kept ∙ ap (λ es. with_files es old) (same-entries names limit task p plan) in
     (plan.rows, (plan.left, (record { run = plan.run; verdict = e ∙ ap status_of plan.verdict }, (files, subst (λ (l : List ℕ). GrewBy l before after) plan.bytes put))))
 
 -- a plan that was written in part is some of what a deploy leaves
-pub leaves_some : (names : RunRequest) (limit : ℕ) (task : Task) (p : Plan) (old mid new : Option FileMap) (faults_old faults_mid faults_new : ℕ) (before after : Option (List ℕ))
-    → IsPlan limit task p → mid ≡ old → faults_mid ≡ faults_old
-    → StopsOnTheWay ((names.log, p.log.items) ∷ (names.next, p.next.items) ∷ []) p.bytes.items mid new faults_mid faults_new before after
+pub leaves_some : (names : RunRequest) (limit : ℕ) (task : Task) (p : Plan) (old new : Option FileMap) (faults_old faults_new : ℕ) (before after : Option (List ℕ))
+    → IsPlan limit task p
+    → StopsOnTheWay ((names.log, p.log.items) ∷ (names.next, p.next.items) ∷ []) p.bytes.items old new faults_old faults_new before after
     → LeavesSome names limit old new faults_old faults_new before after task
-leaves_some names limit task p old mid new f g h before after plan same count stops =
-    let F = λ (es : List (List ℕ × List ℕ)) (bytes : List ℕ) (m : Option FileMap) (k : ℕ). StopsOnTheWay es bytes m new k h before after in
+leaves_some names limit task p old new f h before after plan stops =
+    let F = λ (es : List (List ℕ × List ℕ)) (bytes : List ℕ). StopsOnTheWay es bytes old new f h before after in
     let entries = entries_of names plan.rows task limit plan.left in
-    let all : F entries (bytes_of plan.left) old f =
-    subst (F entries (bytes_of plan.left) old) count (subst (λ m. F entries (bytes_of plan.left) m g) same (subst (λ b. F entries b mid g) plan.bytes (subst (λ es. F es p.bytes.items mid g) (same-entries names limit task p plan) stops))) in
+    let all : F entries (bytes_of plan.left) = subst (λ b. F entries b) plan.bytes (subst (λ es. F es p.bytes.items) (same-entries names limit task p plan) stops) in
     (plan.rows, (plan.left, (plan.run, all)))

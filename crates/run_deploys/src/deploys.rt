@@ -8,7 +8,7 @@ ghost use Rattle.rho_outside.specs.Kept.{with_files};
 ghost use Rattle.run_reports.specs.Stops.{StopsOnTheWay};
 ghost use Rattle.command_words.specs.Answers.{run_of};
 ghost use Rattle.event_log.specs.View.{TakesInRange};
-ghost use Rattle.run_inputs.specs.Given.{task_of, IsBase};
+ghost use Rattle.run_inputs.specs.Given.{task_of, AreAccepted, IsBase};
 ghost use Rattle.run_inputs.specs.Ended.{DeployEnds};
 ghost use Rattle.run_status.specs.Endings.{OnRefusal, OnHalt, OnVerdict};
 ghost use Rattle.run_deploys.specs.Deploys.{IsDeploy};
@@ -25,7 +25,7 @@ use play_pool::play;
 use readable_logs::steps_are_readable;
 use rho_outside::{Gate, Shelf, Sink};
 use rspace_table::SpaceTables;
-use run_inputs::{Base, Inputs, accept};
+use run_inputs::{Base, Inputs};
 use run_reports::{Halt, keep_both_and_put, report};
 use run_status::{Status, status_of};
 use run_verdict::Verdict;
@@ -77,7 +77,7 @@ fn plan_of(
 }
 
 /// Runs the source from the state by so many workers, and makes all bytes that are to be written.
-fn make_plan<R: Threads + Wait + Sync, G: Gate + Sync>(
+pub fn make_plan<R: Threads + Wait + Sync, G: Gate + Sync>(
     rt: &R,
     alloc: Global,
     gate: &G,
@@ -143,26 +143,24 @@ pub fn worker_count(run: &Run) -> u32
     run.workers.max(1).min(32)
 }
 
-/// Runs a source, as `deploy` does.
+/// Runs a source, as `deploy_accepted` does.
 fn deploy_run<R: Threads + Wait + Sync, S: Shelf, O: Sink, G: Gate + Sync>(
     rt: &R,
     alloc: Global,
     run: &Run,
     limit: u64,
+    inputs: Inputs,
     shelf: &mut S,
     out: &mut O,
     gate: &G,
 ) -> Status
+    requires inputs { AreAccepted (S.files shelf.now) (run_of run.now) limit inputs }
     ensures ends { DeployEnds (S.files shelf.old) (run_of run.now) limit (S.fetch_faults shelf.old) (S.fetch_faults shelf.new) result }
     ensures stays { OnRefusal result ((S.files shelf.new ≡ S.files shelf.old) × (O.written out.new ≡ O.written out.old)) }
     ensures write_fault { result ≡ Status.WriteFault → Rose (S.keep_faults shelf.old) (S.keep_faults shelf.new) ⊎ Rose (O.faults out.old) (O.faults out.new) }
     ensures verdict { OnVerdict result (Leaves result (run_of run.now) limit (S.files shelf.old) (S.files shelf.new) (O.written out.old) (O.written out.new)) }
     ensures part { OnHalt result (LeavesInPart (run_of run.now) limit (S.files shelf.old) (S.files shelf.new) (S.keep_faults shelf.old) (S.keep_faults shelf.new) (O.written out.old) (O.written out.new)) }
 {
-    let inputs = match accept(alloc, shelf, run, limit) {
-        Ok(inputs) => inputs,
-        Err(status) => return status,
-    };
     let plan = match make_plan(rt, alloc, gate, worker_count(run), inputs, limit) {
         Ok(plan) => plan,
         Err(_) => return Status::NoMemory,
@@ -174,19 +172,21 @@ fn deploy_run<R: Threads + Wait + Sync, S: Shelf, O: Sink, G: Gate + Sync>(
     }
 }
 
-/// Runs a source by as many workers as the words name: nothing is kept or put before all inputs are accepted and the run has ended.
-pub fn deploy<R: Threads + Wait + Sync, S: Shelf, O: Sink, G: Gate + Sync>(
+/// Runs the source of accepted inputs by as many workers as the words name: nothing is kept or put before the run has ended.
+pub fn deploy_accepted<R: Threads + Wait + Sync, S: Shelf, O: Sink, G: Gate + Sync>(
     rt: &R,
     alloc: Global,
     run: &Run,
     limit: u64,
+    inputs: Inputs,
     shelf: &mut S,
     out: &mut O,
     gate: &G,
 ) -> Status
+    requires inputs { AreAccepted (S.files shelf.now) (run_of run.now) limit inputs }
     ensures { IsDeploy (run_of run.now) limit
         (world (S.files shelf.old) (S.fetch_faults shelf.old) (S.keep_faults shelf.old) (O.written out.old) (O.faults out.old))
         (world (S.files shelf.new) (S.fetch_faults shelf.new) (S.keep_faults shelf.new) (O.written out.new) (O.faults out.new)) result }
 {
-    deploy_run(rt, alloc, run, limit, shelf, out, gate)
+    deploy_run(rt, alloc, run, limit, inputs, shelf, out, gate)
 }

@@ -4,5 +4,5 @@
 pub mod deploys;
 pub mod next;
 
-pub use deploys::{deploy, worker_count};
+pub use deploys::{Plan, deploy_accepted, make_plan, worker_count};
 pub use next::{next_state, printed};

@@ -130,7 +130,6 @@ module _ (told : Option FileMap) (names : RunRequest) (limit before now : ℕ) (
   deploy_exact (status.Usage u) h r k n = absurd h
   deploy_exact (status.Log f) h r k n = absurd h
   deploy_exact (status.Replay f) h r k n = absurd h
-  deploy_exact (status.UnbuiltVerb v) h r k n = absurd h
 
   -- a state that is none is said to be none
   pub deploy_state_exact : (s : Status) → DeployEnds told names limit before now s → (state : List ℕ) → accepted_state names files ≡ Ok state → ¬ (Rose before now) → (g : StateFault) → IsNoState state g → SaysNoState s
@@ -155,7 +154,6 @@ module _ (told : Option FileMap) (names : RunRequest) (limit before now : ℕ) (
   deploy_state_exact (status.Usage u) h state a n g other = absurd h
   deploy_state_exact (status.Log f) h state a n g other = absurd h
   deploy_state_exact (status.Replay f) h state a n g other = absurd h
-  deploy_state_exact (status.UnbuiltVerb v) h state a n g other = absurd h
 
   module _ (task : Task) (a : accepted names limit files ≡ Ok task) (n : ¬ (Rose before now)) (has : HasState names files) where
     no-refusal : (r : Refusal) → accepted names limit files ≡ Err r → ⊥
@@ -180,7 +178,6 @@ module _ (told : Option FileMap) (names : RunRequest) (limit before now : ℕ) (
     deploy_source_exact (status.Usage u) h = absurd h
     deploy_source_exact (status.Log f) h = absurd h
     deploy_source_exact (status.Replay f) h = absurd h
-    deploy_source_exact (status.UnbuiltVerb v) h = absurd h
 
     -- and where the source spells a process and nothing else failed, the run ended or memory is wanted
     pub deploy_complete : (s : Status) (A B : Type 0) → DeployEnds told names limit before now s → HasProcess task → (s ≡ status.WriteFault → A ⊎ B) → ¬ A → ¬ B → HasEnded s
@@ -204,4 +201,3 @@ module _ (told : Option FileMap) (names : RunRequest) (limit before now : ℕ) (
     deploy_complete (status.Usage u) A B h p w x y = absurd h
     deploy_complete (status.Log f) A B h u w x y = absurd h
     deploy_complete (status.Replay f) A B h u w x y = absurd h
-    deploy_complete (status.UnbuiltVerb v) A B h u w x y = absurd h

@@ -118,7 +118,6 @@ module _ (More : Status → Task × List ℕ → Type 0) (told : Option FileMap)
   replay_exact (status.Replay f) h r k n = absurd (accepted-inputs (More (status.Replay f)) (h files e) r k)
   replay_exact (status.Usage u) h r k n = absurd h
   replay_exact (status.Limit m most) h r k n = absurd h
-  replay_exact (status.UnbuiltVerb v) h r k n = absurd h
 
   -- a state that is none is said to be none
   pub replay_state_exact : (s : Status) → ReplayEnds More told names before now s → (state : List ℕ) → accepted_state names files ≡ Ok state → ¬ (Rose before now) → (g : StateFault) → IsNoState state g → SaysNoState s
@@ -143,7 +142,6 @@ module _ (More : Status → Task × List ℕ → Type 0) (told : Option FileMap)
   replay_state_exact (status.Replay f) h state a n g other = absurd (not_none names files state a own (may_have names files (h files e).0) g other)
   replay_state_exact (status.Usage u) h state a n g other = absurd h
   replay_state_exact (status.Limit m most) h state a n g other = absurd h
-  replay_state_exact (status.UnbuiltVerb v) h state a n g other = absurd h
 
   module _ (inputs : Task × List ℕ) (a : accepted_log names files ≡ Ok inputs) (n : ¬ (Rose before now)) (has : HasState names files) where
     no-replay-refusal : (r : Refusal) → IsReplayRefusal names files r → ⊥
@@ -180,7 +178,6 @@ module _ (More : Status → Task × List ℕ → Type 0) (told : Option FileMap)
     replay_log_exact (status.Replay g) h run f k = absurd (log-unlike f (known (More (status.Replay g)) (h files e)).read k)
     replay_log_exact (status.Usage u) h run f k = absurd h
     replay_log_exact (status.Limit m most) h run f k = absurd h
-    replay_log_exact (status.UnbuiltVerb v) h run f k = absurd h
 
     -- where the log is read besides, all that is known of the end holds, or memory is wanted
     pub replay_known : (s : Status) → ReplayEnds More told names before now s → IsRunnable inputs.0 → IsOk (log_of inputs.1) → (s ≡ status.NoMemory) ⊎ More s inputs
@@ -198,7 +195,6 @@ module _ (More : Status → Task × List ℕ → Type 0) (told : Option FileMap)
     replay_known (status.Replay g) h run k = inr (known (More (status.Replay g)) (h files e)).more
     replay_known (status.Usage u) h run k = absurd h
     replay_known (status.Limit m most) h run k = absurd h
-    replay_known (status.UnbuiltVerb v) h run k = absurd h
 
   module _ (task : Task) (a : accepted_source names files ≡ Ok task) (n : ¬ (Rose before now)) (has : HasState names files) where
     free-source : IsRunnable task → (s : Status) → SaysOf task.source s
@@ -234,4 +230,3 @@ module _ (More : Status → Task × List ℕ → Type 0) (told : Option FileMap)
     replay_source_exact (status.Replay f) h = with-log (More (status.Replay f)) (h files e) (status.Replay f)
     replay_source_exact (status.Usage u) h = absurd h
     replay_source_exact (status.Limit m most) h = absurd h
-    replay_source_exact (status.UnbuiltVerb v) h = absurd h

@@ -6,11 +6,11 @@ ghost use Rattle.calculus.specs.Form.{IsClosed};
 ghost use Rattle.calculus.specs.Limits.{most_limit as greatest_limit};
 ghost use Rattle.rho_outside.specs.Told.{Told};
 ghost use Rattle.command_words.specs.Answers.{run_of};
-ghost use Rattle.run_inputs.specs.Inputs.{accepted, accepted_source, accepted_log};
+ghost use Rattle.run_inputs.specs.Inputs.{accepted_source};
 ghost use Rattle.run_inputs.specs.Refused.{RefusedFor, SourceCause, StatusOf};
 ghost use Rattle.run_inputs.specs.Replaying.{ReplayRefusedFor};
 ghost use Rattle.run_inputs.specs.Runnable.{HasState};
-ghost use Rattle.run_inputs.specs.Given.{task_of, IsBase, IsGiven, LogCause};
+ghost use Rattle.run_inputs.specs.Given.{task_of, IsBase, AreAccepted, AreReplayAccepted, LogCause};
 ghost use Rattle.sources.specs.Sources.{IsSourceOf};
 
 use crate::fetch::{Base, accept_limit, accept_prices, take};
@@ -101,13 +101,8 @@ pub fn accept<S: Shelf>(
 ) -> Result<Inputs, Status>
     ensures files { S.files shelf.new ≡ S.files shelf.old }
     ensures keep_faults { S.keep_faults shelf.new ≡ S.keep_faults shelf.old }
-    ensures accepted { IfOk result (λ i. Told (S.files shelf.old) (λ files. accepted (run_of run.now) limit files ≡ Ok (task_of i))) }
-    ensures state { IfOk result (λ i. IsBase i.base) }
-    ensures term { IfOk result (λ i. IsSourceOf i.source.items i.term) }
-    ensures closed { IfOk result (λ i. IsClosed i.term) }
-    ensures in_range { IfOk result (λ i. limit ≤ greatest_limit i.prices) }
-    ensures short { IfOk result (λ i. length i.source.items ≤ 1048576) }
-    ensures told { IfOk result (λ _. Told (S.files shelf.old) (HasState (run_of run.now))) }
+    ensures fetch_faults { S.fetch_faults shelf.old ≤ S.fetch_faults shelf.new }
+    ensures given { IfOk result (AreAccepted (S.files shelf.old) (run_of run.now) limit) }
     ensures refused { IfErr result (RefusedFor (S.files shelf.old) (run_of run.now) limit (S.fetch_faults shelf.old) (S.fetch_faults shelf.new)) }
 {
     let (base, prices) = match accept_limit(alloc, shelf, run, limit) {
@@ -173,13 +168,8 @@ pub fn accept_replay<S: Shelf>(
 ) -> Result<ReplayInputs, Status>
     ensures files { S.files shelf.new ≡ S.files shelf.old }
     ensures keep_faults { S.keep_faults shelf.new ≡ S.keep_faults shelf.old }
-    ensures accepted { IfOk result (λ r. Told (S.files shelf.old) (λ files. IsOkAnd (accepted_log (run_of run.now) files) (IsGiven r))) }
-    ensures state { IfOk result (λ r. IsBase r.inputs.base) }
-    ensures term { IfOk result (λ r. IsSourceOf r.inputs.source.items r.inputs.term) }
-    ensures closed { IfOk result (λ r. IsClosed r.inputs.term) }
-    ensures short { IfOk result (λ r. length r.inputs.source.items ≤ 1048576) }
-    ensures told { IfOk result (λ _. Told (S.files shelf.old) (HasState (run_of run.now))) }
-    ensures writable { IfOk result (λ r. IsWritable r.log) }
+    ensures fetch_faults { S.fetch_faults shelf.old ≤ S.fetch_faults shelf.new }
+    ensures given { IfOk result (AreReplayAccepted (S.files shelf.old) (run_of run.now)) }
     ensures refused { IfErr result (ReplayRefusedFor (S.files shelf.old) (run_of run.now) (S.fetch_faults shelf.old) (S.fetch_faults shelf.new)) }
 {
     let inputs = match accept_replay_source(alloc, shelf, run) {

@@ -82,7 +82,6 @@ says-end (status.Limit n m) o w h = subst HasEnded (sym h) (ends-for o.verdict)
 says-end (status.Log f) o w h = subst HasEnded (sym h) (ends-for o.verdict)
 says-end (status.Replay f) o w h = subst HasEnded (sym h) (ends-for o.verdict)
 says-end (status.State f) o w h = subst HasEnded (sym h) (ends-for o.verdict)
-says-end (status.UnbuiltVerb v) o w h = subst HasEnded (sym h) (ends-for o.verdict)
 says-end (status.TooLarge i n m) o w h = subst HasEnded (sym h) (ends-for o.verdict)
 
 -- where a log is answered by an outcome and nothing failed, the replay ended or memory is wanted

@@ -1,18 +1,17 @@
 -- How a replay ended, and what it leaves of the told files and bytes.
 use Rattle.std.proofs.Common.{◌≡◌, ◌∙◌, ℕ, List, [], ◌∷◌, refl, sym, ap, subst, Result, Ok, Err, Option}
 use Rattle.std.specs.Result.{IsOkAnd, IsOk}
+use Rattle.calculus.specs.Rows.{Row}
 use Rattle.rho_outside.specs.FileMap.{FileMap}
 use Rattle.rho_outside.specs.Told.{Told}
 use Rattle.rho_outside.specs.Put.{GrewBy}
 use Rattle.rho_outside.specs.Kept.{with_files}
 use Rattle.command_words.specs.Commands.{RunRequest}
-use Rattle.sources.specs.Sources.{IsSourceOf}
 use Rattle.run_verdict.specs.declared.verdict.Verdict.{Verdict as Ending}
 use Rattle.run_verdict.specs.declared.verdict.Verdict.TheVariants as ending
 use Rattle.run_inputs.specs.Inputs.{Task, accepted_log}
-use Rattle.run_inputs.specs.Given.{IsGiven}
-use Rattle.base_states.specs.Bases.{IsState}
-use Rattle.run_inputs.specs.Runnable.{IsRunnable, HasState}
+use Rattle.run_inputs.specs.Given.{IsGiven, AreReplayAccepted}
+use Rattle.run_inputs.specs.Runnable.{IsRunnable}
 use Rattle.run_inputs.specs.Replaying.{ReplayRefusedFor}
 use Rattle.run_inputs.specs.Ended.{IsReplayable, IsReplayAccepted, ReplayEnds}
 use Rattle.run_inputs.specs.declared.acceptance.ReplayInputs.{ReplayInputs}
@@ -48,23 +47,25 @@ module _ (told : Option FileMap) (names : RunRequest) (before now : ℕ) where
   replay_refused_ends status.WriteFault h = absurd h
   replay_refused_ends (status.Usage u) h = absurd h
   replay_refused_ends (status.Replay f) h = absurd h
-  replay_refused_ends (status.UnbuiltVerb v) h = absurd h
 
-  module _ (r : ReplayInputs) (accepted : Told told (λ files. IsOkAnd (accepted_log names files) (IsGiven r))) (has : Told told (HasState names))
-      (state : IsState r.inputs.base.text.items) (spelt : IsSourceOf r.inputs.source.items r.inputs.term) where
+  module _ (r : ReplayInputs) (given : AreReplayAccepted told names r) where
+    -- the rows of the state
+    abbrev rows : List Row
+    rows = r.inputs.base.checkpoint
+
     accepted-so : (s : Status) → ((inputs : Task × List ℕ) → IsGiven r inputs → IsSettled s inputs) → IsReplayAccepted (IsSettled s) told names
-    accepted-so s known files e = (has files e, ok_more (IsGiven r) (IsReplayable (IsSettled s)) (accepted_log names files) one (accepted files e))
+    accepted-so s known files e = (given.has_state files e, ok_more (IsGiven r) (IsReplayable (IsSettled s)) (accepted_log names files) one (given.accepted files e))
       where
         one : (inputs : Task × List ℕ) → IsGiven r inputs → IsReplayable (IsSettled s) inputs
         one inputs i = record {
-          run = subst (λ (t : Task). IsRunnable t) (sym i.task) (state, (r.inputs.term, spelt));
+          run = subst (λ (t : Task). IsRunnable t) (sym i.task) ((rows, given.state), (r.inputs.term, given.term));
           read = subst (λ (l : Result _ _). IsOk l) (sym i.log) refl;
           more = known inputs i;
         }
 
     -- a log that is refused
-    pub stop_ends : (s : Status) → IsReplayStop state.0 r s → ReplayEnds IsSettled told names before now s
-    stop_ends (status.Replay f) h = accepted-so (status.Replay f) (λ inputs i. settled_refusal state.0 r inputs i state.1 spelt f h)
+    pub stop_ends : (s : Status) → IsReplayStop rows r s → ReplayEnds IsSettled told names before now s
+    stop_ends (status.Replay f) h = accepted-so (status.Replay f) (λ inputs i. settled_refusal rows r inputs i given.state given.term f h)
     stop_ends status.NoMemory h = tt
     stop_ends status.Done h = absurd h
     stop_ends (status.Usage u) h = absurd h
@@ -75,44 +76,41 @@ module _ (told : Option FileMap) (names : RunRequest) (before now : ℕ) where
     stop_ends (status.Prices f) h = absurd h
     stop_ends (status.Limit n m) h = absurd h
     stop_ends (status.State f) h = absurd h
-    stop_ends (status.UnbuiltVerb v) h = absurd h
     stop_ends status.Exhausted h = absurd h
     stop_ends status.Faulted h = absurd h
     stop_ends (status.TooLarge i n m) h = absurd h
 
-    module _ (p : ReplayPlan) (plan : IsReplayPlan state.0 r p) where
+    module _ (p : ReplayPlan) (plan : IsReplayPlan rows r p) where
       -- a failed write
       pub fault_ends : ReplayEnds IsSettled told names before now status.WriteFault
-      fault_ends = accepted-so status.WriteFault (λ inputs i. settled_fault state.0 r inputs i state.1 spelt p plan)
+      fault_ends = accepted-so status.WriteFault (λ inputs i. settled_fault rows r inputs i given.state given.term p plan)
 
       -- a verdict
       pub replay_verdict_ends : (s : Status) → s ≡ status_of p.verdict → ReplayEnds IsSettled told names before now s
       replay_verdict_ends s e = subst (λ (x : Status). ReplayEnds IsSettled told names before now x) (sym e) (go p.verdict refl)
         where
           known : (v : Ending) → p.verdict ≡ v → IsReplayAccepted (IsSettled (status_of v)) told names
-          known v k = accepted-so (status_of v) (λ inputs i. subst (λ (w : Ending). IsSettled (status_of w) inputs) k (settled_verdict state.0 r inputs i state.1 spelt p plan))
+          known v k = accepted-so (status_of v) (λ inputs i. subst (λ (w : Ending). IsSettled (status_of w) inputs) k (settled_verdict rows r inputs i given.state given.term p plan))
 
           go : (v : Ending) → p.verdict ≡ v → ReplayEnds IsSettled told names before now (status_of v)
           go ending.Done k = known ending.Done k
           go ending.Exhausted k = known ending.Exhausted k
           go (ending.Faulted step kind) k = known (ending.Faulted step kind) k
 
-      module _ (old mid new : Option FileMap) (output after : Option (List ℕ)) (same : mid ≡ old) where
+      module _ (new : Option FileMap) (output after : Option (List ℕ)) where
         -- a plan that was written is all that a replay leaves
-        pub replay_leaves_all : (s : Status) → s ≡ status_of p.verdict → new ≡ with_files ((names.next, p.next.items) ∷ []) mid → GrewBy p.bytes.items output after
-            → Told told (λ files. IsOkAnd (accepted_log names files) (ReplayLeavesAll s names old new output after))
+        pub replay_leaves_all : (s : Status) → s ≡ status_of p.verdict → new ≡ with_files ((names.next, p.next.items) ∷ []) told → GrewBy p.bytes.items output after
+            → Told told (λ files. IsOkAnd (accepted_log names files) (ReplayLeavesAll s names told new output after))
         replay_leaves_all s e kept put files h =
-            let F = λ (n : List ℕ) (m : Option FileMap). with_files ((names.next, n) ∷ []) m in
-            let there : new ≡ F plan.left.next old = kept ∙ (ap (λ n. F n mid) plan.next ∙ ap (λ m. F plan.left.next m) same) in
-            ok_more (IsGiven r) (ReplayLeavesAll s names old new output after) (accepted_log names files) (λ inputs i.
-            (plan.left, (record { replay = left_by_replay state.0 r inputs i state.1 spelt p plan; verdict = e ∙ ap status_of plan.verdict }, (there, subst (λ (l : List ℕ). GrewBy l output after) plan.bytes put)))) (accepted files h)
+            let there : new ≡ with_files ((names.next, plan.left.next) ∷ []) told = kept ∙ ap (λ n. with_files ((names.next, n) ∷ []) told) plan.next in
+            ok_more (IsGiven r) (ReplayLeavesAll s names told new output after) (accepted_log names files) (λ inputs i.
+            (plan.left, (record { replay = left_by_replay rows r inputs i given.state given.term p plan; verdict = e ∙ ap status_of plan.verdict }, (there, subst (λ (l : List ℕ). GrewBy l output after) plan.bytes put)))) (given.accepted files h)
 
         -- and one that was written in part is some of it
-        pub replay_leaves_some : (f g h : ℕ) → g ≡ f → StopsOnTheWay ((names.next, p.next.items) ∷ []) p.bytes.items mid new g h output after
-            → Told told (λ files. IsOkAnd (accepted_log names files) (ReplayLeavesSome names old new f h output after))
-        replay_leaves_some f g h count stops files e =
-            let F = λ (n bytes : List ℕ) (m : Option FileMap) (k : ℕ). StopsOnTheWay ((names.next, n) ∷ []) bytes m new k h output after in
-            let all : F plan.left.next (bytes_of plan.left) old f =
-            subst (F plan.left.next (bytes_of plan.left) old) count (subst (λ m. F plan.left.next (bytes_of plan.left) m g) same (subst (λ b. F plan.left.next b mid g) plan.bytes (subst (λ n. F n p.bytes.items mid g) plan.next stops))) in
-            ok_more (IsGiven r) (ReplayLeavesSome names old new f h output after) (accepted_log names files) (λ inputs i.
-            (plan.left, (left_by_replay state.0 r inputs i state.1 spelt p plan, all))) (accepted files e)
+        pub replay_leaves_some : (f h : ℕ) → StopsOnTheWay ((names.next, p.next.items) ∷ []) p.bytes.items told new f h output after
+            → Told told (λ files. IsOkAnd (accepted_log names files) (ReplayLeavesSome names told new f h output after))
+        replay_leaves_some f h stops files e =
+            let F = λ (n bytes : List ℕ). StopsOnTheWay ((names.next, n) ∷ []) bytes told new f h output after in
+            let all : F plan.left.next (bytes_of plan.left) = subst (λ b. F plan.left.next b) plan.bytes (subst (λ n. F n p.bytes.items) plan.next stops) in
+            ok_more (IsGiven r) (ReplayLeavesSome names told new f h output after) (accepted_log names files) (λ inputs i.
+            (plan.left, (left_by_replay rows r inputs i given.state given.term p plan, all))) (given.accepted files e)

@@ -104,6 +104,7 @@ module _ (rows : List Row) (r : ReplayInputs) (state : IsStateOf r.inputs.base.t
         silent = silent x.verdict x.output.items;
         next = refl;
         bytes = planned.bytes;
+        line = planned.line;
         verdict = planned.verdict;
       }
     where

@@ -56,7 +56,7 @@ IsReplayStop rows r (status.Replay f) = IsRefusedBy rows f r
 IsReplayStop rows r status.NoMemory = ⊤
 IsReplayStop rows r _ = ⊥
 
--- the bytes of a next state and those that are put that a replay of these inputs left, from these rows
+-- the bytes of a next state, those that are put and those of the report's line that a replay of these inputs left, from these rows
 pub record IsReplayPlan (rows : List Row) (r : ReplayInputs) (p : ReplayPlan) : Type 0 where
   pub left : Left
   pub steps_are : left.steps ≡ steps_in r
@@ -67,6 +67,7 @@ pub record IsReplayPlan (rows : List Row) (r : ReplayInputs) (p : ReplayPlan) : 
   pub silent : left.report.verdict ≢ Done → left.output ≡ []
   pub next : p.next.items ≡ left.next
   pub bytes : p.bytes.items ≡ bytes_of left
+  pub line : p.line.items ≡ report_line left.report
   pub verdict : p.verdict ≡ left.report.verdict
 
 -- the bytes that are made of what the replay of a log of so many steps came to, from a state with this text and this root
@@ -75,4 +76,5 @@ pub record IsPlanned (text base : List ℕ) (count : ℕ) (x : Replayed) (p : Re
   pub done : x.verdict ≡ Done → (digest ≡ root x.rows.items) × (p.next.items ≡ state_text x.rows.items)
   pub old : x.verdict ≢ Done → (digest ≡ base) × (p.next.items ≡ text)
   pub bytes : p.bytes.items ≡ printed (verdict_of x.verdict) x.output.items ++ report_line (record { verdict = x.verdict; cost = x.cost; root = digest; steps = count })
+  pub line : p.line.items ≡ report_line (record { verdict = x.verdict; cost = x.cost; root = digest; steps = count })
   pub verdict : p.verdict ≡ x.verdict

@@ -4,4 +4,4 @@
 pub mod laws;
 pub mod replaying;
 
-pub use replaying::replay;
+pub use replaying::{ReplayPlan, make_replay_plan, replay_accepted};

@@ -9,7 +9,7 @@ ghost use Rattle.replay_faults.specs.Refusals.{refusal_of};
 ghost use Rattle.command_words.specs.Answers.{run_of};
 ghost use Rattle.event_log.specs.View.{IsWritable};
 ghost use Rattle.run_inputs.specs.Ended.{ReplayEnds};
-ghost use Rattle.run_inputs.specs.Given.{IsBase};
+ghost use Rattle.run_inputs.specs.Given.{AreReplayAccepted, IsBase};
 ghost use Rattle.run_status.specs.Endings.{OnRefusal, OnHalt, OnVerdict};
 ghost use Rattle.run_replays.specs.Replaying.{IsSettled, ReplayLeaves, ReplayLeavesInPart};
 ghost use Rattle.run_replays.specs.ReplayPlans.{IsPlanned, IsReplayPlan, IsReplayStop, ReplayStatusOf};
@@ -24,7 +24,7 @@ use replay_faults::ReplayFault;
 use replay_runs::replay as replay_log;
 use rho_outside::{Gate, Shelf, Sink};
 use run_deploys::{next_state, printed, worker_count};
-use run_inputs::{Base, Inputs, ReplayInputs, accept_replay};
+use run_inputs::{Base, Inputs, ReplayInputs};
 use run_reports::{Halt, keep_and_put, report};
 use run_status::{Status, status_of};
 use run_verdict::Verdict;
@@ -38,6 +38,8 @@ pub struct ReplayPlan {
     pub next: Vec<u8>,
     /// What is printed, and then the line of the report.
     pub bytes: Vec<u8>,
+    /// The line of the report alone.
+    pub line: Vec<u8>,
     pub verdict: Verdict,
 }
 
@@ -65,6 +67,7 @@ fn plan_of(
     Ok(ReplayPlan {
         next,
         bytes,
+        line,
         verdict,
     })
 }
@@ -80,7 +83,7 @@ fn status_of_fault(fault: ReplayFault) -> Status
 }
 
 /// Replays the log from the state by so many workers, and makes all bytes that are to be written.
-fn make_replay_plan<R: Threads + Wait + Sync, G: Gate + Sync>(
+pub fn make_replay_plan<R: Threads + Wait + Sync, G: Gate + Sync>(
     rt: &R,
     alloc: Global,
     gate: &G,
@@ -139,25 +142,23 @@ fn write_replay<S: Shelf, O: Sink>(
     keep_and_put(alloc, shelf, out, next, plan.bytes.as_slice())
 }
 
-/// Replays a log, as `replay` does.
+/// Replays a log, as `replay_accepted` does.
 fn replay_run<R: Threads + Wait + Sync, S: Shelf, O: Sink, G: Gate + Sync>(
     rt: &R,
     alloc: Global,
     run: &Run,
+    inputs: ReplayInputs,
     shelf: &mut S,
     out: &mut O,
     gate: &G,
 ) -> Status
+    requires inputs { AreReplayAccepted (S.files shelf.now) (run_of run.now) inputs }
     ensures ends { ReplayEnds IsSettled (S.files shelf.old) (run_of run.now) (S.fetch_faults shelf.old) (S.fetch_faults shelf.new) result }
     ensures stays { OnRefusal result ((S.files shelf.new ≡ S.files shelf.old) × (O.written out.new ≡ O.written out.old)) }
     ensures write_fault { result ≡ Status.WriteFault → Rose (S.keep_faults shelf.old) (S.keep_faults shelf.new) ⊎ Rose (O.faults out.old) (O.faults out.new) }
     ensures verdict { OnVerdict result (ReplayLeaves result (run_of run.now) (S.files shelf.old) (S.files shelf.new) (O.written out.old) (O.written out.new)) }
     ensures part { OnHalt result (ReplayLeavesInPart (run_of run.now) (S.files shelf.old) (S.files shelf.new) (S.keep_faults shelf.old) (S.keep_faults shelf.new) (O.written out.old) (O.written out.new)) }
 {
-    let inputs = match accept_replay(alloc, shelf, run) {
-        Ok(inputs) => inputs,
-        Err(status) => return status,
-    };
     let plan = match make_replay_plan(rt, alloc, gate, worker_count(run), inputs) {
         Ok(plan) => plan,
         Err(status) => return status,
@@ -169,18 +170,20 @@ fn replay_run<R: Threads + Wait + Sync, S: Shelf, O: Sink, G: Gate + Sync>(
     }
 }
 
-/// Replays a log by as many workers as the words name: nothing is kept or put before all inputs are accepted and the replay has ended.
-pub fn replay<R: Threads + Wait + Sync, S: Shelf, O: Sink, G: Gate + Sync>(
+/// Replays the log of accepted inputs by as many workers as the words name: nothing is kept or put before the replay has ended.
+pub fn replay_accepted<R: Threads + Wait + Sync, S: Shelf, O: Sink, G: Gate + Sync>(
     rt: &R,
     alloc: Global,
     run: &Run,
+    inputs: ReplayInputs,
     shelf: &mut S,
     out: &mut O,
     gate: &G,
 ) -> Status
+    requires inputs { AreReplayAccepted (S.files shelf.now) (run_of run.now) inputs }
     ensures { IsReplay (run_of run.now)
         (world (S.files shelf.old) (S.fetch_faults shelf.old) (S.keep_faults shelf.old) (O.written out.old) (O.faults out.old))
         (world (S.files shelf.new) (S.fetch_faults shelf.new) (S.keep_faults shelf.new) (O.written out.new) (O.faults out.new)) result }
 {
-    replay_run(rt, alloc, run, shelf, out, gate)
+    replay_run(rt, alloc, run, inputs, shelf, out, gate)
 }

@@ -1,11 +1,10 @@
 -- Which statuses are refusals, halts and verdicts.
 use Rattle.std.specs.Prelude.{⊤}
-use Rattle.command_words.specs.declared.command.Verb.{Verb}
 use Rattle.command_words.specs.declared.usage.Usage.{Usage as Fault}
 use Rattle.run_verdict.specs.declared.verdict.Verdict.{Verdict}
 use Rattle.run_verdict.specs.declared.verdict.Verdict.TheVariants as ending
 use Rattle.run_status.specs.declared.status.Status.{Status}
-use Rattle.run_status.specs.declared.status.Status.TheVariants.{Done, Usage, ReadFault, WriteFault, State, Source, Prices, Limit, Log, Replay, UnbuiltVerb, Exhausted, Faulted, NoMemory, TooLarge}
+use Rattle.run_status.specs.declared.status.Status.TheVariants.{Done, Usage, ReadFault, WriteFault, State, Source, Prices, Limit, Log, Replay, Exhausted, Faulted, NoMemory, TooLarge}
 
 -- the words were refused for this
 abbrev pub OnUsage : Status → (Fault → Type 0) → Type 0
@@ -18,12 +17,7 @@ SaysUsage (Usage u) = ⊤
 SaysUsage NoMemory = ⊤
 SaysUsage _ = ⊥
 
--- the words ask for a verb that is not built yet
-abbrev pub OnUnbuiltVerb : Status → (Verb → Type 0) → Type 0
-OnUnbuiltVerb (UnbuiltVerb verb) P = P verb
-OnUnbuiltVerb _ P = ⊤
-
--- the words, the verb, a file, the state, the prices, the limit, the source or the log was refused
+-- the words, a file, the state, the prices, the limit, the source or the log was refused
 abbrev pub OnRefusal : Status → Type 0 → Type 0
 OnRefusal (Usage u) P = P
 OnRefusal (ReadFault i) P = P
@@ -33,11 +27,10 @@ OnRefusal (Prices f) P = P
 OnRefusal (Limit n m) P = P
 OnRefusal (Log f) P = P
 OnRefusal (Replay f) P = P
-OnRefusal (UnbuiltVerb verb) P = P
 OnRefusal (TooLarge i n m) P = P
 OnRefusal _ P = ⊤
 
--- the verb, a file, the state, the prices, the limit, the source or the log was refused
+-- a file, the state, the prices, the limit, the source or the log was refused
 abbrev pub OnFileRefusal : Status → Type 0 → Type 0
 OnFileRefusal (Usage u) P = ⊤
 OnFileRefusal status P = OnRefusal status P

@@ -4,8 +4,6 @@ use Rattle.std.specs.List.{join_by}
 use Rattle.std.specs.Fmt.{signed_decimal}
 use Rattle.hex.specs.Hex.{encode_lower}
 use Rattle.calculus.specs.declared.ids.Digest.{Digest}
-use Rattle.command_words.specs.declared.command.Verb.{Verb}
-use Rattle.command_words.specs.declared.command.Verb.TheVariants as verb
 use Rattle.command_words.specs.declared.usage.Usage.{Usage}
 use Rattle.command_words.specs.declared.usage.Usage.TheVariants as usage
 use Rattle.event_log.specs.declared.fault.LogFault.{LogFault}
@@ -45,7 +43,6 @@ code_of status.Exhausted = 10
 code_of status.Faulted = 11
 code_of status.NoMemory = 12
 code_of (status.TooLarge i n m) = 13
-code_of (status.UnbuiltVerb v) = 20
 
 -- how an input is named in messages
 abbrev pub input_name : Input → List ℕ
@@ -53,14 +50,6 @@ input_name input.State = codes "state"
 input_name input.Prices = codes "prices"
 input_name input.Source = codes "source"
 input_name input.Log = codes "log"
-
--- how a verb is named in messages, as in the words
-abbrev pub verb_name : Verb → List ℕ
-verb_name verb.Genesis = codes "genesis"
-verb_name verb.Deploy = codes "deploy"
-verb_name verb.Replay = codes "replay"
-verb_name verb.Inspect = codes "inspect"
-verb_name verb.Workload = codes "workload"
 
 -- the name and the field of what the words are refused for
 abbrev pub usage_text : Usage → List ℕ
@@ -163,7 +152,6 @@ message_of (status.Prices f) = codes "rho: prices: " ++ price_text f
 message_of (status.Limit n m) = codes "rho: prices: Limit limit=" ++ (decimal n ++ (codes " most=" ++ decimal m))
 message_of (status.Log f) = codes "rho: log: " ++ log_text f
 message_of (status.Replay f) = codes "rho: replay: " ++ replay_text f
-message_of (status.UnbuiltVerb v) = codes "rho: unbuilt: UnbuiltVerb verb=" ++ verb_name v
 message_of status.Exhausted = []
 message_of status.Faulted = []
 message_of status.NoMemory = codes "rho: memory: NoMemory"

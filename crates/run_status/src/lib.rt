@@ -4,6 +4,6 @@
 pub mod status;
 mod wording;
 
-pub use command_words::{Usage, Verb};
+pub use command_words::Usage;
 pub use run_verdict::Verdict;
 pub use status::{Input, Status, status_of};

@@ -2,10 +2,8 @@ ghost use Rattle.std.specs.Prelude.{◌≡◌, IfOk, string_bytes};
 ghost use Rattle.run_status.specs.Endings.{status_of};
 ghost use Rattle.run_status.specs.Message.{code_of, message_of};
 
-use crate::wording::{
-    log_text, price_text, replay_text, source_text, state_text, usage_text, verb_name,
-};
-use command_words::{Usage, Verb};
+use crate::wording::{log_text, price_text, replay_text, source_text, state_text, usage_text};
+use command_words::Usage;
 use event_log::LogFault;
 use phlo_meter::PriceFault;
 use replay_faults::ReplayFault;
@@ -48,8 +46,6 @@ pub enum Status {
     Log(LogFault),
     /// The log is refused as that of a run. Want of memory is no such fault.
     Replay(ReplayFault),
-    /// The words ask for a verb that is not built yet.
-    UnbuiltVerb { verb: Verb },
     /// The verdict is Exhausted: the price passed the limit.
     Exhausted,
     /// The verdict is Faulted: the source or a body has a fault.
@@ -95,7 +91,6 @@ impl Status {
             Status::Faulted => 11,
             Status::NoMemory => 12,
             Status::TooLarge { .. } => 13,
-            Status::UnbuiltVerb { .. } => 20,
         }
     }
 
@@ -139,10 +134,6 @@ impl Status {
             Status::Replay(fault) => {
                 let fault = replay_text(alloc, fault)?;
                 format!(in alloc; "rho: replay: {fault}")
-            }
-            Status::UnbuiltVerb { verb } => {
-                let verb = verb_name(*verb);
-                format!(in alloc; "rho: unbuilt: UnbuiltVerb verb={verb}")
             }
             Status::NoMemory => String::from_str(alloc, "rho: memory: NoMemory"),
             Status::TooLarge { input, seen, max } => {

@@ -1,8 +1,8 @@
 ghost use Rattle.std.specs.Prelude.{◌≡◌, IfOk, string_bytes};
-ghost use Rattle.run_status.specs.Message.{digest_text, digests_text, lex_text, log_text, parse_text, price_text, replay_text, scope_text, source_text, state_text, step_text, usage_text, verb_name};
+ghost use Rattle.run_status.specs.Message.{digest_text, digests_text, lex_text, log_text, parse_text, price_text, replay_text, scope_text, source_text, state_text, step_text, usage_text};
 
 use calculus::Digest;
-use command_words::{Usage, Verb};
+use command_words::Usage;
 use event_log::LogFault;
 use phlo_meter::PriceFault;
 use replay_faults::ReplayFault;
@@ -25,19 +25,6 @@ pub(crate) fn usage_text(alloc: Global, fault: &Usage) -> Result<String, AllocEr
         Usage::BadNumber { what } => format!(in alloc; "BadNumber what={what}"),
         Usage::SameFile => String::from_str(alloc, "SameFile"),
         Usage::NoMemory => String::from_str(alloc, "NoMemory"),
-    }
-}
-
-/// The word of a verb.
-pub(crate) fn verb_name(verb: Verb) -> &'static str
-    ensures { result.now ≡ verb_name verb }
-{
-    match verb {
-        Verb::Genesis => "genesis",
-        Verb::Deploy => "deploy",
-        Verb::Replay => "replay",
-        Verb::Inspect => "inspect",
-        Verb::Workload => "workload",
     }
 }
 

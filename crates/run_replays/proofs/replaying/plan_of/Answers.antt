@@ -7,5 +7,6 @@ returns c = record {
   done = c.in_ok-root.ensures.done;
   old = c.in_ok-root.ensures.old;
   bytes = search rules;
+  line = c.in_ok-line.ensures;
   verdict = refl;
 }

@@ -1,0 +1,208 @@
+//! Jobs of a replay in an order that is drawn: rows arrive, and steps are tried that may be the next use of a row.
+ghost use Rattle.std.specs.Prelude.{IfOk, OnOk};
+ghost use Rattle.event_log.specs.View.{IsWritable, steps_of};
+ghost use Rattle.replay_space.specs.Rigs.{IsRigOf};
+ghost use Rattle.replay_store.specs.Stores.{AreAll};
+
+use crate::bodies::{Coming, Ended, add_first, add_offers, in_order, offers};
+use calculus::Digest;
+use event_log::Log;
+use replay_shards::{ReplayHeld, ReplayShard, Try, first_tries, row_shards};
+use replay_space::Rig;
+use replay_store::rows_of;
+use space_row::Row;
+use std::alloc::{AllocError, Global};
+use table_lines::LineFault;
+
+/// The most jobs of a line.
+const MOST_JOBS: u32 = 100_000;
+
+/// What is pending: rows that are to arrive, and steps that are to be tried.
+#[derive(Drop)]
+struct Jobs {
+    coming: Vec<Coming>,
+    tries: Vec<u32>,
+}
+
+// What a step that was done leaves to do.
+#[derive(Drop)]
+struct Made {
+    rows: Vec<Row>,
+    next: Vec<Try>,
+}
+
+/// Does the jobs of a log until none is pending: the rows of the source arrive, and each job is drawn by numbers that begin with this one.
+pub fn race(
+    alloc: Global,
+    log: &Log,
+    rig: &Rig,
+    rows: &[Row],
+    seed: u64,
+) -> Result<Ended, LineFault>
+    requires writable { IsWritable log.now }
+    requires rig { IsRigOf (steps_of log.now.steps.items) rig.now }
+{
+    let mut held = empty_hand(alloc)?;
+    let mut jobs = Jobs {
+        coming: Vec::new(alloc),
+        tries: Vec::new(alloc),
+    };
+    add_first(alloc, &mut jobs.coming, rows)?;
+    let mut done = Vec::new(alloc);
+    let mut state = seed;
+    for _ in 0..MOST_JOBS {
+        state = next_number(state);
+        match draw(&mut jobs, state) {
+            Drawn::Nothing => return Ok(in_order(done, left(alloc, held)?)?),
+            Drawn::Row => bring_one(alloc, rig, &mut held, &mut jobs, state)?,
+            Drawn::Step(step) => try_one(alloc, log, rig, &mut held, &mut jobs, &mut done, step)?,
+        }
+    }
+    Err(LineFault::Field)
+}
+
+/// The number that is drawn after another.
+pub fn next_number(state: u64) -> u64 {
+    state
+        .wrapping_mul(6_364_136_223_846_793_005)
+        .wrapping_add(1_442_695_040_888_963_407)
+}
+
+// A place below a count, by a number that was drawn.
+fn place_below(count: usize, state: u64) -> usize {
+    if count == 0 {
+        return 0;
+    }
+    (state >> 33) as usize % count
+}
+
+// What is drawn: a row that is to arrive, or a step that is to be tried.
+#[derive(Clone, Copy)]
+enum Drawn {
+    Nothing,
+    Row,
+    Step(u32),
+}
+
+fn draw(jobs: &mut Jobs, state: u64) -> Drawn {
+    let rows = jobs.coming.len();
+    let place = place_below(rows.saturating_add(jobs.tries.len()), state);
+    if place < rows {
+        return Drawn::Row;
+    }
+    let place = place.saturating_sub(rows);
+    if place < jobs.tries.len() {
+        return Drawn::Step(jobs.tries.swap_remove(place));
+    }
+    Drawn::Nothing
+}
+
+// 64 shards in hand, before any row has arrived.
+fn empty_hand(alloc: Global) -> Result<ReplayHeld, AllocError>
+    ensures { IfOk result AreAll }
+{
+    let mut held = ReplayHeld::new(alloc)?;
+    for number in 0..64u32 {
+        held.add(number, ReplayShard::new(alloc, number)?);
+    }
+    Ok(held)
+}
+
+// A row arrives that is drawn.
+fn bring_one(
+    alloc: Global,
+    rig: &Rig,
+    held: &mut ReplayHeld,
+    jobs: &mut Jobs,
+    state: u64,
+) -> Result<(), LineFault>
+    requires { AreAll held.old }
+    ensures { OnOk result (AreAll held.new) }
+{
+    let place = place_below(jobs.coming.len(), state);
+    if place >= jobs.coming.len() {
+        return Err(LineFault::Field);
+    }
+    let coming = jobs.coming.swap_remove(place);
+    let shards = row_shards(alloc, &coming.row)?;
+    let tries = first_tries(alloc, rig, &coming.row)?;
+    add_tries(&mut jobs.tries, tries)?;
+    held.arrive(alloc, &coming.row, coming.from, shards)?;
+    Ok(())
+}
+
+fn add_tries(all: &mut Vec<u32>, tries: Vec<Try>) -> Result<(), LineFault> {
+    for tried in tries {
+        all.push(tried.step)?;
+    }
+    Ok(())
+}
+
+// Tries a step, and adds what follows where it is done.
+fn try_one(
+    alloc: Global,
+    log: &Log,
+    rig: &Rig,
+    held: &mut ReplayHeld,
+    jobs: &mut Jobs,
+    done: &mut Vec<u32>,
+    step: u32,
+) -> Result<(), LineFault>
+    requires writable { IsWritable log.now }
+    requires rig { IsRigOf (steps_of log.now.steps.items) rig.now }
+    requires all { AreAll held.old }
+    ensures { OnOk result (AreAll held.new) }
+{
+    let Some(made) = try_step(alloc, log, rig, held, step)? else {
+        return Ok(());
+    };
+    done.push(step)?;
+    add_offers(&mut jobs.coming, made.rows, step)?;
+    add_tries(&mut jobs.tries, made.next)
+}
+
+// Does a step, if it may be done now.
+fn try_step(
+    alloc: Global,
+    log: &Log,
+    rig: &Rig,
+    held: &mut ReplayHeld,
+    step: u32,
+) -> Result<Option<Made>, LineFault>
+    requires writable { IsWritable log.now }
+    requires rig { IsRigOf (steps_of log.now.steps.items) rig.now }
+    requires all { AreAll held.old }
+    ensures { OnOk result (AreAll held.new) }
+{
+    if step as usize >= log.steps.len() {
+        return Ok(None);
+    }
+    if held.step_shards(alloc, log, step)?.is_none() {
+        return Ok(None);
+    }
+    let Some(ready) = held.possible(alloc, rig, log, step)? else {
+        return Ok(None);
+    };
+    let rows = offers(alloc, &log.steps[step as usize], &ready.found)?;
+    held.commit_done(log, step, ready.found.gone.as_slice());
+    Ok(Some(Made {
+        rows,
+        next: ready.next,
+    }))
+}
+
+// The ids of the rows that are left.
+fn left(alloc: Global, held: ReplayHeld) -> Result<Vec<Digest>, LineFault> {
+    let mut held = held;
+    let mut shards = Vec::new(alloc);
+    for number in 0..64u32 {
+        if let Some(shard) = held.remove(number) {
+            shards.push(shard)?;
+        }
+    }
+    let mut ids = Vec::new(alloc);
+    for row in rows_of(alloc, shards)? {
+        ids.push(row.id())?;
+    }
+    Ok(ids)
+}

@@ -1,0 +1,90 @@
+-- What is promised of a deploy, from how it ended.
+use Rattle.std.proofs.Common.{◌≡◌, ◌≤◌, ◌⊎◌, inl, inr, ℕ, Option, sym, ap, subst, ◌∙◌, arith}
+use Rattle.rho_outside.specs.Causes.{Rose}
+use Rattle.rho_outside.specs.FileMap.{FileMap}
+use Rattle.command_words.specs.Commands.{RunRequest}
+use Rattle.run_inputs.specs.Inputs.{accepted_state, accepted}
+use Rattle.run_inputs.specs.Refused.{RefusedFor}
+use Rattle.run_inputs.specs.Ended.{DeployEnds}
+use Rattle.run_inputs.proofs.Exact.{if_ok, deploy_exact, deploy_state_exact, deploy_source_exact, deploy_complete}
+use Rattle.run_reports.specs.World.{World, world}
+use Rattle.run_status.specs.Endings.{OnRefusal, OnHalt, OnVerdict}
+use Rattle.run_status.specs.declared.status.Status.{Status}
+use Rattle.run_status.specs.declared.status.Status.TheVariants as status
+use Rattle.run_deploys.specs.Deploys.{IsDeploy}
+use Rattle.run_deploys.specs.Ends.{Leaves, LeavesInPart}
+use Rattle.run_deploys.specs.Fetched.{HasFetched}
+use Rattle.run_deploys.proofs.Ending.{refused_ends}
+use Rattle.run_deploys.proofs.Leaving.{on_refused}
+
+-- a count that rose after a later moment rose after an earlier one
+pub rose_before : (before mid now : ℕ) → before ≤ mid → Rose mid now → Rose before now
+rose_before before mid now l r = omega (arith, l, r)
+
+-- a world after which only fetches were made differs in their count alone
+pub fetched_world : (a m : World) → HasFetched a m → world a.files m.fetches a.keeps a.bytes a.puts ≡ m
+fetched_world a m f =
+    ap (λ x. world x m.fetches a.keeps a.bytes a.puts) (sym f.files)
+    ∙ (ap (λ x. world m.files m.fetches x a.bytes a.puts) (sym f.keeps)
+    ∙ (ap (λ x. world m.files m.fetches m.keeps x a.puts) (sym f.bytes)
+    ∙ ap (λ x. world m.files m.fetches m.keeps m.bytes x) (sym f.puts)))
+
+-- the end of a deploy, from fewer failed fetches
+earlier-ends : (told : Option FileMap) (names : RunRequest) (limit before mid now : ℕ) → before ≤ mid → (s : Status) → DeployEnds told names limit mid now s → DeployEnds told names limit before now s
+earlier-ends told names limit before mid now l (status.ReadFault i) h = (read h.0, h.1)
+  where
+    read : {B : Type 0} → Rose mid now ⊎ B → Rose before now ⊎ B
+    read (inl r) = inl (rose_before before mid now l r)
+    read (inr b) = inr b
+earlier-ends told names limit before mid now l (status.TooLarge i n m) h = h
+earlier-ends told names limit before mid now l (status.State f) h = h
+earlier-ends told names limit before mid now l (status.Prices f) h = h
+earlier-ends told names limit before mid now l (status.Limit n m) h = h
+earlier-ends told names limit before mid now l (status.Source f) h = h
+earlier-ends told names limit before mid now l status.NoMemory h = h
+earlier-ends told names limit before mid now l status.Done h = h
+earlier-ends told names limit before mid now l status.Exhausted h = h
+earlier-ends told names limit before mid now l status.Faulted h = h
+earlier-ends told names limit before mid now l status.WriteFault h = h
+earlier-ends told names limit before mid now l (status.Usage u) h = absurd h
+earlier-ends told names limit before mid now l (status.Log f) h = absurd h
+earlier-ends told names limit before mid now l (status.Replay f) h = absurd h
+
+module _ (names : RunRequest) (limit : ℕ) where
+  -- what the inputs are refused for is said, and a deploy that is refused nothing ended
+  pub is_deploy : (a b : World) (s : Status) → DeployEnds a.files names limit a.fetches b.fetches s → OnRefusal s ((b.files ≡ a.files) × (b.bytes ≡ a.bytes))
+      → (s ≡ status.WriteFault → Rose a.keeps b.keeps ⊎ Rose a.puts b.puts) → OnVerdict s (Leaves s names limit a.files b.files a.bytes b.bytes)
+      → OnHalt s (LeavesInPart names limit a.files b.files a.keeps b.keeps a.bytes b.bytes) → IsDeploy names limit a b s
+  is_deploy a b s ends stays write_fault verdict part =
+      let told = a.files in
+      let before = a.fetches in
+      let now = b.fetches in
+      record {
+        is_exact = record {
+          ends = ends;
+          exact = λ files e own. deploy_exact told names limit before now files e own s ends;
+          state_exact = λ files e own. if_ok _ (accepted_state names files) (λ state x. deploy_state_exact told names limit before now files e own s ends state x);
+          source_exact = λ files e own has. if_ok _ (accepted names limit files) (λ task x n. deploy_source_exact told names limit before now files e own task x n has s ends);
+        };
+        complete = λ files e own has. if_ok _ (accepted names limit files) (λ task x process n k p. deploy_complete told names limit before now files e own task x n has s _ _ ends process write_fault k p);
+        stays = stays;
+        write_fault = write_fault;
+        verdict = verdict;
+        part = part;
+      }
+
+  -- a deploy whose inputs are refused
+  pub refused_deploy : (a b : World) → HasFetched a b → (s : Status) → RefusedFor a.files names limit a.fetches b.fetches s → IsDeploy names limit a b s
+  refused_deploy a b f s h =
+      let x = on_refused (λ (r : Status). RefusedFor a.files names limit a.fetches b.fetches r) (λ n. n) (λ n. n) (λ n. n) (λ n. n)
+      ((b.files ≡ a.files) × (b.bytes ≡ a.bytes)) (Leaves s names limit a.files b.files a.bytes b.bytes) (LeavesInPart names limit a.files b.files a.keeps b.keeps a.bytes b.bytes)
+      (Rose a.keeps b.keeps ⊎ Rose a.puts b.puts) (f.files, f.bytes) (λ files e. inl (f.files, f.bytes)) s h in
+      is_deploy a b s (refused_ends a.files names limit a.fetches b.fetches s h) x.0 x.1.1.1 x.1.0 x.1.1.0
+
+  -- a deploy that goes on after its inputs were fetched
+  pub deploy_after : (a m b : World) → HasFetched a m → (s : Status) → IsDeploy names limit m b s → IsDeploy names limit a b s
+  deploy_after a m b f s d =
+      let At = λ (w : World). IsDeploy names limit w b s in
+      let n : World = world a.files m.fetches a.keeps a.bytes a.puts in
+      let x : At n = subst At (sym (fetched_world a m f)) d in
+      is_deploy a b s (earlier-ends a.files names limit a.fetches m.fetches b.fetches f.fetches s x.is_exact.ends) x.stays x.write_fault x.verdict x.part

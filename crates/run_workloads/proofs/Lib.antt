@@ -1,0 +1,5 @@
+mod Reading
+mod Playing
+mod Agreeing
+mod Ending
+mod Leaving

@@ -1,0 +1,4 @@
+pub mod Made
+pub mod Left
+pub mod Plan
+pub mod Workloads

@@ -1,0 +1,123 @@
+ghost use Rattle.std.specs.Prelude.{◌≡◌, ◌≤◌, Ok, IfOk, IfErr, map};
+ghost use Rattle.std.specs.Result.{IsOk};
+ghost use Rattle.event_log.specs.Reading.{log_of};
+ghost use Rattle.event_log.specs.View.{header_of, step_of, IsWritable};
+ghost use Rattle.run_workloads.specs.Made.{made_task};
+ghost use Rattle.run_workloads.specs.Plan.{IsMadeReplay, IsPlayed, IsReplayed, IsStop, IsWork};
+ghost use Rattle.run_workloads.specs.Workloads.{RefusedFor};
+
+use crate::inputs::made_inputs;
+use event_log::{Log, LogFault, read_log};
+use readable_logs::laws::read_logs_are_writable;
+use rho_outside::Gate;
+use run_deploys::{Plan, make_plan};
+use run_inputs::ReplayInputs;
+use run_replays::{ReplayPlan, make_replay_plan};
+use run_status::Status;
+use run_verdict::Verdict;
+use std::alloc::{AllocError, Global};
+use std::sync::Wait;
+use std::thread::Threads;
+
+/// What the made input may cost.
+const LIMIT: u64 = 10_485_760;
+
+/// All the bytes that a workload writes, and how its replay ended.
+#[derive(Drop)]
+pub(crate) struct Work {
+    pub(crate) log: Vec<u8>,
+    /// The line of the report.
+    pub(crate) line: Vec<u8>,
+    pub(crate) verdict: Verdict,
+}
+
+/// Plays the made input of so many steps from the empty state.
+fn play_made<R: Threads + Wait + Sync, G: Gate + Sync>(
+    rt: &R,
+    alloc: Global,
+    gate: &G,
+    workers: u32,
+    steps: u32,
+) -> Result<Plan, AllocError>
+    requires workers { (1 ≤ workers) × (workers ≤ 32) }
+    ensures { IfOk result (λ plan. IsPlayed steps plan.log.items) }
+{
+    let inputs = made_inputs(alloc, steps)?;
+    make_plan(rt, alloc, gate, workers, inputs, LIMIT)
+}
+
+/// The error of a fault of a log that is want of memory.
+fn memory_error(_fault: LogFault) -> AllocError
+    requires { _fault ≡ LogFault.NoMemory }
+{
+    AllocError
+}
+
+/// The log of a text that is one.
+fn read_played(alloc: Global, text: &[u8]) -> Result<Log, AllocError>
+    requires { IsOk (log_of text.now) }
+    ensures read { IfOk result (λ log. log_of text.now ≡ Ok (header_of log.header, map step_of log.steps.items)) }
+    ensures writable { IfOk result IsWritable }
+{
+    read_logs_are_writable();
+    match read_log(alloc, text) {
+        Ok(log) => Ok(log),
+        Err(fault) => Err(memory_error(fault)),
+    }
+}
+
+/// The made input of so many steps, and the log of this text.
+fn made_replay(alloc: Global, steps: u32, text: &[u8]) -> Result<ReplayInputs, AllocError>
+    requires { IsOk (log_of text.now) }
+    ensures { IfOk result (IsMadeReplay steps text.now) }
+{
+    let log = read_played(alloc, text)?;
+    let inputs = made_inputs(alloc, steps)?;
+    Ok(ReplayInputs { inputs, log })
+}
+
+/// Replays the log of this text with the made input of so many steps, from the empty state.
+fn replay_made<R: Threads + Wait + Sync, G: Gate + Sync>(
+    rt: &R,
+    alloc: Global,
+    gate: &G,
+    workers: u32,
+    steps: u32,
+    text: &[u8],
+) -> Result<ReplayPlan, Status>
+    requires workers { (1 ≤ workers) × (workers ≤ 32) }
+    requires log { IsOk (log_of text.now) }
+    ensures plan { IfOk result (IsReplayed (made_task steps, text.now)) }
+    ensures stop { IfErr result (IsStop (made_task steps, text.now)) }
+{
+    let inputs = match made_replay(alloc, steps, text) {
+        Ok(inputs) => inputs,
+        Err(_) => return Err(Status::NoMemory),
+    };
+    match make_replay_plan(rt, alloc, gate, workers, inputs) {
+        Ok(plan) => Ok(plan),
+        Err(status) => Err(status),
+    }
+}
+
+/// Plays the made input of so many steps, replays the log of the play, and makes all bytes that are to be written.
+pub(crate) fn make_work<R: Threads + Wait + Sync, G: Gate + Sync>(
+    rt: &R,
+    alloc: Global,
+    gate: &G,
+    workers: u32,
+    steps: u32,
+) -> Result<Work, Status>
+    requires workers { (1 ≤ workers) × (workers ≤ 32) }
+    ensures work { IfOk result (IsWork steps) }
+    ensures stop { IfErr result (RefusedFor steps) }
+{
+    let Plan { log, .. } = match play_made(rt, alloc, gate, workers, steps) {
+        Ok(plan) => plan,
+        Err(_) => return Err(Status::NoMemory),
+    };
+    match replay_made(rt, alloc, gate, workers, steps, log.as_slice()) {
+        Ok(ReplayPlan { line, verdict, .. }) => Ok(Work { log, line, verdict }),
+        Err(status) => Err(status),
+    }
+}

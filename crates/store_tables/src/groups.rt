@@ -1,0 +1,83 @@
+//! The groups of channels of receives.
+ghost use Rattle.std.specs.Prelude.{All, IfOk};
+ghost use Rattle.calculus.specs.Form.{IsClosed, a_bind};
+ghost use Rattle.join_index.specs.Groups.{IsChannel};
+ghost use Rattle.rho_term.specs.Parts.{bind_tree};
+ghost use Rattle.row_search.specs.Choices.{AllBindsReady};
+ghost use Rattle.spatial_match.specs.Given.{Ready};
+
+use crate::meets::push_terms;
+use crate::reading::{read_rows, read_term};
+use join_index::JoinIndex;
+use rho_term::{Op, Term, TermBind};
+use space_row::Row;
+use std::alloc::{AllocError, Global};
+use table_lines::{LineFault, unescape};
+use term_encoder::code_len;
+
+/// The most bytes of a channel's code.
+const MOST_BYTES: u64 = 4_294_967_295;
+
+/// Adds the groups of the receives of a source to an index, and asks it for those that hold a channel: its source and the other have
+/// ` <=> ` between them.
+pub fn groups(alloc: Global, fields: &str) -> Result<String, LineFault> {
+    let (channel, source) = fields.split_once(" <=> ").ok_or(LineFault::Field)?;
+    let channel = read_term(alloc, unescape(alloc, channel)?.as_slice())?;
+    let mut index = JoinIndex::new(alloc);
+    for row in read_rows(alloc, source)? {
+        add_group(alloc, &mut index, &row)?;
+    }
+    told_short(alloc, &index, &channel)
+}
+
+// The groups that hold a channel, where its code is not too long.
+fn told_short(alloc: Global, index: &JoinIndex, channel: &Term) -> Result<String, LineFault>
+    requires { IsClosed channel.now }
+{
+    if code_len(channel) > MOST_BYTES {
+        return Err(LineFault::Field);
+    }
+    told(alloc, index, channel)
+}
+
+// Adds the group of a row, where it is a receive.
+fn add_group(alloc: Global, index: &mut JoinIndex, row: &Row) -> Result<(), AllocError> {
+    match row.op() {
+        Op::Produce { .. } => Ok(()),
+        Op::Consume { binds, .. } => {
+            let channels = channels_of(alloc, binds)?;
+            index.add(alloc, channels.as_slice())
+        }
+    }
+}
+
+// A copy of the channel of a bind.
+fn channel_of(alloc: Global, bind: &TermBind) -> Result<Term, AllocError>
+    requires { Ready a_bind (bind_tree bind.now) }
+    ensures { IfOk result IsChannel }
+{
+    bind.channel.copy(alloc)
+}
+
+// The channels of binds.
+fn channels_of(alloc: Global, binds: &[TermBind]) -> Result<Vec<Term>, AllocError>
+    requires { AllBindsReady binds.now }
+    ensures { IfOk result (λ v. All IsChannel v.items) }
+{
+    let mut channels = Vec::new(alloc);
+    for bind in binds {
+        channels.push(channel_of(alloc, bind)?)?;
+    }
+    Ok(channels)
+}
+
+// The groups that hold a channel, each in brackets.
+fn told(alloc: Global, index: &JoinIndex, channel: &Term) -> Result<String, LineFault>
+    requires { IsChannel channel.now }
+{
+    let mut told = String::new(alloc);
+    for group in index.groups_of(alloc, channel)? {
+        push_terms(alloc, &mut told, group.as_slice())?;
+    }
+    Ok(told)
+}
