@@ -2,6 +2,7 @@
 #![tactic(auto)]
 
 mod channels;
+mod direct;
 mod fault;
 mod meeting;
 mod plays;

@@ -1,5 +1,6 @@
 //! Calls of the program, over files in memory.
 use crate::channels::{apart, receives, sends};
+use crate::direct::replayed;
 use crate::fault::GateFault;
 use crate::meeting::Meeting;
 use rho_main::run;
@@ -9,6 +10,9 @@ use std::sync::Wait;
 use std::thread::Threads;
 
 const PRICES: &[u8] = b"comm = 10\nsend = 3\nreceive = 4\nname = 2\ncase = 1\nop = 1\nbyte = 0\n";
+
+// The most bytes of a file.
+const MOST: u64 = 1_000_000;
 
 const STORE: &str =
     "deploy receives --state empty --prices prices --limit 1000 --log first --next state --workers 1";
@@ -71,6 +75,42 @@ fn meet<R: Threads + Wait + Sync>(
     Ok(format!(in alloc; "met {met}, gave up {failed}, {came}")?)
 }
 
+// The bytes of a file.
+fn file(alloc: Global, shelf: &mut MemShelf, name: &str) -> Result<Vec<u8>, GateFault> {
+    match shelf.fetch(alloc, name, MOST) {
+        Ok(bytes) => Ok(bytes),
+        Err(_) => Err(GateFault::NoMemory),
+    }
+}
+
+// The replay of the same log by two workers, called directly, with a gate at which the workers meet.
+fn replay_directly<R: Threads + Wait + Sync>(
+    rt: &R,
+    alloc: Global,
+    shelf: &mut MemShelf,
+) -> Result<String, GateFault> {
+    let state = file(alloc, shelf, "state")?;
+    let source = file(alloc, shelf, "sends")?;
+    let log = file(alloc, shelf, "log")?;
+    let gate = Meeting::new();
+    let ended = replayed(
+        rt,
+        alloc,
+        &gate,
+        2,
+        state.as_slice(),
+        source.as_slice(),
+        log.as_slice(),
+    )?;
+    let met = gate.has_met(rt);
+    let failed = gate.has_failed(rt);
+    Ok(format!(in alloc;
+        "directly: met {met}, gave up {failed}, {:?}, {} rows\n",
+        ended.verdict,
+        ended.rows.len()
+    )?)
+}
+
 /// A deploy of eight sends by two workers, from a state of eight receives, and its replay by two, each with a gate at which the
 /// workers meet.
 pub fn told<R: Threads + Wait + Sync>(rt: &R, alloc: Global) -> Result<String, GateFault> {
@@ -78,6 +118,7 @@ pub fn told<R: Threads + Wait + Sync>(rt: &R, alloc: Global) -> Result<String, G
     call(rt, alloc, &mut shelf, &OpenGate, "genesis empty")?;
     call(rt, alloc, &mut shelf, &OpenGate, STORE)?;
     let deployed = meet(rt, alloc, &mut shelf, DEPLOY)?;
-    let replayed = meet(rt, alloc, &mut shelf, REPLAY)?;
-    Ok(format!(in alloc; "deploy: {deployed}replay: {replayed}")?)
+    let again = meet(rt, alloc, &mut shelf, REPLAY)?;
+    let directly = replay_directly(rt, alloc, &mut shelf)?;
+    Ok(format!(in alloc; "deploy: {deployed}replay: {again}{directly}")?)
 }

@@ -1,0 +1,63 @@
+//! Replays that are called directly.
+ghost use Rattle.std.specs.Prelude.{◌≤◌};
+
+use crate::fault::GateFault;
+use base_states::read_base;
+use event_log::read_log;
+use name_seed::bytes_digest;
+use price_table::Prices;
+use readable_logs::laws::read_logs_are_writable;
+use replay_runs::{Replayed, replay};
+use rho_outside::Gate;
+use sources::read_source;
+use std::alloc::Global;
+use std::sync::Wait;
+use std::thread::Threads;
+
+/// The greatest number of bytes of a source.
+const SOURCE_MAX: usize = 1_048_576;
+
+/// Replays the log of a source from a state, each as the bytes of its file, under the standard prices.
+pub fn replayed<R: Threads + Wait + Sync, G: Gate + Sync>(
+    rt: &R,
+    alloc: Global,
+    gate: &G,
+    workers: u32,
+    state: &[u8],
+    source: &[u8],
+    log: &[u8],
+) -> Result<Replayed, GateFault>
+    requires { (1 ≤ workers) × (workers ≤ 32) }
+{
+    if source.len() > SOURCE_MAX {
+        return Err(GateFault::Source);
+    }
+    read_logs_are_writable();
+    let Ok(log) = read_log(alloc, log) else {
+        return Err(GateFault::Source);
+    };
+    let Ok(term) = read_source(alloc, source) else {
+        return Err(GateFault::Source);
+    };
+    let Ok(checkpoint) = read_base(alloc, state) else {
+        return Err(GateFault::Source);
+    };
+    let digest = bytes_digest(source);
+    let root = checkpoint.root();
+    let rows = checkpoint.rows();
+    match replay(
+        rt,
+        alloc,
+        gate,
+        workers,
+        rows,
+        &root,
+        &term,
+        &digest,
+        &Prices::standard(),
+        log,
+    ) {
+        Ok(replayed) => Ok(replayed),
+        Err(_) => Err(GateFault::Source),
+    }
+}
