@@ -13,10 +13,12 @@ use Rattle.calculus.specs.Root.{key}
 use Rattle.calculus.proofs.Ordered.{up_to_total, up_to_both, up_to_trans}
 use Rattle.states.proofs.Groups.{same, equal, sorted-moved}
 use Rattle.term_encoder.proofs.Codes.{sorted-ascending}
-use Rattle.radix_root.specs.Leaves.{Leaves, digest_at, group_digest, codes_at, Keeps, groups_of, changed}
+use Rattle.radix_root.specs.Leaves.{group_digest, codes_at, groups_of}
+use Rattle.radix_root.specs.Groups.{given, digest_after}
+use Rattle.radix_root.specs.declared.group.Group.{Group}
 use Rattle.checkpoint.specs.declared.groups.KeyedRow.{KeyedRow}
 use Rattle.checkpoint.specs.declared.groups.Groups.{Groups}
-use Rattle.checkpoint.specs.Groups.{row_of, Holds, IsKeyed}
+use Rattle.checkpoint.specs.Groups.{row_of, Give, Holds, IsKeyed}
 
 pub sorted-none : sorted [] ≡ []
 unfolding sorted
@@ -38,34 +40,41 @@ codes-other rows r k e = codes-push rows r k ∙ ap (λ b. codes_at rows k ++ co
 pub codes-same : (rows : List Row) (r : Row) (k : List ℕ) → key r ≡ k → codes_at (rows ++ r ∷ []) k ≡ codes_at rows k ++ row_code r ∷ []
 codes-same rows r k e = codes-push rows r k ∙ ap (λ b. codes_at rows k ++ cond b (row_code r ∷ []) []) (equal k (key r) (sym e))
 
--- one more row of the group beside the tree
-pub open-push : (tree : Leaves) (k0 : List ℕ) (rows : List Row) (r : Row) → key r ≡ k0
-    → Keeps tree (λ k. cond (bytes_eq k k0) [] (groups_of rows k)) → Keeps tree (λ k. cond (bytes_eq k k0) [] (groups_of (rows ++ r ∷ []) k))
-open-push tree k0 rows r e h k = go (bytes_eq k k0) refl (h k)
+-- one more row of the group that is not closed
+pub open-push : (gs : List Group) (k0 : List ℕ) (rows : List Row) (r : Row) → key r ≡ k0
+    → Give gs (λ k. cond (bytes_eq k k0) [] (groups_of rows k)) → Give gs (λ k. cond (bytes_eq k k0) [] (groups_of (rows ++ r ∷ []) k))
+open-push gs k0 rows r e h k = go (bytes_eq k k0) refl (h k)
   where
-    go : (b : Bool) → bytes_eq k k0 ≡ b → digest_at tree k ≡ group_digest k (cond b [] (groups_of rows k)) → digest_at tree k ≡ group_digest k (cond b [] (groups_of (rows ++ r ∷ []) k))
+    go : (b : Bool) → bytes_eq k k0 ≡ b → digest_after gs [] k ≡ group_digest k (cond b [] (groups_of rows k)) → digest_after gs [] k ≡ group_digest k (cond b [] (groups_of (rows ++ r ∷ []) k))
     go true q g = g
     go false q g = g ∙ ap (λ cs. group_digest k (sorted cs)) (sym (codes-other rows r k (ap (bytes_eq k) e ∙ q)))
 
--- a tree of all rows, beside a group that has none
-pub open-new : (tree : Leaves) (k0 : List ℕ) (rows : List Row) → codes_at rows k0 ≡ [] → Keeps tree (groups_of rows) → Keeps tree (λ k. cond (bytes_eq k k0) [] (groups_of rows k))
-open-new tree k0 rows n h k = go (bytes_eq k k0) refl
+-- the groups of all rows, beside a group that has none
+pub open-new : (gs : List Group) (k0 : List ℕ) (rows : List Row) → codes_at rows k0 ≡ [] → Give gs (groups_of rows) → Give gs (λ k. cond (bytes_eq k k0) [] (groups_of rows k))
+open-new gs k0 rows n h k = go (bytes_eq k k0) refl
   where
-    go : (b : Bool) → bytes_eq k k0 ≡ b → digest_at tree k ≡ group_digest k (cond b [] (groups_of rows k))
+    go : (b : Bool) → bytes_eq k k0 ≡ b → digest_after gs [] k ≡ group_digest k (cond b [] (groups_of rows k))
     go true q = h k ∙ ap (group_digest k) (ap (λ l. sorted (codes_at rows l)) (same k k0 q) ∙ ap sorted n ∙ sorted-none)
     go false q = h k
 
--- the group beside the tree is put into it
-pub closed : (tree after : Leaves) (k0 : List ℕ) (rows : List Row) (before cs : List (List ℕ)) → before ≡ codes_at rows k0 → IsPermutation before cs → IsAscending cs
-    → Keeps tree (λ k. cond (bytes_eq k k0) [] (groups_of rows k)) → ((f : List ℕ → List (List ℕ)) → Keeps tree f → Keeps after (changed f k0 cs)) → Keeps after (groups_of rows)
-closed tree after k0 rows before cs e p up h c k = go (bytes_eq k k0) refl (c _ h k)
+after-push : (gs : List Group) (g : Group) (v k : List ℕ) → digest_after (gs ++ g ∷ []) v k ≡ cond (bytes_eq k g.key.0) (given g.digest) (digest_after gs v k)
+after-push [] g v k = refl
+after-push (h ∷ gs) g v k = after-push gs g (cond (bytes_eq k h.key.0) (given h.digest) v) k
+
+-- the last group is closed
+pub closed : (gs after : List Group) (g : Group) (k0 : List ℕ) (rows : List Row) (before cs : List (List ℕ)) → after ≡ gs ++ g ∷ [] → g.key.0 ≡ k0 → given g.digest ≡ group_digest k0 cs
+    → before ≡ codes_at rows k0 → IsPermutation before cs → IsAscending cs → Give gs (λ k. cond (bytes_eq k k0) [] (groups_of rows k)) → Give after (groups_of rows)
+closed gs after g k0 rows before cs pushed own is e p up h k =
+    ap (λ xs. digest_after xs [] k) pushed ∙ after-push gs g [] k ∙ ap (λ l. cond (bytes_eq k l) (given g.digest) (digest_after gs [] k)) own ∙ go (bytes_eq k k0) refl (h k)
   where
     whole : cs ≡ sorted (codes_at rows k0)
     whole = sym (sorted-ascending cs up) ∙ sym (sorted-moved p) ∙ ap sorted e
 
-    go : (b : Bool) → bytes_eq k k0 ≡ b → digest_at after k ≡ group_digest k (cond b cs (cond b [] (groups_of rows k))) → digest_at after k ≡ group_digest k (groups_of rows k)
-    go true q g = g ∙ ap (group_digest k) (whole ∙ ap (λ l. sorted (codes_at rows l)) (sym (same k k0 q)))
-    go false q g = g
+    go : (b : Bool) → bytes_eq k k0 ≡ b → digest_after gs [] k ≡ group_digest k (cond b [] (groups_of rows k)) → cond b (given g.digest) (digest_after gs [] k) ≡ group_digest k (groups_of rows k)
+    go true q m =
+        let z : k0 ≡ k = sym (same k k0 q) in
+        is ∙ ap (λ l. group_digest l cs) z ∙ ap (group_digest k) (whole ∙ ap (λ l. sorted (codes_at rows l)) z)
+    go false q m = m
 
 pair-moved : (k : List ℕ) (b d : Bool) (x y : List ℕ) (zs : List (List ℕ)) → IsPermutation (cond b (x ∷ cond d (y ∷ zs) zs) (cond d (y ∷ zs) zs)) (cond d (y ∷ cond b (x ∷ zs) zs) (cond b (x ∷ zs) zs))
 pair-moved k true true x y zs = exchange x y zs
@@ -88,8 +97,8 @@ codes-moved k p = go (exchanges p)
     go (then e f) = join (go e) (go f)
 
 -- and the same groups
-pub groups-moved : {rows others : List Row} (tree : Leaves) → IsPermutation rows others → Keeps tree (groups_of others) → Keeps tree (groups_of rows)
-groups-moved tree p h k = h k ∙ ap (group_digest k) (sym (sorted-moved (codes-moved k p)))
+pub groups-moved : {rows others : List Row} (gs : List Group) → IsPermutation rows others → Give gs (groups_of others) → Give gs (groups_of rows)
+groups-moved gs p h k = h k ∙ ap (group_digest k) (sym (sorted-moved (codes-moved k p)))
 
 pub up_to-self : (x : List ℕ) → up_to x x ≡ true
 up_to-self x = go (up_to x x) refl
@@ -137,10 +146,10 @@ pub codes-added : {V : Type 0} (code : V → List ℕ) (old new : List V) (v : V
 codes-added code old new v rows r k0 e f g h = ap (each code) e ∙ map-push code old v ∙ ap (λ cs. cs ++ code v ∷ []) g ∙ ap (λ c. codes_at rows k0 ++ c ∷ []) f ∙ sym (codes-same rows r k0 h)
 
 -- nothing was added
-pub none-held : (gs : Groups) → gs.tree ≡ [] → gs.codes.items ≡ [] → Holds gs []
+pub none-held : (gs : Groups) → gs.closed.items ≡ [] → gs.codes.items ≡ [] → Holds gs []
 none-held gs e f = record {
   codes = ap (each (λ c. c.items)) f;
-  tree = λ k. ap (λ t. digest_at t k) e ∙ ap (group_digest k) (go k (bytes_eq k gs.key.0));
+  closed = λ k. ap (λ xs. digest_after xs [] k) e ∙ ap (group_digest k) (go k (bytes_eq k gs.key.0));
 }
   where
     go : (k : List ℕ) (b : Bool) → [] ≡ cond b [] (groups_of [] k)

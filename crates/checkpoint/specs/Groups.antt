@@ -1,10 +1,12 @@
--- Rows with the keys of their groups, and groups that were added to a tree.
-use Rattle.std.specs.Prelude.{◌≡◌, All, cond, List, [], map as each}
+-- Rows with the keys of their groups, and groups that were closed one after another.
+use Rattle.std.specs.Prelude.{◌≡◌, All, cond, ℕ, List, [], map as each}
 use Rattle.std.specs.Str.{bytes_eq}
 use Rattle.calculus.specs.Order.{IsAscending}
 use Rattle.calculus.specs.Rows.{Row}
 use Rattle.calculus.specs.Root.{key}
-use Rattle.radix_root.specs.Leaves.{codes_at, groups_of, Keeps}
+use Rattle.radix_root.specs.Leaves.{group_digest, codes_at, groups_of}
+use Rattle.radix_root.specs.Groups.{digest_after}
+use Rattle.radix_root.specs.declared.group.Group.{Group}
 use Rattle.checkpoint.specs.declared.groups.KeyedRow.{KeyedRow}
 use Rattle.checkpoint.specs.declared.groups.Groups.{Groups}
 
@@ -21,7 +23,11 @@ pub record AreByKey (ks : List KeyedRow) : Type 0 where
   pub keyed : All IsKeyed ks
   pub ascending : IsAscending (each (λ k. k.key.0) ks)
 
--- of these rows the tree has all groups but that of one key, and beside it stand the codes of this group
+-- these groups have these codes of the rows of each key
+abbrev pub Give : List Group → (List ℕ → List (List ℕ)) → Type 0
+Give gs f = (k : List ℕ) → digest_after gs [] k ≡ group_digest k (f k)
+
+-- of these rows all groups are closed but that of one key, and beside them stand the codes of this group
 pub record Holds (gs : Groups) (rows : List Row) : Type 0 where
   pub codes : each (λ c. c.items) gs.codes.items ≡ codes_at rows gs.key.0
-  pub tree : Keeps gs.tree (λ k. cond (bytes_eq k gs.key.0) [] (groups_of rows k))
+  pub closed : Give gs.closed.items (λ k. cond (bytes_eq k gs.key.0) [] (groups_of rows k))

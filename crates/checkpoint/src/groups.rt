@@ -3,10 +3,10 @@ ghost use Rattle.std.specs.Prelude.{◌≡◌, ◌⊎◌, ◌++◌, ◌∷◌, [
 ghost use Rattle.std.specs.Str.{bytes_eq};
 ghost use Rattle.calculus.specs.Rows.{Row as AnyRow};
 ghost use Rattle.radix_root.specs.Leaves.{codes_at, groups_of, Keeps};
-ghost use Rattle.checkpoint.specs.Groups.{row_of, AreByKey, Holds, IsKeyed};
+ghost use Rattle.checkpoint.specs.Groups.{row_of, AreByKey, Give, Holds, IsKeyed};
 
 use calculus::Digest;
-use radix_root::RadixTree;
+use radix_root::{Group, RadixTree};
 use space_row::{Row, row_code, row_key};
 use std::alloc::{AllocError, Global};
 
@@ -17,11 +17,10 @@ pub(crate) struct KeyedRow<'a> {
     pub(crate) row: &'a Row,
 }
 
-// Groups of rows, one after another: the tree of all but the last of them, and the key and the codes of
-// the last.
+// Groups of rows, one after another: all but the last of them are closed, and of the last stand the key and the codes.
 #[derive(Drop)]
 pub(crate) struct Groups {
-    pub(crate) tree: RadixTree,
+    pub(crate) closed: Vec<Group>,
     pub(crate) key: Digest,
     pub(crate) codes: Vec<Vec<u8>>,
 }
@@ -33,32 +32,33 @@ impl Groups {
         ensures key { OnOk result (self.new.key.0 ≡ keyed.now.key.0) }
         ensures holds { OnOk result ((rows : List AnyRow) → Holds self.old rows → (keyed.now.key.0 ≡ self.old.key.0) ⊎ (codes_at rows keyed.now.key.0 ≡ []) → Holds self.new (rows ++ row_of keyed.now ∷ [])) }
     {
-        self.turn(alloc, &keyed.key)?;
+        self.turn(&keyed.key)?;
         let code = row_code(alloc, keyed.row)?;
         self.codes.push(code)?;
         Ok(())
     }
 
     // Makes the group of a key the last one, where that has no rows so far or is the last one.
-    fn turn(&mut self, alloc: Global, key: &Digest) -> Result<(), AllocError>
+    fn turn(&mut self, key: &Digest) -> Result<(), AllocError>
         ensures key { OnOk result (self.new.key.0 ≡ key.now.0) }
         ensures holds { OnOk result ((rows : List AnyRow) → Holds self.old rows → (key.now.0 ≡ self.old.key.0) ⊎ (codes_at rows key.now.0 ≡ []) → Holds self.new rows) }
     {
         if are_equal(key, &self.key) {
             return Ok(());
         }
-        self.close(alloc)?;
+        self.close()?;
         self.key = *key;
         Ok(())
     }
 
-    // Puts the last group into the tree.
-    fn close(&mut self, alloc: Global) -> Result<(), AllocError>
-        ensures tree { OnOk result ((rows : List AnyRow) → Holds self.old rows → Keeps self.new.tree (groups_of rows)) }
+    // Closes the last group.
+    fn close(&mut self) -> Result<(), AllocError>
+        ensures closed { OnOk result ((rows : List AnyRow) → Holds self.old rows → Give self.new.closed.items (groups_of rows)) }
         ensures codes { OnOk result (self.new.codes.items ≡ []) }
     {
         self.codes.sort_by(|a, b| a.cmp(b))?;
-        self.tree.change(alloc, &self.key, self.codes.as_slice())?;
+        self.closed
+            .push(Group::of(&self.key, self.codes.as_slice()))?;
         self.codes.clear();
         Ok(())
     }
@@ -98,24 +98,33 @@ fn rows_by_key<'a>(alloc: Global, rows: &'a [Row]) -> Result<Vec<KeyedRow<'a>>, 
 pub fn tree_of(alloc: Global, rows: &[Row]) -> Result<RadixTree, AllocError>
     ensures { IfOk result (λ t. Keeps t (groups_of rows.now)) }
 {
-    let keyed = rows_by_key(alloc, rows)?;
-    let tree = grouped(alloc, keyed.as_slice())?;
+    let groups = groups_by_key(alloc, rows)?;
+    let tree = RadixTree::new(alloc).with_groups(alloc, groups.as_slice())?;
     Ok(tree)
 }
 
-// The tree of the groups of rows that stand in the order of their keys.
-fn grouped(alloc: Global, keyed: &[KeyedRow<'_>]) -> Result<RadixTree, AllocError>
+// The groups of these rows, in the order of their keys.
+fn groups_by_key(alloc: Global, rows: &[Row]) -> Result<Vec<Group>, AllocError>
+    ensures { IfOk result (λ v. Give v.items (groups_of rows.now)) }
+{
+    let keyed = rows_by_key(alloc, rows)?;
+    let groups = grouped(alloc, keyed.as_slice())?;
+    Ok(groups)
+}
+
+// The groups of rows that stand in the order of their keys.
+fn grouped(alloc: Global, keyed: &[KeyedRow<'_>]) -> Result<Vec<Group>, AllocError>
     requires { AreByKey keyed.now }
-    ensures { IfOk result (λ t. Keeps t (groups_of (map row_of keyed.now))) }
+    ensures { IfOk result (λ v. Give v.items (groups_of (map row_of keyed.now))) }
 {
     let mut groups = Groups {
-        tree: RadixTree::new(alloc),
+        closed: Vec::new(alloc),
         key: Digest([0; 32]),
         codes: Vec::new(alloc),
     };
     for row in keyed {
         groups.add(alloc, row)?;
     }
-    groups.close(alloc)?;
-    Ok(groups.tree)
+    groups.close()?;
+    Ok(groups.closed)
 }

@@ -35,7 +35,7 @@ odd-half bs n e =
     sym (low-half bs (n / 2)) ∙ ap (λ m. get_or (halves bs) m 0) f
 
 -- keys with one more half byte in common
-shares-more : (d : ℕ) (k l : List ℕ) → Shares d k l → half_of d l ≡ half_of d k → Shares (suc d) k l
+pub shares-more : (d : ℕ) (k l : List ℕ) → Shares d k l → half_of d l ≡ half_of d k → Shares (suc d) k l
 shares-more d k l s e i m = go (eqb i d) refl
   where
     go : (b : Bool) → eqb i d ≡ b → half_of i l ≡ half_of i k

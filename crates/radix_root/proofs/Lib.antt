@@ -1,7 +1,10 @@
 mod Found
 mod Forks
+mod Places
+mod Pushed
 mod Same
 mod Meets
 mod Halves
 mod Wells
 mod Grown
+mod Given

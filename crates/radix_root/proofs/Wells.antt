@@ -6,10 +6,12 @@ use Rattle.sha2.specs.Sha256.{sha256}
 use Rattle.calculus.specs.Bytes.{joined}
 use Rattle.calculus.specs.declared.ids.Digest.{Digest}
 use Rattle.radix_root.specs.Leaves.{Leaves, digest_at, half_of, set_digest}
-use Rattle.radix_root.specs.Nodes.{Seen, leaves_of, own_leaf, AreLeaves, AllHalf, AllShare, Shares, IsNode, IsFork, IsWell}
-use Rattle.radix_root.proofs.Found.{same, equal, some-bytes, two-found}
+use Rattle.calculus.specs.Root.{sixteen}
+use Rattle.radix_root.specs.Nodes.{Seen, leaves_of, own_leaf, digest_under, AreLeaves, AllHalf, AllShare, NoneHas, Shares, IsPlace, IsNode, IsFork, IsWell}
+use Rattle.radix_root.proofs.Found.{same, equal, differ, some-bytes, two-found}
 use Rattle.radix_root.proofs.Same.{first-found, first-some, second-some, single, two-keys, two-kept}
-use Rattle.radix_root.proofs.Forks.{fork-digest, fork-leaves, fork-at, fork-set, keys-at}
+use Rattle.radix_root.proofs.Forks.{fork-digest, children-leaves, none-found}
+use Rattle.radix_root.proofs.Places.{child-at, fork-changed, keys-at, place-within, place-half}
 use Rattle.radix_root.proofs.Halves.{all-share-more, apart-below}
 
 -- the nodes under a node that has some
@@ -35,16 +37,16 @@ well-leaf d k v (c ∷ cs) l m n z = absurd (omega (arith, z))
 
 -- a node with several groups
 pub well-fork : (d : ℕ) (v : List ℕ) (key : Option Digest) (cs : List Seen) → key ≡ None → IsFork d cs → 2 ≤ length (leaves_of cs)
-    → v ≡ sha256 (0x11 ∷ joined (each (λ (c : Seen). c.digest) cs)) → IsWell d v key cs
-well-fork d v key [] n f two e = absurd (omega (arith, f.sixteen))
+    → v ≡ sha256 (0x11 ∷ joined (each (digest_under cs) sixteen)) → IsWell d v key cs
+well-fork d v key [] n f two e = absurd (omega (arith, two))
 well-fork d v key (c ∷ cs) n f two e =
     subst (λ (k : Option Digest). IsWell d v k (c ∷ cs)) (sym n)
-    (record { within = omega (arith, f.within); shaped = (refl, f, two); leaves = fork-leaves d 0 (c ∷ cs) f.children; digest = e ∙ fork-digest d (c ∷ cs) f two })
+    (record { within = omega (arith, f.within); shaped = (refl, f, two); leaves = children-leaves d (c ∷ cs) f.children; digest = e ∙ fork-digest d (c ∷ cs) f two })
 
 -- what is seen of such a node, at its depth by another name
-pub well-node : (d f : ℕ) (v : List ℕ) (key : Option Digest) (cs : List Seen) (h : ℕ) → d ≡ f → IsWell d v key cs
-    → IsNode f (record { depth = d; digest = v; leaves = own_leaf key v ++ leaves_of cs; height = h })
-well-node d f v key cs h e w = record { depth = e; leaves = w.leaves; digest = w.digest ∙ ap (λ m. set_digest (64 - m) (own_leaf key v ++ leaves_of cs)) e }
+pub well-node : (d f i : ℕ) (v : List ℕ) (key : Option Digest) (cs : List Seen) (h : ℕ) → d ≡ f → IsWell d v key cs
+    → IsNode f (record { depth = d; half = i; digest = v; leaves = own_leaf key v ++ leaves_of cs; height = h })
+well-node d f i v key cs h e w = record { depth = e; leaves = w.leaves; digest = w.digest ∙ ap (λ m. set_digest (64 - m) (own_leaf key v ++ leaves_of cs)) e }
 
 -- a key keeps its digest where one key has another
 set-keeps : (ls ms : Leaves) (key v : List ℕ) → length v ≡ 32 → ((k : List ℕ) → digest_at ms k ≡ cond (bytes_eq k key) v (digest_at ls k))
@@ -83,16 +85,33 @@ rest-some (l ∷ m ∷ ls) ms key a h f e = go (bytes_eq l.0 key) refl (bytes_eq
     go false p c q = first-some l (m ∷ ls) a (gone l.0 p)
 
 -- the keys under the node of a key's half byte share one more half byte with it
-pub shared-at : (d : ℕ) (key : List ℕ) (j : ℕ) (cs : List Seen) (o : Seen) → IsFork d cs → AllShare d key (leaves_of cs) → j ≡ half_of d key → j < 16 → get_or cs j o ≡ o
+pub shared-at : (d h : ℕ) (key : List ℕ) (j : ℕ) (cs : List Seen) (o : Seen) → IsFork d cs → AllShare d key (leaves_of cs) → h ≡ half_of d key → IsPlace h cs j → get_or cs j o ≡ o
     → AllShare o.depth key o.leaves
-shared-at d key j cs o f a e l g =
-    let r = fork-at d j cs o f l g in
-    let share : AllShare d key o.leaves = keys-at (Shares d key) j cs o a (omega (arith, l, f.sixteen)) g in
-    subst (λ m. AllShare m key o.leaves) (sym r.0.depth) (all-share-more d key o.leaves share (subst (λ m. AllHalf d m o.leaves) e r.1))
+shared-at d h key j cs o f a e p g =
+    let l = place-within h cs j p in
+    let r = child-at d j cs o f.children l g in
+    let share : AllShare d key o.leaves = keys-at (Shares d key) j cs o a l g in
+    subst (λ m. AllShare m key o.leaves) (sym r.0.depth) (all-share-more d key o.leaves share (subst (λ m. AllHalf d m o.leaves) (place-half h cs j o p g ∙ e) r.1))
 
 -- the depth of the node of a half byte
-pub depth-at : (d j : ℕ) (cs : List Seen) (o : Seen) → IsFork d cs → j < 16 → get_or cs j o ≡ o → o.depth ≡ suc d
-depth-at d j cs o f l g = (fork-at d j cs o f l g).0.depth
+pub depth-at : (d h j : ℕ) (cs : List Seen) (o : Seen) → IsFork d cs → IsPlace h cs j → get_or cs j o ≡ o → o.depth ≡ suc d
+depth-at d h j cs o f p g = (child-at d j cs o f.children (place-within h cs j p) g).0.depth
+
+-- nodes of which that of a key has another digest of this key
+pub fork-set : (d h j : ℕ) (cs : List Seen) (o n : Seen) (key v : List ℕ) → IsFork d cs → h ≡ half_of d key → IsPlace h cs j → get_or cs j o ≡ o → IsNode o.depth n → n.half ≡ o.half
+    → ((k : List ℕ) → digest_at n.leaves k ≡ cond (bytes_eq k key) v (digest_at o.leaves k))
+    → IsFork d (set cs j n) × ((k : List ℕ) → digest_at (leaves_of (set cs j n)) k ≡ cond (bytes_eq k key) v (digest_at (leaves_of cs) k))
+fork-set d h j cs o n key v f e p g w same_half is =
+    fork-changed d j cs o n (λ k x. cond (bytes_eq k key) v x) f (place-within h cs j p) g w same_half
+    (λ k x q. ap (λ b. cond b v x) (differ k key (λ z. q (ap (half_of d) z ∙ sym e ∙ sym (place-half h cs j o p g))))) is
+
+-- a key whose half byte no node has is none of theirs
+pub none-removed : (d h : ℕ) (cs : List Seen) (key : List ℕ) → IsFork d cs → h ≡ half_of d key → NoneHas h cs → (k : List ℕ) → digest_at (leaves_of cs) k ≡ cond (bytes_eq k key) [] (digest_at (leaves_of cs) k)
+none-removed d h cs key f e n k = go (bytes_eq k key) refl
+  where
+    go : (b : Bool) → bytes_eq k key ≡ b → digest_at (leaves_of cs) k ≡ cond b [] (digest_at (leaves_of cs) k)
+    go true t = none-found d h cs f.children n k (ap (half_of d) (same k key t) ∙ sym e)
+    go false t = refl
 
 -- the key of a node's one group and another key part below it
 pub parts-below : (d : ℕ) (ls : Leaves) (own kept key : List ℕ) → d ≤ 64 → AreLeaves ls → ls ≡ (own, kept) ∷ [] → length key ≡ 32 → bytes_eq own key ≡ false → AllShare d key ls → d < 64
@@ -104,20 +123,20 @@ pub both-ok : {T E : Type 0} (P Q : Type 0) (r : Result T E) → OnOk r P → On
 both-ok P Q (Ok x) p q = (p, q)
 both-ok P Q (Err y) p q = tt
 
--- sixteen nodes of which that of a key has lost this key
-pub removed : (d j : ℕ) (kept : List ℕ) (own : Option Digest) (cs : List Seen) (o n : Seen) (key : List ℕ) → IsWell d kept own cs → 0 < length cs → j ≡ half_of d key → j < 16 → get_or cs j o ≡ o
-    → IsNode o.depth n → ((k : List ℕ) → digest_at n.leaves k ≡ cond (bytes_eq k key) [] (digest_at o.leaves k))
+-- nodes of which that of a key has lost this key
+pub removed : (d h j : ℕ) (kept : List ℕ) (own : Option Digest) (cs : List Seen) (o n : Seen) (key : List ℕ) → IsWell d kept own cs → 0 < length cs → h ≡ half_of d key → IsPlace h cs j → get_or cs j o ≡ o
+    → IsNode o.depth n → n.half ≡ o.half → ((k : List ℕ) → digest_at n.leaves k ≡ cond (bytes_eq k key) [] (digest_at o.leaves k))
     → (own ≡ None) × IsFork d (set cs j n)
     × ((k : List ℕ) → digest_at (leaves_of (set cs j n)) k ≡ cond (bytes_eq k key) [] (digest_at (own_leaf own kept ++ leaves_of cs) k))
     × (leaves_of (set cs j n) ≡ [] → ⊥) × (o.depth ≡ suc d)
-removed d j kept own cs o n key w h e l g node f =
-    let s = forks d kept own cs w h in
-    let r = fork-set d j cs o n key [] s.1 e l g node f in (
+removed d h j kept own cs o n key w some e p g node i f =
+    let s = forks d kept own cs w some in
+    let r = fork-set d h j cs o n key [] s.1 e p g node i f in (
       s.0,
       r.0,
-      (λ k. r.1 k ∙ ap (λ (ls : Leaves). cond (bytes_eq k key) [] (digest_at ls k)) (sym (forks-leaves d kept own cs w h))),
-      rest-some (leaves_of cs) (leaves_of (set cs j n)) key (fork-leaves d 0 cs s.1.children) s.2 r.1,
-      depth-at d j cs o s.1 l g,
+      (λ k. r.1 k ∙ ap (λ (ls : Leaves). cond (bytes_eq k key) [] (digest_at ls k)) (sym (forks-leaves d kept own cs w some))),
+      rest-some (leaves_of cs) (leaves_of (set cs j n)) key (children-leaves d cs s.1.children) s.2 r.1,
+      depth-at d h j cs o s.1 p g,
     )
 
 -- any keys share no half bytes

@@ -1,11 +1,13 @@
 -- What is seen of a node of the tree, and what holds of it.
-use Rattle.std.specs.Prelude.{◌≡◌, ◌<◌, ◌≤◌, ℕ, suc, ◌-◌, ◌+◌, List, [], ◌∷◌, ◌++◌, length, max, Option, Some, None, ⊤}
+use Rattle.std.specs.Prelude.{◌≡◌, ◌≢◌, ◌<◌, ◌≤◌, ℕ, zero, suc, ◌-◌, ◌+◌, List, [], ◌∷◌, ◌++◌, length, max, replicate, cond, eqb, Option, Some, None, ⊤}
 use Rattle.calculus.specs.declared.ids.Digest.{Digest}
 use Rattle.radix_root.specs.Leaves.{Leaves, digest_at, half_of, set_digest}
 
--- a node: how many half bytes the keys under it share, the digest that it keeps, its groups, and how deep it goes
+-- a node: how many half bytes the keys under it share, the last of these, the digest that it keeps, its groups, and
+-- how deep it goes
 pub record Seen : Type 0 where
   pub depth : ℕ
+  pub half : ℕ
   pub digest : List ℕ
   pub leaves : Leaves
   pub height : ℕ
@@ -53,18 +55,33 @@ pub record IsNode (d : ℕ) (s : Seen) : Type 0 where
   pub leaves : AreLeaves s.leaves
   pub digest : s.digest ≡ set_digest (64 - d) s.leaves
 
--- the nodes under a node at this depth, from this half byte on
-abbrev pub AreChildren : ℕ → ℕ → List Seen → Type 0
-AreChildren d i [] = ⊤
-AreChildren d i (c ∷ cs) = (IsNode (suc d) c × AllHalf d i c.leaves) × AreChildren d (suc i) cs
+-- none of these nodes is that of this half byte
+abbrev pub NoneHas : ℕ → List Seen → Type 0
+NoneHas h [] = ⊤
+NoneHas h (c ∷ cs) = (c.half ≢ h) × NoneHas h cs
 
--- sixteen nodes, one for each half byte
+-- the first of these nodes that is that of this half byte stands at this place
+abbrev pub IsPlace : ℕ → List Seen → ℕ → Type 0
+IsPlace h [] i = ⊥
+IsPlace h (c ∷ cs) zero = c.half ≡ h
+IsPlace h (c ∷ cs) (suc i) = (c.half ≢ h) × IsPlace h cs i
+
+-- the digest of the groups of a half byte, as the nodes keep it
+abbrev pub digest_under : List Seen → ℕ → List ℕ
+digest_under [] h = replicate 32 0
+digest_under (c ∷ cs) h = cond (eqb c.half h) c.digest (digest_under cs h)
+
+-- the nodes under a node at this depth, each of another half byte
+abbrev pub AreChildren : ℕ → List Seen → Type 0
+AreChildren d [] = ⊤
+AreChildren d (c ∷ cs) = (IsNode (suc d) c × AllHalf d c.half c.leaves × NoneHas c.half cs) × AreChildren d cs
+
+-- nodes that may stand under a node at this depth
 pub record IsFork (d : ℕ) (cs : List Seen) : Type 0 where
   pub within : d < 64
-  pub sixteen : length cs ≡ 16
-  pub children : AreChildren d 0 cs
+  pub children : AreChildren d cs
 
--- a node with no nodes under it, or with sixteen that hold two groups at least
+-- a node with no nodes under it, or with some that hold two groups at least
 abbrev pub IsShaped : ℕ → Option Digest → List Seen → Type 0
 IsShaped d key [] = ⊤
 IsShaped d key (c ∷ cs) = (key ≡ None) × IsFork d (c ∷ cs) × (2 ≤ length (leaves_of (c ∷ cs)))

@@ -3,11 +3,16 @@
 ghost use Rattle.std.specs.Prelude.{◌≡◌, ◌<◌, ◌∷◌, ◌++◌, length, map};
 ghost use Rattle.sha2.specs.Sha256.{sha256};
 ghost use Rattle.calculus.specs.Bytes.{be32, joined};
+ghost use Rattle.calculus.specs.Root.{sixteen};
 ghost use Rattle.radix_root.specs.Leaves.{half_of};
+ghost use Rattle.radix_root.specs.Nodes.{digest_under};
 
-use crate::node::Node;
+use crate::node::{Node, place_of};
 use calculus::Digest;
 use sha2::{Digest as _, Sha256};
+
+/// The digest of no group.
+pub(crate) const NO_GROUP: Digest = Digest([0; 32]);
 
 // The tags that the messages of nodes begin with.
 const ONE_GROUP: u8 = 0x10;
@@ -35,16 +40,26 @@ pub(crate) fn leaf_digest(key: &Digest, rows: &[Vec<u8>]) -> Digest
     Digest(hasher.finalize())
 }
 
-/// The digest of several groups, from the digests that the nodes above them keep.
+/// The digest of several groups, from the digests that the nodes of their half bytes keep.
 pub(crate) fn fork_digest(children: &[Node]) -> Digest
-    ensures { result.0 ≡ sha256 (0x11 ∷ joined (map (λ c. c.digest) children.now)) }
+    ensures { result.0 ≡ sha256 (0x11 ∷ joined (map (digest_under children.now) sixteen)) }
 {
     let mut hasher = Sha256::new();
     hasher.update(&[SEVERAL_GROUPS]);
-    for child in children {
-        hasher.update(&child.digest().0);
+    for half in 0..16u8 {
+        hasher.update(&under(children, half).0);
     }
     Digest(hasher.finalize())
+}
+
+// The digest of the groups of a half byte, as the nodes keep it.
+fn under(children: &[Node], half: u8) -> Digest
+    ensures { result.0 ≡ digest_under children.now half }
+{
+    match place_of(children, half) {
+        Some(place) => children[place].digest(),
+        None => NO_GROUP,
+    }
 }
 
 /// The half byte of a key at a place, the high one of each byte first.

@@ -5,8 +5,11 @@
 #![tactic(auto)]
 
 mod digests;
+mod group;
 mod held;
+mod many;
 mod node;
 mod tree;
 
+pub use group::Group;
 pub use tree::RadixTree;

@@ -1,30 +1,32 @@
-// A node of the tree: no group, one group, or sixteen nodes that hold several.
+// A node of the tree: no group, one group, or the nodes of half bytes that hold several.
 
-ghost use Rattle.std.specs.Prelude.{◌≡◌, ◌<◌, ◌≤◌, ◌+◌, ℕ, List, [], ◌∷◌, cond, false, length, IfOk, OnOk, OnErr};
+ghost use Rattle.std.specs.Prelude.{◌≡◌, ◌<◌, ◌≤◌, ◌+◌, ℕ, List, [], ◌∷◌, cond, false, length, IfOk, IfSome, IfNone, OnOk, OnErr};
 ghost use Rattle.std.specs.Str.{bytes_eq};
 ghost use Rattle.radix_root.specs.Leaves.{digest_at};
-ghost use Rattle.radix_root.specs.Nodes.{AllShare, IsFork, IsNode, leaves_of};
+ghost use Rattle.radix_root.specs.Nodes.{AllShare, IsFork, IsNode, IsPlace, NoneHas, leaves_of};
+ghost use Rattle.radix_root.specs.Groups.{given};
 ghost use Rattle.radix_root.specs.Holding.{IsHeld};
 
-use crate::digests::{fork_digest, half_at};
+use crate::digests::{NO_GROUP, fork_digest, half_at, known_length};
+use crate::group::Group;
 use crate::held::{Held, held_by};
 use calculus::Digest;
 use std::alloc::{AllocError, Global};
 use std::marker::Model;
-
-/// The digest of no group.
-const NO_GROUP: Digest = Digest([0; 32]);
+use std::mem;
 
 /// The groups whose keys share their first half bytes.
 #[derive(Drop)]
 pub(crate) struct Node {
-    /// How many half bytes the keys share.
-    depth: u32,
     /// The digest of the groups.
     digest: Digest,
     /// The key, where there is one group.
     key: Option<Digest>,
-    /// A node for each half byte, where there are several groups.
+    /// The last half byte that the keys share.
+    half: u8,
+    /// How many half bytes the keys share.
+    depth: u32,
+    /// The nodes of the half bytes that follow, where there are several groups.
     children: Vec<Node>,
 }
 
@@ -36,6 +38,7 @@ impl Model for Node {
 
     ghost view = { λ a. record {
       depth = a.depth;
+      half = a.half;
       digest = a.digest.0;
       leaves = own_leaf a.key a.digest.0 ++ leaves_of a.children.items;
       height = height_of a.children.items;
@@ -48,15 +51,17 @@ impl Model for Node {
 
 impl Node {
     /// A node without groups.
-    pub(crate) fn empty(alloc: Global, depth: u32) -> Node
+    pub(crate) fn empty(alloc: Global, half: u8, depth: u32) -> Node
         requires { depth ≤ 64 }
         ensures node { IsNode depth result }
+        ensures half { result.half ≡ half }
         ensures leaves { result.leaves ≡ [] }
     {
         Node {
-            depth,
             digest: NO_GROUP,
             key: None,
+            half,
+            depth,
             children: Vec::new(alloc),
         }
     }
@@ -68,6 +73,20 @@ impl Node {
         self.digest
     }
 
+    /// The last half byte that the keys share.
+    fn half(&self) -> u8
+        ensures { result ≡ self.now.half }
+    {
+        self.half
+    }
+
+    /// How many half bytes the keys share.
+    pub(crate) fn depth(&self) -> u32
+        ensures { result ≡ self.now.depth }
+    {
+        self.depth
+    }
+
     /// The node and all that is below it, with new memory.
     pub(crate) fn copy(&self, alloc: Global) -> Result<Node, AllocError>
         ensures { IfOk result (λ c. c ≡ self.now) }
@@ -77,9 +96,10 @@ impl Node {
             children.push(child.copy(alloc)?)?;
         }
         Ok(Node {
-            depth: self.depth,
             digest: self.digest,
             key: self.key,
+            half: self.half,
+            depth: self.depth,
             children,
         })
     }
@@ -108,6 +128,7 @@ impl Node {
         requires shared { AllShare self.old.depth key.now.0 self.old.leaves }
         requires sizes { (length key.now.0 ≡ 32) × (length digest.now.0 ≡ 32) }
         ensures node { OnOk result (IsNode self.old.depth self.new) }
+        ensures half { self.new.half ≡ self.old.half }
         ensures groups { OnOk result ((k : List ℕ) → digest_at self.new.leaves k ≡ cond (bytes_eq k key.now.0) digest.now.0 (digest_at self.old.leaves k)) }
         ensures err { OnErr result (self.new ≡ self.old) }
         ensures made { IfOk result (λ n. n + self.old.depth ≤ 64) }
@@ -143,11 +164,12 @@ impl Node {
         requires shared { AllShare self.old.depth key.now.0 self.old.leaves }
         requires sizes { (length key.now.0 ≡ 32) × (length digest.now.0 ≡ 32) }
         ensures node { OnOk result (IsNode self.old.depth self.new) }
+        ensures half { self.new.half ≡ self.old.half }
         ensures groups { OnOk result ((k : List ℕ) → digest_at self.new.leaves k ≡ cond (bytes_eq k key.now.0) digest.now.0 (digest_at self.old.leaves k)) }
         ensures err { OnErr result (self.new ≡ self.old) }
         ensures made { IfOk result (λ n. n + self.old.depth ≤ 64) }
     {
-        let mut children = forked(alloc, self.depth, own, &self.digest)?;
+        let mut children = forked(alloc, 2, self.depth, own, &self.digest)?;
         let made = set_below(alloc, &mut children, self.depth, key, digest)?;
         self.digest = fork_digest(children.as_slice());
         self.key = None;
@@ -158,6 +180,7 @@ impl Node {
     /// Takes the group of this key out, and says how many digests of nodes were made.
     pub(crate) fn remove(&mut self, key: &Digest) -> u32
         ensures node { IsNode self.old.depth self.new }
+        ensures half { self.new.half ≡ self.old.half }
         ensures groups { (k : List ℕ) → digest_at self.new.leaves k ≡ cond (bytes_eq k key.now.0) [] (digest_at self.old.leaves k) }
         ensures made { result + self.old.depth ≤ 64 }
     {
@@ -173,7 +196,11 @@ impl Node {
             return 0;
         }
         let half = half_at(key, self.depth);
-        let made = self.children[half as usize].remove(key);
+        let place = match place_of(self.children.as_slice(), half) {
+            Some(place) => place,
+            None => return 0,
+        };
+        let made = self.children[place].remove(key);
         match held_by(self.children.as_slice()) {
             Held::One(last, digest) => {
                 self.children.clear();
@@ -189,34 +216,121 @@ impl Node {
         }
     }
 
-    /// A node with one group, of this key and this digest, or else without groups.
-    fn leaf_if(alloc: Global, depth: u32, here: bool, key: &Digest, digest: &Digest) -> Node
+    /// Gives a group its digest, or takes it out where it has none.
+    pub(crate) fn put(&mut self, alloc: Global, group: &Group) -> Result<(), AllocError>
+        requires shared { AllShare self.old.depth group.now.key.0 self.old.leaves }
+        ensures node { OnOk result (IsNode self.old.depth self.new) }
+        ensures half { self.new.half ≡ self.old.half }
+        ensures groups { OnOk result ((k : List ℕ) → digest_at self.new.leaves k ≡ cond (bytes_eq k group.now.key.0) (given group.now.digest) (digest_at self.old.leaves k)) }
+    {
+        let found = group.digest;
+        match found {
+            Some(digest) => {
+                known_length(&group.key.0);
+                known_length(&digest.0);
+                let _made = self.set(alloc, &group.key, &digest)?;
+            }
+            None => {
+                let _made = self.remove(&group.key);
+            }
+        }
+        Ok(())
+    }
+
+    /// The nodes that are to be under it, with room for so many: those that were, or that of its one group. The node is
+    /// without groups then.
+    pub(crate) fn open(&mut self, alloc: Global, room: usize) -> Result<Vec<Node>, AllocError>
+        requires depth { self.old.depth < 64 }
+        ensures fork { IfOk result (λ v. IsFork self.old.depth v.items) }
+        ensures leaves { IfOk result (λ v. leaves_of v.items ≡ self.old.leaves) }
+        ensures depth { OnOk result (self.new.depth ≡ self.old.depth) }
+        ensures half { OnOk result (self.new.half ≡ self.old.half) }
+    {
+        let current = self.key;
+        let children = match current {
+            Some(own) => forked(alloc, room, self.depth, &own, &self.digest)?,
+            None if self.children.is_empty() => Vec::with_capacity(alloc, room)?,
+            None => mem::replace(&mut self.children, Vec::new(alloc)),
+        };
+        self.key = None;
+        self.digest = NO_GROUP;
+        Ok(children)
+    }
+
+    /// Puts these nodes under it, in place of what it holds.
+    pub(crate) fn settle(&mut self, children: Vec<Node>)
+        requires { IsFork self.old.depth children.items }
+        ensures node { IsNode self.old.depth self.new }
+        ensures half { self.new.half ≡ self.old.half }
+        ensures groups { (k : List ℕ) → digest_at self.new.leaves k ≡ digest_at (leaves_of children.items) k }
+    {
+        match held_by(children.as_slice()) {
+            Held::Nothing => {
+                self.children.clear();
+                self.key = None;
+                self.digest = NO_GROUP;
+            }
+            Held::One(last, digest) => {
+                self.children.clear();
+                self.key = Some(last);
+                self.digest = digest;
+            }
+            Held::Several => {
+                self.digest = fork_digest(children.as_slice());
+                self.key = None;
+                self.children = children;
+            }
+        }
+    }
+
+    /// A node with one group, of this key and this digest.
+    fn leaf(alloc: Global, half: u8, depth: u32, key: &Digest, digest: &Digest) -> Node
         requires depth { depth ≤ 64 }
         requires sizes { (length key.now.0 ≡ 32) × (length digest.now.0 ≡ 32) }
         ensures node { IsNode depth result }
-        ensures leaves { result.leaves ≡ cond here ((key.now.0, digest.now.0) ∷ []) [] }
+        ensures half { result.half ≡ half }
+        ensures leaves { result.leaves ≡ (key.now.0, digest.now.0) ∷ [] }
     {
-        let mut node = Node::empty(alloc, depth);
-        if here {
-            node.key = Some(*key);
-            node.digest = *digest;
+        Node {
+            digest: *digest,
+            key: Some(*key),
+            half,
+            depth,
+            children: Vec::new(alloc),
         }
-        node
     }
 }
 
-/// Nodes for each half byte under a node at this depth, of which one has a group of this key and this digest.
-fn forked(alloc: Global, depth: u32, key: &Digest, digest: &Digest) -> Result<Vec<Node>, AllocError>
+/// Where the node of a half byte stands among these.
+pub(crate) fn place_of(children: &[Node], half: u8) -> Option<usize>
+    ensures within { IfSome result (λ i. i < length children.now) }
+    ensures some { IfSome result (IsPlace half children.now) }
+    ensures none { IfNone result (NoneHas half children.now) }
+{
+    for place in 0..children.len() {
+        if children[place].half() == half {
+            return Some(place);
+        }
+    }
+    None
+}
+
+/// The nodes under a node at this depth that has a group of this key and this digest alone, with room for so many.
+fn forked(
+    alloc: Global,
+    room: usize,
+    depth: u32,
+    key: &Digest,
+    digest: &Digest,
+) -> Result<Vec<Node>, AllocError>
     requires depth { depth < 64 }
     requires sizes { (length key.now.0 ≡ 32) × (length digest.now.0 ≡ 32) }
     ensures fork { IfOk result (λ v. IsFork depth v.items) }
     ensures leaves { IfOk result (λ v. leaves_of v.items ≡ (key.now.0, digest.now.0) ∷ []) }
 {
+    let mut children = Vec::with_capacity(alloc, room)?;
     let half = half_at(key, depth);
-    let mut children = Vec::with_capacity(alloc, 16)?;
-    for place in 0..16u8 {
-        children.push_reserved(Node::leaf_if(alloc, depth + 1, place == half, key, digest));
-    }
+    children.push(Node::leaf(alloc, half, depth + 1, key, digest))?;
     Ok(children)
 }
 
@@ -238,5 +352,11 @@ fn set_below(
     ensures made { IfOk result (λ n. n + (depth + 1) ≤ 64) }
 {
     let half = half_at(key, depth);
-    children[half as usize].set(alloc, key, digest)
+    match place_of(children.as_slice(), half) {
+        Some(place) => children[place].set(alloc, key, digest),
+        None => {
+            children.push(Node::leaf(alloc, half, depth + 1, key, digest))?;
+            Ok(0)
+        }
+    }
 }

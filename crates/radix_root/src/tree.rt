@@ -1,9 +1,12 @@
 ghost use Rattle.std.specs.Prelude.{◌≡◌, ◌≤◌, ℕ, List, [], map, IfOk, OnOk, OnErr};
 ghost use Rattle.calculus.specs.Rows.{Row};
 ghost use Rattle.calculus.specs.Root.{root};
-ghost use Rattle.radix_root.specs.Leaves.{Keeps, changed, groups_of};
+ghost use Rattle.radix_root.specs.Leaves.{Keeps, changed, digest_at, groups_of};
+ghost use Rattle.radix_root.specs.Groups.{digest_after};
 
 use crate::digests::{known_length, leaf_digest};
+use crate::group::Group;
+use crate::many::give_all;
 use crate::node::Node;
 use calculus::Digest;
 use std::alloc::{AllocError, Global};
@@ -34,7 +37,7 @@ impl RadixTree {
         ensures { result ≡ [] }
     {
         RadixTree {
-            root: Node::empty(alloc, 0),
+            root: Node::empty(alloc, 0, 0),
         }
     }
 
@@ -75,5 +78,17 @@ impl RadixTree {
         let digest = leaf_digest(key, rows);
         let made = self.root.set(alloc, key, &digest)?;
         Ok(made + 1)
+    }
+
+    /// The tree after these groups are given, one after another: each key has the digest that was given last, and none
+    /// where the group given last has none. Want of memory is the one error.
+    ///
+    /// Where groups ascend in their keys, the digest of each node above them is made once.
+    pub fn with_groups(self, alloc: Global, groups: &[Group]) -> Result<RadixTree, AllocError>
+        ensures { IfOk result (λ t. (k : List ℕ) → digest_at t k ≡ digest_after groups.now (digest_at self k) k) }
+    {
+        let mut root = self.root;
+        give_all(&mut root, alloc, groups)?;
+        Ok(RadixTree { root })
     }
 }

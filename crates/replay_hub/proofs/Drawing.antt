@@ -107,7 +107,7 @@ module _ {R C S : Type 0} (deploy : Deploy) (ss : List Step) (row : R → Row) (
 
       go : (d : Did R C) → ShowsDeed deploy ss row channel part in_hand (has_bit e.shards) d → TellsDeed ss deploy (map (seen_at part) now.before) (has_bit e.shards) (deed_of row channel d)
       go (Arrived a) s = s
-      go (Idle t) s = idle_tries_are_shown in_hand since held t c s now.before now.are at-least
+      go (Idle t) s = idle_tries_are_shown in_hand since held t.value c s now.before now.are at-least
       go (Done m) s =
           let k = s.makes in
           record {

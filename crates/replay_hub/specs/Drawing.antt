@@ -54,7 +54,7 @@ module _ {R C S : Type 0} (deploy : Deploy) (ss : List Step) (row : R → Row) (
   abbrev pub ShowsDeed : (ℕ → Option S) → (ℕ → Bool) → Did R C → Type 0
   ShowsDeed in_hand touched (Arrived a) = Covers touched (row a.coming.value.row ∷ []) × IsFirstUse ss (row a.coming.value.row) (map (try_of row channel) a.next.value.items)
   ShowsDeed in_hand touched (Done m) = ShowsDone in_hand touched m
-  ShowsDeed in_hand touched (Idle t) = ShowsIdle part in_hand ss channel t
+  ShowsDeed in_hand touched (Idle t) = ShowsIdle part in_hand ss channel t.value
 
   -- what a worker shows of an entry
   abbrev pub ShowsEntry : (ℕ → Option S) → Entry R C → Type 0

@@ -1,6 +1,9 @@
 -- Rust values of a replay, as entries, jobs and shards of its scene.
-use Rattle.std.specs.Prelude.{◌≡◌, ◌<◌, ℕ, Bool, ◌&&◌, eqb, nat_lt, List, [], ◌∷◌, ◌++◌, map, refl, Option, Some}
+use Rattle.std.specs.Prelude.{◌≡◌, ◌<◌, ℕ, Bool, ◌&&◌, eqb, nat_lt, List, [], ◌∷◌, ◌++◌, map, refl, Option, Some, None}
 use Rattle.std.specs.Int.{bit_at}
+use Rattle.std.specs.declared.alloc.Global.{Global}
+use Rattle.std.specs.declared.boxed.Box.{Box}
+use Rattle.std.specs.declared.vec.Vec.{Vec}
 use Rattle.std.proofs.Common.{ap, ◌∙◌}
 use Rattle.calculus.specs.declared.ids.Digest.{Digest}
 use Rattle.calculus.specs.Tree.{Tree}
@@ -31,6 +34,11 @@ use Rattle.replay_hub.specs.declared.deed.Entry.{Entry}
 abbrev pub has_bit : ℕ → ℕ → Bool
 has_bit n k = nat_lt k 64 && eqb (bit_at n k) 1
 
+-- the bytes of a line, where none is kept of an empty one
+abbrev pub line_items : Option (Box (Vec ℕ Global) Global) → List ℕ
+line_items None = []
+line_items (Some b) = b.value.items
+
 -- the try of a step that is done
 abbrev pub tried_of : {R C : Type 0} → Made R C → Try C
 tried_of m = record { step = m.step; channel = m.channel.value }
@@ -39,7 +47,7 @@ tried_of m = record { step = m.step; channel = m.channel.value }
 abbrev pub takes_of : {R C : Type 0} → Did R C → Task R C
 takes_of (Arrived a) = Arrive a.coming.value
 takes_of (Done m) = Index (tried_of m)
-takes_of (Idle t) = Index t
+takes_of (Idle t) = Index t.value
 
 -- the jobs that an entry offers
 abbrev pub offers_of : {R C : Type 0} → Did R C → List (Task R C)
@@ -69,14 +77,14 @@ module _ {R C : Type 0} (row : R → Row) (channel : C → Tree) where
     offers = map row m.offers.value.items;
     price = m.price;
     fault = m.fault;
-    line = m.line.items;
+    line = line_items m.line;
   }
 
   -- what an entry did
   abbrev pub deed_of : Did R C → Deed
   deed_of (Arrived a) = arrives (new_row_of a.coming.value) (map try_of a.next.value.items)
   deed_of (Done m) = does (try_of (tried_of m)) (making_of m) (map try_of m.next.value.items)
-  deed_of (Idle t) = idles (try_of t)
+  deed_of (Idle t) = idles (try_of t.value)
 
   -- an entry
   abbrev pub entry_of : Entry R C → AnEntry

@@ -50,8 +50,8 @@ pub struct Made<R, C> {
     pub price: u64,
     /// The fault of its body.
     pub fault: Option<FaultKind>,
-    /// What it prints: empty unless its receiver is a built-in one.
-    pub line: Vec<u8>,
+    /// What it prints: None where that is empty, as it is unless its receiver is a built-in one.
+    pub line: Option<Box<Vec<u8>>>,
 }
 
 /// What an entry did.
@@ -61,8 +61,8 @@ pub enum Did<R, C> {
     Arrived(Arrived<R, C>),
     /// A step was done.
     Done(Made<R, C>),
-    /// A try was idle.
-    Idle(Try<C>),
+    /// A try was idle, which is seen by contracts alone.
+    Idle(Snapshot<Try<C>>),
 }
 
 /// An entry, with the bits of the shards that it touches.

@@ -11,6 +11,7 @@ use crate::deed::{Did, Entry, Task, Try};
 use crate::scene::ReplayScene;
 use crate::terms::ReplayTerms;
 use group_locks::{Hub, Seat};
+use std::snapshot::Snapshot;
 
 /// Ends a try as idle, where the shards in hand show that its step may not be done.
 pub fn end_idle<J: ReplayTerms + Sync>(
@@ -31,7 +32,7 @@ pub fn end_idle<J: ReplayTerms + Sync>(
     ensures offered { offered_by seat.new.state ≡ [] }
 {
     let entry = Entry {
-        did: Did::Idle(tried),
+        did: Did::Idle(Snapshot::of(&tried)),
         shards: 0,
     };
     seat.commit(hub, held, entry, u64::MAX);

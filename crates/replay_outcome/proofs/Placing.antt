@@ -6,6 +6,7 @@ use Rattle.replay_scene.specs.Spaces.{DidStep}
 use Rattle.replay_scene.specs.Closing.{is_did, did_at}
 use Rattle.replay_outcome.specs.declared.places.Came.{Came}
 use Rattle.replay_outcome.specs.Settling.{Keeps, KeptFrom}
+use Rattle.replay_hub.specs.Values.{line_items}
 
 -- another step changes nothing at this index
 did-other : (i : ℕ) (ds : List DidStep) (d : DidStep) → eqb i d.index ≡ false → did_at i (ds ++ d ∷ []) ≡ did_at i ds
@@ -39,7 +40,7 @@ pub record Kept (c : Came) (l : List DidStep) : Type 0 where
   pub is : l ≡ it ∷ []
   pub price : c.price ≡ it.price
   pub fault : c.fault ≡ it.fault
-  pub line : c.line.items ≡ it.line
+  pub line : line_items c.line ≡ it.line
 
 pub keeps-some : (c : Came) (l : List DidStep) → Keeps (Some c) l → Kept c l
 keeps-some c [] k = absurd k
@@ -85,7 +86,7 @@ fills i (suc j) ds d c (o ∷ os) at e w k = (
 pub taken : (ds : List DidStep) (d : DidStep) (j : ℕ) (os : List (Option Came)) → d.index ≡ j → (slice_get os j ≡ Some None → ⊥) → KeptFrom 0 ds os → KeptFrom 0 (ds ++ d ∷ []) os
 taken ds d j os e free k = stays 0 ds d os (λ i n. different (0 + i) d.index (λ q. free (subst (λ m. slice_get os m ≡ Some None) (omega (arith, q, e)) n))) k
 
-pub placed : (ds : List DidStep) (d : DidStep) (j : ℕ) (c : Came) (os : List (Option Came)) → d.index ≡ j → slice_get os j ≡ Some None → c.price ≡ d.price → c.fault ≡ d.fault → c.line.items ≡ d.line → KeptFrom 0 ds os
+pub placed : (ds : List DidStep) (d : DidStep) (j : ℕ) (c : Came) (os : List (Option Came)) → d.index ≡ j → slice_get os j ≡ Some None → c.price ≡ d.price → c.fault ≡ d.fault → line_items c.line ≡ d.line → KeptFrom 0 ds os
     → KeptFrom 0 (ds ++ d ∷ []) (set os j (Some c))
 placed ds d j c os e free p f l k = fills 0 j ds d c os free (omega (arith, e)) (p, f, l) k
 

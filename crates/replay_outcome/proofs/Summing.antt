@@ -14,6 +14,7 @@ use Rattle.replay_outcome.specs.declared.places.Came.{Came}
 use Rattle.replay_outcome.specs.declared.sum.Sum.{Sum}
 use Rattle.replay_outcome.specs.Settling.{KeptFrom, AreDidBelow, IsSum}
 use Rattle.replay_outcome.proofs.Placing.{Kept, keeps-none, keeps-some, not-did, was-did}
+use Rattle.replay_hub.specs.Values.{line_items}
 
 -- the first fault, with one more at the end
 later-fault : (k : ℕ) (fs : List (Option FaultKind)) (g : Option FaultKind) → first_fault k fs ≡ done → first_fault k (fs ++ g ∷ []) ≡ at_fault (k + length fs) g done
@@ -49,7 +50,7 @@ lines-more (x ∷ xs) d = ap (λ l. x.line ++ l) (lines-more xs d) ∙ sym (appe
 
 -- one more step is added
 module _ (price : ℕ) (fault : Option FaultKind) (ds : List DidStep) (old new : Sum) (s : IsSum price fault ds old) (d : DidStep) (c : Came)
-    (p : c.price ≡ d.price) (f : c.fault ≡ d.fault) (l : c.line.items ≡ d.line) where
+    (p : c.price ≡ d.price) (f : c.fault ≡ d.fault) (l : line_items c.line ≡ d.line) where
   abbrev faults : List (Option FaultKind)
   faults = fault ∷ each (λ d. d.fault) ds
 
@@ -67,13 +68,13 @@ module _ (price : ℕ) (fault : Option FaultKind) (ds : List DidStep) (old new :
           ∙ sym (later-fault 0 faults d.fault (sym s.verdict ∙ e))
       go (inr n) = ap verdict_of (some n) ∙ s.verdict ∙ sym (first-stays 0 faults d.fault (λ e. n (s.verdict ∙ e)))
 
-  pub one-more : new.total ≡ min (old.total + c.price) (2 ^ 64 - 1) → new.lines.items ≡ old.lines.items ++ c.line.items
+  pub one-more : new.total ≡ min (old.total + c.price) (2 ^ 64 - 1) → new.lines.items ≡ old.lines.items ++ line_items c.line
       → (verdict_of old.verdict ≡ done → (i : ℕ) → step_of_work i ≡ Some (length ds) → verdict_of new.verdict ≡ at_fault i c.fault done) → ((verdict_of old.verdict ≡ done → ⊥) → new.verdict ≡ old.verdict)
       → IsSum price fault (ds ++ d ∷ []) new
   one-more t m none some = record {
     total = omega (arith, t, p, s.total, sum_by-append (λ (d : DidStep). d.price) ds (d ∷ []));
     verdict = verdict-more none some;
-    lines = m ∙ ap (λ x. x ++ c.line.items) s.lines ∙ ap (λ x. did_lines ds ++ x) l ∙ sym (lines-more ds d);
+    lines = m ∙ ap (λ x. x ++ line_items c.line) s.lines ∙ ap (λ x. did_lines ds ++ x) l ∙ sym (lines-more ds d);
   }
 
 -- where the sum stands before the step with index i, with what is kept of the rest
@@ -89,7 +90,7 @@ undone price fault ds i rest s a = record { undone = not-did i ds (keeps-none (d
 
 -- one more step that is done
 pub one-along : (price : ℕ) (fault : Option FaultKind) (ds : List DidStep) (i : ℕ) (c : Came) (rest : List (Option Came)) (old new : Sum) → Along price fault ds i (Some c ∷ rest) old
-    → ((d : DidStep) → c.price ≡ d.price → c.fault ≡ d.fault → c.line.items ≡ d.line → IsSum price fault (in_log_order i ds ++ d ∷ []) new) → Along price fault ds (i + 1) rest new
+    → ((d : DidStep) → c.price ≡ d.price → c.fault ≡ d.fault → line_items c.line ≡ d.line → IsSum price fault (in_log_order i ds ++ d ∷ []) new) → Along price fault ds (i + 1) rest new
 one-along price fault ds i c rest old new a add =
     subst (λ j. Along price fault ds j rest new) plus record {
       below = below;

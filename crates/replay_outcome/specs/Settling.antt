@@ -14,13 +14,14 @@ use Rattle.replay_outcome.specs.declared.sum.Summed.TheVariants.{Undone, Whole}
 use Rattle.replay_outcome.specs.declared.settling.Ending.{Ending}
 use Rattle.replay_outcome.specs.declared.settling.Settled.{Settled}
 use Rattle.replay_outcome.specs.declared.settling.Settled.TheVariants.{NoRun, Ended}
+use Rattle.replay_hub.specs.Values.{line_items}
 
 -- what is kept of a step, where it is done
 abbrev pub Keeps : Option Came → List DidStep → Type 0
 Keeps None [] = ⊤
 Keeps None (d ∷ ds) = ⊥
 Keeps (Some c) [] = ⊥
-Keeps (Some c) (d ∷ []) = (c.price ≡ d.price) × (c.fault ≡ d.fault) × (c.line.items ≡ d.line)
+Keeps (Some c) (d ∷ []) = (c.price ≡ d.price) × (c.fault ≡ d.fault) × (line_items c.line ≡ d.line)
 Keeps (Some c) (d ∷ (e ∷ ds)) = ⊥
 
 -- at each index what is kept of the step with this index

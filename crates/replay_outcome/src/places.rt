@@ -4,19 +4,20 @@ ghost use Rattle.calculus.specs.Rows.{Row};
 ghost use Rattle.calculus.specs.Tree.{Tree};
 ghost use Rattle.replay_scene.specs.Spaces.{DidStep};
 ghost use Rattle.replay_scene.specs.Entries.{did_by, did_in};
-ghost use Rattle.replay_hub.specs.Values.{deed_of, entry_of};
+ghost use Rattle.replay_hub.specs.Values.{deed_of, entry_of, line_items};
 ghost use Rattle.replay_outcome.specs.Settling.{KeptFrom};
 
 use calculus::FaultKind;
 use replay_hub::{Did, Entry, Made};
 use std::alloc::{AllocError, Global};
 
-/// What is kept of a done step: what it costs with its body, the fault of its body, and what it prints.
+/// What is kept of a done step: what it costs with its body, the fault of its body, and what it prints, None where that is
+/// empty.
 #[derive(Drop)]
 pub struct Came {
     pub price: u64,
     pub fault: Option<FaultKind>,
-    pub line: Vec<u8>,
+    pub line: Option<Box<Vec<u8>>>,
 }
 
 // Nothing is kept of so many steps.
@@ -43,7 +44,7 @@ fn is_free(places: &[Option<Came>], index: usize) -> bool
 // Keeps a done step at its index, unless one is kept there.
 fn place_step<R: Drop, C: Drop>(places: &mut Vec<Option<Came>>, made: Made<R, C>)
     ensures count { length places.new.items ≡ length places.old.items }
-    ensures kept { (ds : List DidStep) (d : DidStep) → d.index ≡ made.step → d.price ≡ made.price → d.fault ≡ made.fault → d.line ≡ made.line.items
+    ensures kept { (ds : List DidStep) (d : DidStep) → d.index ≡ made.step → d.price ≡ made.price → d.fault ≡ made.fault → d.line ≡ line_items made.line
         → KeptFrom 0 ds places.old.items → KeptFrom 0 (ds ++ d ∷ []) places.new.items }
 {
     let Made {

@@ -3,6 +3,7 @@ ghost use Rattle.std.specs.Prelude.{◌≡◌, ◌<◌, ◌^◌, ◌++◌, ◌�
 ghost use Rattle.calculus.specs.Runs.{at_fault, done, step_of_work};
 ghost use Rattle.run_verdict.specs.View.{verdict_of};
 ghost use Rattle.replay_scene.specs.Spaces.{DidStep};
+ghost use Rattle.replay_hub.specs.Values.{line_items};
 ghost use Rattle.replay_outcome.specs.Settling.{IsSum, KeptFrom, SumsUp};
 
 use crate::places::Came;
@@ -39,13 +40,23 @@ fn verdict_with(before: Verdict, fault: Option<FaultKind>, step: Option<u32>) ->
     }
 }
 
+// Adds a line at the end, if there is one.
+fn add_line(lines: &mut Vec<u8>, line: Option<Box<Vec<u8>>>) -> Result<(), AllocError>
+    ensures { IfOk result (λ _. lines.new.items ≡ lines.old.items ++ line_items line) }
+{
+    match line {
+        None => Ok(()),
+        Some(line) => lines.extend_from_slice(line.as_slice()),
+    }
+}
+
 // Adds a step.
 fn add_step(sum: &mut Sum, index: u32, came: Came) -> Result<(), AllocError>
     ensures { (price : ℕ) (fault : Option FaultKind) (ds : List DidStep) (d : DidStep) → IsSum price fault ds sum.old → length ds ≡ index
-        → came.price ≡ d.price → came.fault ≡ d.fault → came.line.items ≡ d.line → IfOk result (λ _. IsSum price fault (ds ++ d ∷ []) sum.new) }
+        → came.price ≡ d.price → came.fault ≡ d.fault → line_items came.line ≡ d.line → IfOk result (λ _. IsSum price fault (ds ++ d ∷ []) sum.new) }
 {
     let Came { price, fault, line } = came;
-    sum.lines.extend_from_slice(line.as_slice())?;
+    add_line(&mut sum.lines, line)?;
     sum.total = sum.total.saturating_add(price);
     sum.verdict = verdict_with(sum.verdict, fault, Some(index));
     Ok(())

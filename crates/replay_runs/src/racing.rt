@@ -8,7 +8,8 @@ ghost use Rattle.calculus.specs.Steps.{differ};
 ghost use Rattle.event_log.specs.View.{steps_of, IsWritable};
 ghost use Rattle.fresh_digests.specs.Premises.{FitsInTexts};
 ghost use Rattle.storable_row_laws.specs.Laws.{AreStorable};
-ghost use Rattle.replay_answers.specs.Bases.{ids_of, AllowNoStep};
+ghost use Rattle.replay_answers.specs.Bases.{ids_of};
+ghost use Rattle.states.specs.Quiet.{AllowNoStep};
 ghost use Rattle.replay_runs.specs.Racing.{arrivals, IsRaced};
 
 use calculus::Digest;

@@ -8,7 +8,8 @@ ghost use Rattle.fresh_digests.specs.Numbers.{IsNumberable};
 ghost use Rattle.replays.specs.Replays.{deploy_under, header_refusal, Refusal};
 ghost use Rattle.replay_faults.specs.Refusals.{is_of_header, refusal_of};
 ghost use Rattle.replay_answers.specs.Answers.{Clashes, IsAnswered};
-ghost use Rattle.replay_answers.specs.Bases.{asked, ids_of, AreQuiet};
+ghost use Rattle.replay_answers.specs.Bases.{asked, ids_of};
+ghost use Rattle.states.specs.Quiet.{AreQuiet};
 ghost use Rattle.replay_runs.specs.Racing.{any_built_in_id, has_built_in_id};
 
 use crate::racing::race;

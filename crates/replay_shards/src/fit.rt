@@ -15,7 +15,7 @@ use crate::kept::is_among;
 use crate::next::all_next;
 use crate::ready::Ready;
 use crate::slots::Slot;
-use crate::taking::{take_row, take_rows};
+use crate::taking::{lend_row, take_rows};
 use calculus::Digest;
 use event_log::LogStep;
 use replay_space::Rig;
@@ -65,6 +65,7 @@ fn meet_taken(
     slots: &[Slot],
     rig: &Rig,
     wanted: &LogStep,
+    step: u32,
     receiver: &Row,
     sends: &[Row],
 ) -> Result<Option<Ready>, AllocError>
@@ -82,6 +83,7 @@ fn meet_taken(
         alloc,
         slots,
         rig,
+        step,
         found.gone.as_slice(),
         &wanted.cont,
         wanted.taken.as_slice(),
@@ -105,11 +107,11 @@ pub(crate) fn fit(
     if !may_fit(slots, rig, wanted, step) {
         return Ok(None);
     }
-    let Some(receiver) = take_row(alloc, slots, rig, step, &wanted.cont)? else {
+    let Some(receiver) = lend_row(slots, rig, step, 0, &wanted.cont) else {
         return Ok(None);
     };
     let Some(sends) = take_rows(alloc, slots, rig, step, wanted.taken.as_slice())? else {
         return Ok(None);
     };
-    meet_taken(alloc, slots, rig, wanted, &receiver, sends.as_slice())
+    meet_taken(alloc, slots, rig, wanted, step, receiver, sends.as_slice())
 }

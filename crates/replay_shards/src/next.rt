@@ -1,7 +1,8 @@
 // The tries that follow an arrival or a done step.
-ghost use Rattle.std.specs.Prelude.{◌≡◌, [], ◌∷◌, List, Some, IfOk, OnOk};
+ghost use Rattle.std.specs.Prelude.{◌≡◌, [], ◌∷◌, ℕ, List, Some, slice_get, IfOk, OnOk};
 ghost use Rattle.calculus.specs.Log.{Step};
 ghost use Rattle.calculus.specs.Rows.{channels};
+ghost use Rattle.racing_replays.specs.Counted.{uses};
 ghost use Rattle.replay_scene.specs.Spaces.{SeenRow, IsIn};
 ghost use Rattle.replay_scene.specs.Showing.{IsFirstUse};
 ghost use Rattle.replay_space.specs.Rigs.{IsRigOf};
@@ -30,11 +31,11 @@ fn first_channel(alloc: Global, row: &Row) -> Result<Term, AllocError>
     }
 }
 
-// The try of the use of a row at this place, if there is such a use.
-fn use_try(alloc: Global, rig: &Rig, row: &Row, place: usize) -> Result<Option<Try>, AllocError>
-    ensures { (ss : List Step) → IsRigOf ss rig.now → IfOk result (λ o. IsUseTry ss row.now place (if_any o)) }
+// The try of a use of a row, if there is one.
+fn use_try(alloc: Global, row: &Row, next: Option<u32>) -> Result<Option<Try>, AllocError>
+    ensures { (ss : List Step) (n : ℕ) → next ≡ slice_get (uses row.now.id 0 ss) n → IfOk result (λ o. IsUseTry ss row.now n (if_any o)) }
 {
-    match rig.next_use(&row.id(), place) {
+    match next {
         None => Ok(None),
         Some(step) => {
             let channel = first_channel(alloc, row)?;
@@ -48,7 +49,7 @@ pub fn first_tries(alloc: Global, rig: &Rig, row: &Row) -> Result<Vec<Try>, Allo
     ensures { (ss : List Step) → IsRigOf ss rig.now → IfOk result (λ v. IsFirstUse ss row.now (index_tries v.items)) }
 {
     let mut tries = Vec::new(alloc);
-    match use_try(alloc, rig, row, 0)? {
+    match use_try(alloc, row, rig.next_use(&row.id(), 0))? {
         None => Ok(tries),
         Some(tried) => {
             tries.push(tried)?;
@@ -57,11 +58,13 @@ pub fn first_tries(alloc: Global, rig: &Rig, row: &Row) -> Result<Vec<Try>, Allo
     }
 }
 
-// Adds the try that follows for the first row in hand with this id, unless it leaves.
+// Adds the try that follows for the first row in hand with this id, unless it leaves. A step names it at this place.
 fn add_next(
     alloc: Global,
     slots: &[Slot],
     rig: &Rig,
+    step: u32,
+    place: usize,
     gone: &[Digest],
     id: &Digest,
     next: &mut Vec<Try>,
@@ -75,8 +78,9 @@ fn add_next(
     let Some(seen) = find_in(slots, id) else {
         return Ok(());
     };
-    let place = seen.done as usize + 1;
-    match use_try(alloc, rig, &seen.row, place)? {
+    let done = seen.done as usize + 1;
+    let next_use = rig.next_use_at(&seen.row.id(), step, place, done);
+    match use_try(alloc, &seen.row, next_use)? {
         None => Ok(()),
         Some(tried) => {
             next.push(tried)?;
@@ -85,11 +89,12 @@ fn add_next(
     }
 }
 
-/// The tries that follow for the first rows in hand with these ids, but for those that leave.
+/// The tries that follow for the first rows in hand with these ids, which a step names, but for those that leave.
 pub(crate) fn all_next(
     alloc: Global,
     slots: &[Slot],
     rig: &Rig,
+    step: u32,
     gone: &[Digest],
     first: &Digest,
     others: &[Digest],
@@ -99,9 +104,11 @@ pub(crate) fn all_next(
         → IfOk result (λ v. AreNext ss (bytes_of gone.now) (r ∷ ds) v.items) }
 {
     let mut next = Vec::new(alloc);
-    add_next(alloc, slots, rig, gone, first, &mut next)?;
+    add_next(alloc, slots, rig, step, 0, gone, first, &mut next)?;
+    let mut place = 1usize;
     for id in others {
-        add_next(alloc, slots, rig, gone, id, &mut next)?;
+        add_next(alloc, slots, rig, step, place, gone, id, &mut next)?;
+        place = place.saturating_add(1);
     }
     Ok(next)
 }

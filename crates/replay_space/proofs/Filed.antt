@@ -1,8 +1,8 @@
 -- Uses and counts of steps as they are filed.
 use Rattle.std.proofs.Common.{◌≡◌, ◌≤◌, ◌<◌, ℕ, suc, ◌+◌, Bool, true, false, cond, ◌&&◌, ◌||◌, List, [], ◌∷◌, ◌++◌, length, map as each, refl, sym, ◌∙◌, ap, arith, Some, append_assoc, append-nil, Vec, Global, take, get_or}
-use Rattle.std.specs.Prelude.{Option, IsSome, count_by, slice_get}
+use Rattle.std.specs.Prelude.{Option, count_by, slice_get}
 use Rattle.std.specs.Str.{bytes_eq}
-use Rattle.std.specs.Map.{lookup, set_value}
+use Rattle.std.specs.Map.{lookup}
 use Rattle.std.specs.Option.{unwrap_or}
 use Rattle.std.specs.Ordering.{nat_cmp, is_eq, ordering_then}
 use Rattle.std.specs.Cmp.Lexicographic.{slice_cmp}
@@ -21,8 +21,8 @@ use Rattle.event_log.specs.declared.log.LogStep.{LogStep}
 use Rattle.event_log.specs.View.{step_of, steps_of}
 use Rattle.racing_replays.specs.Replaying.{names}
 use Rattle.racing_replays.specs.Counted.{names_id, uses}
-use Rattle.replay_space.specs.Rigs.{items_of, Use, Count, used, AreUses, counted, AreCounts, repeats_after}
-use Rattle.replay_space.proofs.Filing.{found-put, found-set}
+use Rattle.replay_space.specs.Rigs.{Numbered, Count, number_of, AreUses, counted, AreCounts, repeats_after}
+use Rattle.replay_space.proofs.Filing.{found-put}
 
 abbrev pub order : List ℕ → List ℕ → Ordering
 order x y = slice_cmp nat_cmp x y
@@ -91,38 +91,34 @@ is-equal Equal e = refl
 is-equal Less e = absurd (cc)
 is-equal Greater e = absurd (cc)
 
--- what is filed under an id after a put
-pub used-put : (x id : List ℕ) (v : Vec ℕ Global) (es : List Use) → used x (insert_entry order es id v) ≡ cond (bytes_eq x id) v.items (used x es)
-used-put x id v es = ap items_of (found-put (bytes_eq x) order id v (λ q s. same-key id q s x) (λ q a b. is-equal (order id q) (equal-is id q (one-key x id q a b))) es) ∙ go (bytes_eq x id)
-  where
-    go : (b : Bool) → items_of (cond b (Some v) (lookup (bytes_eq x) es)) ≡ cond b v.items (used x es)
-    go true = refl
-    go false = refl
+-- the number of an id after a put
+pub number-put : (x id : List ℕ) (n : ℕ) (es : List Numbered) → number_of (insert_entry order es id n) x ≡ cond (bytes_eq x id) (Some n) (number_of es x)
+number-put x id n es = found-put (bytes_eq x) order id n (λ q s. same-key id q s x) (λ q a b. is-equal (order id q) (equal-is id q (one-key x id q a b))) es
 
--- and after a write
-pub used-set : (x id : List ℕ) (v : Vec ℕ Global) (es : List Use) → IsSome (lookup (λ k. is_eq (order id k)) es) → used x (set_value (λ k. is_eq (order id k)) es v) ≡ cond (bytes_eq x id) v.items (used x es)
-used-set x id v es s = ap items_of (found-set (bytes_eq x) (λ k. is_eq (order id k)) (bytes_eq x id) v (λ q e. ap (bytes_eq x) (sym (key-is id q e))) (λ q a b. equal-is id q (one-key x id q a b)) es s) ∙ go (bytes_eq x id)
+-- what is found is the number
+pub found-number : (id : List ℕ) (es : List Numbered) (o : Option ℕ) → o ≡ lookup (λ k. is_eq (order id k)) es → o ≡ number_of es id
+found-number id es o e = e ∙ same es
   where
-    go : (b : Bool) → items_of (cond b (Some v) (lookup (bytes_eq x) es)) ≡ cond b v.items (used x es)
-    go true = refl
-    go false = refl
+    same : (es : List Numbered) → lookup (λ k. is_eq (order id k)) es ≡ lookup (bytes_eq id) es
+    same [] = refl
+    same (d ∷ ds) = ap (λ b. cond b (Some d.1) (lookup (λ k. is_eq (order id k)) ds)) (is_eq-slice_cmp id d.0) ∙ ap (λ o. cond (bytes_eq id d.0) (Some d.1) o) (same ds)
 
--- a list with one more index under an id: what is filed is right with this id as one more
-pub uses-with : (before : List Step) (ids : List (List ℕ)) (id : List ℕ) (es ds : List Use) (l : List ℕ) → AreUses before ids es → l ≡ uses id 0 before ++ length before ∷ []
-    → ((x : List ℕ) → used x ds ≡ cond (bytes_eq x id) l (used x es)) → AreUses before (ids ++ id ∷ []) ds
-uses-with before ids id es ds l h e f x = f x ∙ go (bytes_eq x id) refl (is_one_of x ids) (h x) ∙ ap (λ b. uses x 0 before ++ cond b (length before ∷ []) []) (sym (one-more-of x ids id))
+-- a list with one more index for an id: the lists are right with this id as one more
+pub uses-with : (before : List Step) (ids : List (List ℕ)) (id : List ℕ) (u v : List ℕ → List ℕ) (l : List ℕ) → AreUses before ids u → l ≡ uses id 0 before ++ length before ∷ []
+    → ((x : List ℕ) → v x ≡ cond (bytes_eq x id) l (u x)) → AreUses before (ids ++ id ∷ []) v
+uses-with before ids id u v l h e f x = f x ∙ go (bytes_eq x id) refl (is_one_of x ids) (h x) ∙ ap (λ b. uses x 0 before ++ cond b (length before ∷ []) []) (sym (one-more-of x ids id))
   where
-    go : (b : Bool) → bytes_eq x id ≡ b → (c : Bool) → used x es ≡ uses x 0 before ++ cond c (length before ∷ []) [] → cond b l (used x es) ≡ uses x 0 before ++ cond (c || b) (length before ∷ []) []
+    go : (b : Bool) → bytes_eq x id ≡ b → (c : Bool) → u x ≡ uses x 0 before ++ cond c (length before ∷ []) [] → cond b l (u x) ≡ uses x 0 before ++ cond (c || b) (length before ∷ []) []
     go true s true g = e ∙ ap (λ y. uses y 0 before ++ length before ∷ []) (sym ((bytes_eq-Decides x id).0 s))
     go true s false g = e ∙ ap (λ y. uses y 0 before ++ length before ∷ []) (sym ((bytes_eq-Decides x id).0 s))
     go false s true g = g
     go false s false g = g
 
--- an index is added to what is filed under an id
-pub added : (before : List Step) (ids : List (List ℕ)) (id : List ℕ) (index : ℕ) (es ds : List Use) (old new : List ℕ) → length before ≡ index → AreUses before ids es → old ≡ used id es
+-- an index is added to the list of an id
+pub added : (before : List Step) (ids : List (List ℕ)) (id : List ℕ) (index : ℕ) (u v : List ℕ → List ℕ) (old new : List ℕ) → length before ≡ index → AreUses before ids u → old ≡ u id
     → ((l : List ℕ) → old ≡ l ++ index ∷ [] → new ≡ old) → (((l : List ℕ) → old ≡ l ++ index ∷ [] → ⊥) → new ≡ old ++ index ∷ [])
-    → ((x : List ℕ) → used x ds ≡ cond (bytes_eq x id) new (used x es)) → AreUses before (ids ++ id ∷ []) ds
-added before ids id index es ds old new place h o there more f = uses-with before ids id es ds new h (go (is_one_of id ids) (o ∙ h id)) f
+    → ((x : List ℕ) → v x ≡ cond (bytes_eq x id) new (u x)) → AreUses before (ids ++ id ∷ []) v
+added before ids id index u v old new place h o there more f = uses-with before ids id u v new h (go (is_one_of id ids) (o ∙ h id)) f
   where
     mine : uses id 0 before ++ index ∷ [] ≡ uses id 0 before ++ length before ∷ []
     mine = ap (λ n. uses id 0 before ++ n ∷ []) (sym place)
@@ -134,17 +130,9 @@ added before ids id index es ds old new place h o there more f = uses-with befor
     go true e = let at_end : old ≡ uses id 0 before ++ index ∷ [] = e ∙ sym mine in there (uses id 0 before) at_end ∙ e
     go false e = let plain : old ≡ uses id 0 before = e ∙ append-nil (uses id 0 before) in more (λ l i. below l i plain) ∙ ap (λ u. u ++ index ∷ []) plain ∙ mine
 
--- what is found is what is filed
-pub found-used : (id : List ℕ) (es : List Use) (o : Option (Vec ℕ Global)) → o ≡ lookup (λ k. is_eq (order id k)) es → items_of o ≡ used id es
-found-used id es o e = ap items_of (e ∙ same es)
-  where
-    same : (es : List Use) → lookup (λ k. is_eq (order id k)) es ≡ lookup (bytes_eq id) es
-    same [] = refl
-    same (d ∷ ds) = ap (λ b. cond b (Some d.1) (lookup (λ k. is_eq (order id k)) ds)) (is_eq-slice_cmp id d.0) ∙ ap (λ o. cond (bytes_eq id d.0) (Some d.1) o) (same ds)
-
 -- what follows a step that names these ids
-pub uses-whole : (before : List Step) (s : Step) (es : List Use) → AreUses before (names s) es → AreUses (before ++ s ∷ []) [] es
-uses-whole before s es h x = h x ∙ ap (λ n. uses x 0 before ++ cond (names_id x s) (n ∷ []) []) plain ∙ sym (uses-more x 0 before s) ∙ sym (append-nil (uses x 0 (before ++ s ∷ [])))
+pub uses-whole : (before : List Step) (s : Step) (u : List ℕ → List ℕ) → AreUses before (names s) u → AreUses (before ++ s ∷ []) [] u
+uses-whole before s u h x = h x ∙ ap (λ n. uses x 0 before ++ cond (names_id x s) (n ∷ []) []) plain ∙ sym (uses-more x 0 before s) ∙ sym (append-nil (uses x 0 (before ++ s ∷ [])))
   where
     plain : length before ≡ 0 + length before
     plain = omega arith
@@ -207,18 +195,19 @@ counted-put u key n es = ap (λ o. unwrap_or o 0) (found-put (λ k. same_ids (na
     go true = refl
     go false = refl
 
+-- one more thing in a count
+pub count-more : {A : Type 0} (q : A → Bool) (xs : List A) (x : A) (b : Bool) → q x ≡ b → count_by q (xs ++ x ∷ []) ≡ count_by q xs + cond b 1 0
+count-more q xs x b f = omega (arith, sum_by-append (λ y. cond (q y) 1 0) xs (x ∷ []), sum_by-cons (λ y. cond (q y) 1 0) x [], ap {B = ℕ} (λ c. cond c 1 0) f)
+
 -- one more step is counted
-pub counts-more : (before : List Step) (s : Step) (key : Vec (List ℕ) Global) (n : ℕ) (es : List Count) → AreCounts before es → key.items ≡ names s → n ≡ suc (count_by (same_meeting s) before)
-    → AreCounts (before ++ s ∷ []) (insert_entry vec_order es key n)
-counts-more before s key n es h k e u =
+pub counts-more : (log before : List Step) (s : Step) (key : Vec (List ℕ) Global) (n : ℕ) (es : List Count) → AreCounts log before es → key.items ≡ names s → n ≡ suc (count_by (same_meeting s) before)
+    → AreCounts log (before ++ s ∷ []) (insert_entry vec_order es key n)
+counts-more log before s key n es h k e u w =
     counted-put u key n es ∙ ap (λ l. cond (same_ids (names u) l) n (counted u es)) k ∙ go (same_ids (names u) (names s)) refl
   where
-    more : (b : Bool) → same_meeting u s ≡ b → count_by (same_meeting u) (before ++ s ∷ []) ≡ count_by (same_meeting u) before + cond b 1 0
-    more b f = omega (arith, sum_by-append (λ t. cond (same_meeting u t) 1 0) before (s ∷ []), sum_by-cons (λ t. cond (same_meeting u t) 1 0) s [], ap {B = ℕ} (λ c. cond c 1 0) f)
-
     go : (b : Bool) → same_meeting u s ≡ b → cond b n (counted u es) ≡ count_by (same_meeting u) (before ++ s ∷ [])
-    go true f = omega (arith, e, ap (λ l. count_by (λ t. same_ids l (names t)) before) (same-ids-are (names u) (names s) f), more true f)
-    go false f = omega (arith, h u, more false f)
+    go true f = omega (arith, e, ap (λ l. count_by (λ t. same_ids l (names t)) before) (same-ids-are (names u) (names s) f), count-more (same_meeting u) before s true f)
+    go false f = omega (arith, h u w, count-more (same_meeting u) before s false f)
 
 -- repeats one by one
 pub repeats-more : (before ss : List Step) (s : Step) → repeats_after before (ss ++ s ∷ []) ≡ repeats_after before ss ++ count_by (same_meeting s) (before ++ ss) ∷ []

@@ -1,7 +1,7 @@
 -- What is found in a map once an entry was put in or a value was written.
 use Rattle.std.proofs.Common.{◌≡◌, Bool, true, false, cond, List, [], ◌∷◌, refl, sym, ◌∙◌, Some}
-use Rattle.std.specs.Prelude.{Option, IsSome}
-use Rattle.std.specs.Map.{lookup, set_value}
+use Rattle.std.specs.Prelude.{Option}
+use Rattle.std.specs.Map.{lookup}
 use Rattle.std.specs.Ordering.{match_ordering}
 use Rattle.std.specs.declared.cmp.Ordering.{Ordering}
 use Rattle.std.specs.declared.cmp.Ordering.TheVariants.{Less, Equal, Greater}
@@ -32,17 +32,4 @@ module _ {K X : Type 0} (t : K → Bool) where
       ] refl
     where
       differs : Greater ≡ Equal → ⊥
-      differs e = cc
-
-  -- and after a value was written, where one was found
-  pub found-set : (test : K → Bool) (b : Bool) (w : X) → ((q : K) → test q ≡ true → t q ≡ b) → ((q : K) → b ≡ true → t q ≡ true → test q ≡ true)
-      → (es : List (K × X)) → IsSome (lookup test es) → lookup t (set_value test es w) ≡ cond b (Some w) (lookup t es)
-  found-set test b w f g [] s = absurd (cc)
-  found-set test b w f g (e ∷ es) s =
-      elim (test e.0) as (λ c. test e.0 ≡ c → IsSome (cond c (Some e.1) (lookup test es)) → lookup t (cond c ((e.0, w) ∷ es) (e ∷ set_value test es w)) ≡ cond b (Some w) (cond (t e.0) (Some e.1) (lookup t es))) [
-        | true ↦ λ h _. nested b (t e.0) w e.1 (lookup t es) (sym (f e.0 h))
-        | false ↦ λ h i. apart b (t e.0) w e.1 (lookup t es) (lookup t (set_value test es w)) (λ a c. differs (sym (g e.0 a c) ∙ h)) (found-set test b w f g es i)
-      ] refl s
-    where
-      differs : true ≡ false → ⊥
       differs e = cc

@@ -1,5 +1,9 @@
 pub mod Filing
 pub mod Filed
+pub mod Numbering
+pub mod Lone
+pub mod Listed
+pub mod Drafting
 pub mod Placed
 pub mod Kept
 pub mod Computed

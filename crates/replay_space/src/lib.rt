@@ -1,13 +1,15 @@
 //! What a worker of a replay reads of a log, and which step it may do now.
 #![tactic(auto)]
 
+mod draft;
 pub mod examples;
+mod index;
 pub mod laws;
+mod lists;
 mod repeats;
 pub mod rig;
 pub mod seen;
 pub mod turn;
-mod uses;
 
 pub use rig::Rig;
 pub use seen::Seen;

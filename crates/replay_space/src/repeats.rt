@@ -4,7 +4,7 @@ ghost use Rattle.calculus.specs.Log.{Step};
 ghost use Rattle.calculus.specs.Steps.{same_meeting};
 ghost use Rattle.event_log.specs.View.{step_of};
 ghost use Rattle.racing_replays.specs.Replaying.{names};
-ghost use Rattle.replay_space.specs.Rigs.{AreCounts};
+ghost use Rattle.replay_space.specs.Rigs.{AreCounts, IsLone};
 
 use event_log::LogStep;
 use std::alloc::{AllocError, Global};
@@ -25,14 +25,15 @@ fn step_key(alloc: Global, step: &LogStep) -> Result<Vec<[u8; 32]>, AllocError>
     Ok(key)
 }
 
-/// How many equal steps there were, and from now on one more. Want of memory is the one error.
+/// How many equal steps there were, and from now on one more, for a step none of whose ids has one use alone in the log. Want
+/// of memory is the one error.
 pub(crate) fn count_step(
     alloc: Global,
     counts: &mut Counts,
     step: &LogStep,
 ) -> Result<u32, AllocError>
-    ensures { (before : List Step) → length before < 2 ^ 32 - 1 → AreCounts before counts.old.entries
-        → IfOk result (λ n. (n ≡ count_by (same_meeting (step_of step.now)) before) × AreCounts (before ++ step_of step.now ∷ []) counts.new.entries) }
+    ensures { (log before : List Step) → length before < 2 ^ 32 - 1 → (IsLone log (step_of step.now) → ⊥) → AreCounts log before counts.old.entries
+        → IfOk result (λ n. (n ≡ count_by (same_meeting (step_of step.now)) before) × AreCounts log (before ++ step_of step.now ∷ []) counts.new.entries) }
 {
     let key = step_key(alloc, step)?;
     let count = match counts.get(key.as_slice()) {

@@ -22,6 +22,7 @@ use Rattle.replay_scene.specs.Spaces.{SeenRow, IndexTry, IsIn, bare}
 use Rattle.replay_scene.specs.Entries.{indices}
 use Rattle.replay_scene.specs.Showing.{later_use, Fit}
 use Rattle.replay_hub.specs.declared.deed.Try.{Try}
+use Rattle.replay_hub.specs.Values.{line_items}
 use Rattle.replay_worker.specs.declared.tables.Doing.{Doing}
 use Rattle.replay_worker.specs.Looking.{IsDoing}
 use Rattle.replay_shards.specs.declared.ready.Ready.{Ready}
@@ -54,7 +55,7 @@ module _ (deploy : Deploy) (ss : List Step) (h : InHand) (touched : ℕ → Bool
       (subst (λ (vs : List Tree). capped deploy.limit (unfolded vs y.found.meeting.receiver.body) ≡ Some m.work) y.found.bound
       (subst (λ (b : Tree). capped deploy.limit (unfolded r.found.bound.items b) ≡ Some m.work) y.found.body m.said.1))
 
-  its-line : d.made.line.items ≡ printed_by (bare rows) y.found.meeting
+  its-line : line_items d.made.line ≡ printed_by (bare rows) y.found.meeting
   its-line =
       m.line ∙ ap (λ (x : List ℕ). cond (bytes_eq x stdout.id || bytes_eq x stdout_ack.id) (line (at 0 r.found.bound.items)) []) y.found.cont
       ∙ ap (λ (vs : List Tree). cond (has_built_in_id y.receiver.row) (line (at 0 vs)) []) y.found.bound

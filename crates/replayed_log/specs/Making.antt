@@ -11,7 +11,7 @@ use Rattle.event_log.specs.declared.log.LogStep.{LogStep}
 use Rattle.replay_scene.specs.Spaces.{IndexTry}
 use Rattle.replay_hub.specs.declared.deed.Did.TheVariants.{Done}
 use Rattle.replay_hub.specs.declared.deed.Try.{Try}
-use Rattle.replay_hub.specs.Values.{offers_of}
+use Rattle.replay_hub.specs.Values.{line_items, offers_of}
 use Rattle.replay_worker.specs.declared.tables.Doing.{Doing}
 use Rattle.replay_shards.specs.declared.ready.Ready.{Ready}
 use Rattle.replay_shards.specs.Ready.{index_tries}
@@ -39,6 +39,6 @@ pub record IsMade (p : Prices) (cap : ℕ) (u : LogStep) (t : Try Tree) (r : Rea
   pub next : seen_tries d.made.next.value.items ≡ index_tries r.next.items
   pub price : d.made.price ≡ p.comm + work_price cap work
   pub fault : d.made.fault ≡ work_fault work
-  pub line : d.made.line.items ≡ printed_line r.found
+  pub line : line_items d.made.line ≡ printed_line r.found
   pub tasks : d.tasks.items ≡ offers_of (Done d.made)
   pub few : length d.tasks.items < 2 ^ 57

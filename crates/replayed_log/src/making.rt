@@ -1,8 +1,9 @@
 // A step of the log, ready to be drawn.
-ghost use Rattle.std.specs.Prelude.{◌≤◌, length, All, IfOk};
+ghost use Rattle.std.specs.Prelude.{◌≡◌, ◌≤◌, length, All, IfOk};
 ghost use Rattle.calculus.specs.Form.{IsClosed};
 ghost use Rattle.calculus.specs.Limits.{most_limit};
 ghost use Rattle.calculus.specs.Substitution.{put};
+ghost use Rattle.replay_hub.specs.Values.{line_items};
 ghost use Rattle.replayed_log.specs.Making.{IsMade};
 
 use crate::tries::{arrivals, hub_tries, with_tries};
@@ -17,6 +18,17 @@ use space_row::Row;
 use std::alloc::{AllocError, Global};
 use std::snapshot::Snapshot;
 use step_work::{line_of, work_body};
+
+// A line in a box; None where it is empty. Want of memory is the one error.
+fn kept_line(alloc: Global, line: Vec<u8>) -> Result<Option<Box<Vec<u8>>>, AllocError>
+    ensures { IfOk result (λ o. line_items o ≡ line.items) }
+{
+    if line.is_empty() {
+        return Ok(None);
+    }
+    let line = Box::new(alloc, line)?;
+    Ok(Some(line))
+}
 
 /// The step that a try names, done with what was found. Want of memory is the one error.
 pub(crate) fn make_step(
@@ -44,7 +56,7 @@ pub(crate) fn make_step(
         prices,
         limit,
     )?;
-    let line = line_of(alloc, &found)?;
+    let line = kept_line(alloc, line_of(alloc, &found)?)?;
     let next = hub_tries(alloc, next)?;
     let made = Made {
         step: tried.step,

@@ -25,7 +25,7 @@ use Rattle.grammar.specs.Values.{Spelt, spelt}
 use Rattle.token_cursor.specs.Levels.{inner_of, level_or_prefix, operand_of, sort_of, tail_of}
 use Rattle.token_cursor.specs.declared.level.Level.{Level}
 use Rattle.token_cursor.specs.declared.level.Level.TheVariants as levels
-use Rattle.token_cursor.specs.declared.part.Part.{Part}
+use Rattle.syntax_forms.specs.declared.part.Part.{Part}
 use Rattle.token_cursor.specs.Meaning.{view}
 use Rattle.token_cursor.specs.Reading.{Makes, Turns, sees_bind, sees_member, pairs_written, pat_pairs_written}
 use Rattle.token_cursor.proofs.Steps.{comma, ends, faulty, rows}

@@ -25,7 +25,7 @@ use Rattle.grammar.specs.Values.{Side, Spelt, leaf, operation, processes}
 use Rattle.token_cursor.specs.Levels.{GoesOn, operand_of, tail_of}
 use Rattle.token_cursor.specs.Reading.{of_name, pairs_written}
 use Rattle.token_cursor.specs.declared.level.Level.{Level}
-use Rattle.token_cursor.specs.declared.part.Part.{Part}
+use Rattle.syntax_forms.specs.declared.part.Part.{Part}
 use Rattle.rho_parser.proofs.Cycle.{as_rule, tails}
 use Rattle.token_cursor.proofs.Steps.{rows}
 

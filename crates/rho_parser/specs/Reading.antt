@@ -14,7 +14,7 @@ use Rattle.grammar.specs.Productions.{Prod}
 use Rattle.grammar.specs.Rules.{Separator, Sort, last}
 use Rattle.grammar.specs.Terminals.{Terminal}
 use Rattle.grammar.specs.Values.{Spelt, spelt}
-use Rattle.token_cursor.specs.declared.part.Part.{Part}
+use Rattle.syntax_forms.specs.declared.part.Part.{Part}
 use Rattle.token_cursor.specs.Reading.{Turns}
 
 -- one more bind is read, however many may still follow it

@@ -2,8 +2,8 @@
 use Rattle.std.proofs.Common.{◌≡◌, ℕ, ◌<◌, ◌^◌, List, [], ◌++◌, length, refl, ◌∙◌, append-nil}
 use Rattle.std.specs.Prelude.{Err, Result}
 use Rattle.calculus.specs.Rows.{Row, row_code}
-use Rattle.term_code.specs.declared.fault.ReadFault.{ReadFault}
-use Rattle.term_code.specs.declared.fault.ReadFault.TheVariants as fault
+use Rattle.code_faults.specs.declared.fault.ReadFault.{ReadFault}
+use Rattle.code_faults.specs.declared.fault.ReadFault.TheVariants as fault
 use Rattle.row_reader.specs.declared.front.RowFault.{RowFault}
 use Rattle.row_reader.specs.declared.front.RowFault.TheVariants as found
 use Rattle.row_reader.specs.RowCodes.{fault_of, IsRow, RefusesRows, WhereCut}

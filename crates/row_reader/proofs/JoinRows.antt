@@ -14,18 +14,18 @@ use Rattle.calculus.specs.Size.{height}
 use Rattle.calculus.specs.Tree.{par, row, bind, rest, receive, Tree, node, none, also, trees}
 use Rattle.calculus.specs.Variables.{bound, bound_all}
 use Rattle.calculus.proofs.Prefixes.{Splits-length}
-use Rattle.term_code.specs.declared.fault.ReadFault.{ReadFault}
-use Rattle.term_code.specs.Beginning.{Begun, BegunDigest, Cuts}
-use Rattle.term_code.specs.Reading.{Reads}
-use Rattle.term_code.specs.Refusing.{Denies, HasRoom, IsRight, Refuses, RefusesByte}
+use Rattle.code_faults.specs.declared.fault.ReadFault.{ReadFault}
+use Rattle.code_faults.specs.Beginning.{Begun, BegunDigest, Cuts}
+use Rattle.code_faults.specs.Reading.{Reads}
+use Rattle.code_faults.specs.Refusing.{Denies, HasRoom, IsRight, Refuses, RefusesByte}
 use Rattle.row_reader.specs.RowCodes.{BegunJoin, channel_codes, IsCutRow, IsRow, ReadsRow, RefusesJoin, RefusesRows}
-use Rattle.term_code.proofs.Begins.{byte-cut, first-cut, next-cut, none-cut, read-cut}
-use Rattle.term_code.proofs.BegunForms.{count-held}
-use Rattle.term_code.proofs.CaseRefusals.{bound-room, same-scope}
-use Rattle.term_code.proofs.Denying.{byte-next, first-denied, less-left, next-denied, read-next, refused}
-use Rattle.term_code.proofs.Exits.{after-byte, kind-le}
-use Rattle.term_code.proofs.Forms.{listed-trees, no_variables}
-use Rattle.term_code.proofs.Kids.{count-listed, row-are}
+use Rattle.code_faults.proofs.Begins.{byte-cut, first-cut, next-cut, none-cut, read-cut}
+use Rattle.code_faults.proofs.BegunForms.{count-held}
+use Rattle.code_faults.proofs.CaseRefusals.{bound-room, same-scope}
+use Rattle.code_faults.proofs.Denying.{byte-next, first-denied, less-left, next-denied, read-next, refused}
+use Rattle.code_faults.proofs.Exits.{after-byte, kind-le}
+use Rattle.code_faults.proofs.Forms.{listed-trees, no_variables}
+use Rattle.code_faults.proofs.Kids.{count-listed, row-are}
 use Rattle.row_reader.proofs.SentRows.{cut-row, receives-refused}
 
 -- the row of a receive

@@ -18,18 +18,18 @@ use Rattle.calculus.proofs.Splitting.{kids-short, length-codes}
 use Rattle.term_encoder.proofs.Codes.{length-map}
 use Rattle.rho_term.specs.Parts.{bind_tree}
 use Rattle.rho_term.specs.declared.term.TermBind.{TermBind}
-use Rattle.term_code.specs.declared.fault.ReadFault.{ReadFault}
-use Rattle.term_code.specs.declared.fault.ReadFault.TheVariants as fault
-use Rattle.term_code.specs.Beginning.{Begun, BegunNumber, BegunRow, Cuts, Follows, Goes, HasPlace, IsAt}
-use Rattle.term_code.specs.Reading.{Reads}
-use Rattle.term_code.specs.Refusing.{AreRight, Denies, HasRoom, IsRight, Refuses, RefusesNumber}
+use Rattle.code_faults.specs.declared.fault.ReadFault.{ReadFault}
+use Rattle.code_faults.specs.declared.fault.ReadFault.TheVariants as fault
+use Rattle.code_faults.specs.Beginning.{Begun, BegunNumber, BegunRow, Cuts, Follows, Goes, HasPlace, IsAt}
+use Rattle.code_faults.specs.Reading.{Reads}
+use Rattle.code_faults.specs.Refusing.{AreRight, Denies, HasRoom, IsRight, Refuses, RefusesNumber}
 use Rattle.row_reader.specs.RowCodes.{BegunJoin, channel_codes, RefusesJoin, WhereCut}
-use Rattle.term_code.proofs.Begins.{first-cut, read-cut, none-cut, Good, good-append, good-fill, good-more, some-bind}
-use Rattle.term_code.proofs.BegunRows.{below, count-list, length-fill, row-cut}
-use Rattle.term_code.proofs.Denying.{first-denied, less-left, number-next, read-next}
-use Rattle.term_code.proofs.Going.{each-code, go}
-use Rattle.term_code.proofs.Kids.{count-right, first-right, no_false, rest-right, three}
-use Rattle.term_code.proofs.Rows.{ascending-more, last-more, last_of, Row}
+use Rattle.code_faults.proofs.Begins.{first-cut, read-cut, none-cut, Good, good-append, good-fill, good-more, some-bind}
+use Rattle.code_faults.proofs.BegunRows.{below, count-list, length-fill, row-cut}
+use Rattle.code_faults.proofs.Denying.{first-denied, less-left, number-next, read-next}
+use Rattle.code_faults.proofs.Going.{each-code, go}
+use Rattle.code_faults.proofs.Kids.{count-right, first-right, no_false, rest-right, three}
+use Rattle.code_faults.proofs.Rows.{ascending-more, last-more, last_of, Row}
 
 up_to-same : (c : List ℕ) → up_to c c ≡ true
 up_to-same c = ⊎_elim (λ t. t) (λ f. up_to_total c c f) (cases_Bool (up_to c c))

@@ -13,20 +13,20 @@ use Rattle.calculus.specs.Storing.{is_active}
 use Rattle.calculus.specs.Tree.{par, row, send, receive, Tree, node, none, also}
 use Rattle.calculus.specs.Variables.{Sense, bound, bound_all}
 use Rattle.calculus.proofs.Prefixes.{Splits-length}
-use Rattle.term_code.specs.declared.fault.ReadFault.{ReadFault}
-use Rattle.term_code.specs.declared.fault.ReadFault.TheVariants as fault
-use Rattle.term_code.specs.Beginning.{Begun, BegunDigest, BegunRow, Cuts}
-use Rattle.term_code.specs.Reading.{Reads}
-use Rattle.term_code.specs.Refusing.{Denies, HasRoom, IsRight, Refuses, RefusesByte, RefusesRow}
+use Rattle.code_faults.specs.declared.fault.ReadFault.{ReadFault}
+use Rattle.code_faults.specs.declared.fault.ReadFault.TheVariants as fault
+use Rattle.code_faults.specs.Beginning.{Begun, BegunDigest, BegunRow, Cuts}
+use Rattle.code_faults.specs.Reading.{Reads}
+use Rattle.code_faults.specs.Refusing.{Denies, HasRoom, IsRight, Refuses, RefusesByte, RefusesRow}
 use Rattle.row_reader.specs.RowCodes.{BegunJoin, IsCutRow, IsRow, ReadsRow, RefusesJoin, RefusesRows}
-use Rattle.term_code.specs.Scopes.{scope_of, senses_of}
-use Rattle.term_code.specs.declared.reader.Sense.{Sense as Read}
-use Rattle.term_code.proofs.Begins.{byte-cut, first-cut, next-cut, none-cut, read-cut}
-use Rattle.term_code.proofs.BegunLeaves.{filled, length-filled}
-use Rattle.term_code.proofs.Denying.{byte-denied, byte-next, first-denied, left-less, less-left, next-denied, read-next, refused, tag-next}
-use Rattle.term_code.proofs.Exits.{after-byte, byte-le}
-use Rattle.term_code.proofs.Forms.{no_variables}
-use Rattle.term_code.proofs.Kids.{held-few, no_false, row-refused}
+use Rattle.code_faults.specs.Scopes.{scope_of, senses_of}
+use Rattle.code_faults.specs.declared.sort.Sense.{Sense as Read}
+use Rattle.code_faults.proofs.Begins.{byte-cut, first-cut, next-cut, none-cut, read-cut}
+use Rattle.code_faults.proofs.BegunLeaves.{filled, length-filled}
+use Rattle.code_faults.proofs.Denying.{byte-denied, byte-next, first-denied, left-less, less-left, next-denied, read-next, refused, tag-next}
+use Rattle.code_faults.proofs.Exits.{after-byte, byte-le}
+use Rattle.code_faults.proofs.Forms.{no_variables}
+use Rattle.code_faults.proofs.Kids.{held-few, no_false, row-refused}
 
 -- the row of a send
 abbrev pub sent : List ℕ → Bool → Tree → Tree → Row

@@ -11,10 +11,10 @@ use Rattle.calculus.specs.Storing.{is_active}
 use Rattle.calculus.specs.Tree.{Trees}
 use Rattle.row_reader.specs.declared.front.RowFault.{RowFault}
 use Rattle.row_reader.specs.declared.front.RowFault.TheVariants as found
-use Rattle.term_code.specs.declared.fault.ReadFault.{ReadFault}
-use Rattle.term_code.specs.declared.fault.ReadFault.TheVariants as fault
-use Rattle.term_code.specs.Beginning.{Cuts}
-use Rattle.term_code.specs.Refusing.{AreRight, Denies, HasRoom}
+use Rattle.code_faults.specs.declared.fault.ReadFault.{ReadFault}
+use Rattle.code_faults.specs.declared.fault.ReadFault.TheVariants as fault
+use Rattle.code_faults.specs.Beginning.{Cuts}
+use Rattle.code_faults.specs.Refusing.{AreRight, Denies, HasRoom}
 
 -- a row within the limit of height, whatever the length of its code: a closed send or receive under an id of 32 bytes, whose channels ascend in their codes, where two may be equal
 pub record IsRow (r : Row) : Type 0 where

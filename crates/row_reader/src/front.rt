@@ -9,14 +9,14 @@ ghost use Rattle.calculus.specs.Tree.{row};
 ghost use Rattle.calculus.specs.Variables.{bound};
 ghost use Rattle.rho_term.specs.Parts.{bind_tree};
 ghost use Rattle.rho_term.specs.Rows.{row_of_op};
-ghost use Rattle.term_code.specs.Reading.{Reads};
+ghost use Rattle.code_faults.specs.Reading.{Reads};
 ghost use Rattle.row_reader.specs.RowCodes.{BegunJoin, fault_of, IsCutRow, IsRow, ReadsRow, RefusesJoin, RefusesRows, WhereCut};
-ghost use Rattle.term_code.specs.Scopes.{scope_of, senses_of};
+ghost use Rattle.code_faults.specs.Scopes.{scope_of, senses_of};
 ghost use Rattle.row_reader.specs.declared.front.RowFault.TheVariants.{Cut, Wrong};
 
 use rho_term::{Op, TermBind};
 use std::alloc::Global;
-use term_code::{ReadFault, Reader, Sense, check_order};
+use term_code::{ReadFault, Reader, Sense, check_order, read_name_pats, read_term, read_terms};
 
 /// The height that is left for what stands in a row.
 const ROOM: u32 = 399;
@@ -87,9 +87,9 @@ fn send_row(reader: &mut Reader<'_>) -> Result<Op, ReadFault>
 {
     let scope = Vec::new(reader.alloc);
     let id = reader.digest()?;
-    let channel = reader.term(&scope, ROOM)?;
+    let channel = read_term(reader, &scope, ROOM)?;
     let persistent = reader.boolean()?;
-    let args = reader.terms(0, &scope, ROOM)?;
+    let args = read_terms(reader, 0, &scope, ROOM)?;
     Ok(Op::Produce {
         id,
         channel,
@@ -109,7 +109,7 @@ fn receive_row(reader: &mut Reader<'_>) -> Result<Op, ReadFault>
     let id = reader.digest()?;
     let kind = reader.kind()?;
     let binds = join(reader, &scope, &mut found, ROOM)?;
-    let body = reader.term(&found, ROOM)?;
+    let body = read_term(reader, &found, ROOM)?;
     Ok(Op::Consume {
         id,
         kind,
@@ -139,9 +139,9 @@ fn join<'a>(
     for _i in 0..count {
         let start = reader.input;
         check_order(last, start)?;
-        let channel = reader.term(scope, room)?;
+        let channel = read_term(reader, scope, room)?;
         last = reader.read_since(start, last)?;
-        let pats = reader.name_pats(scope, found, room)?;
+        let pats = read_name_pats(reader, scope, found, room)?;
         let rest = reader.bound_remainder(true, found)?;
         binds.push(TermBind {
             pats,

@@ -12,4 +12,4 @@ pub mod laws;
 pub mod rows;
 
 pub use found::{Found, first_step};
-pub use rows::{RowsAtHand, Table};
+pub use rows::RowsAtHand;

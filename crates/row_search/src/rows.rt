@@ -1,10 +1,8 @@
 // Where the rows at hand stand.
-ghost use Rattle.std.specs.Prelude.{◌≡◌, List, [], ◌∷◌, true, map, IfOk, IsPermutation};
+ghost use Rattle.std.specs.Prelude.{◌≡◌, List, map, IfOk};
 ghost use Rattle.std.specs.Option.{option_copied};
 ghost use Rattle.calculus.specs.Form.{term};
 ghost use Rattle.calculus.specs.Rows.{Row};
-ghost use Rattle.calculus.specs.Steps.{differ};
-ghost use Rattle.events.specs.Found.{without};
 ghost use Rattle.spatial_match.specs.Given.{Ready};
 ghost use Rattle.row_search.specs.Rows.{row_with, HasReceivers, HasSends};
 
@@ -33,23 +31,4 @@ pub trait RowsAtHand {
     fn receivers_on(&self, alloc: Global, channel: &Term) -> Result<&[Digest], AllocError>
         requires { Ready term channel.now }
         ensures { IfOk result (λ ids. HasReceivers (rows self.now) channel.now (map (λ d. d.0) ids.now)) };
-}
-
-/// What a table of rows does beside showing them.
-pub trait Table: RowsAtHand + Drop {
-    /// The table of no rows.
-    fn new(alloc: Global) -> Self
-        ensures { Self.rows result ≡ [] };
-
-    /// Adds a row, where no two rows have one id then. Want of memory is the one error.
-    fn put(&mut self, alloc: Global, row: Row) -> Result<(), AllocError>
-        ensures { IfOk result (λ _. differ (map (λ r. r.id) (row ∷ Self.rows self.old)) ≡ true → IsPermutation (Self.rows self.new) (row ∷ Self.rows self.old)) };
-
-    /// Takes out the rows with these ids, where no two rows have one id.
-    fn take_out(&mut self, ids: &[Digest])
-        ensures { differ (map (λ r. r.id) (Self.rows self.old)) ≡ true → IsPermutation (Self.rows self.new) (without (map (λ d. d.0) ids.now) (Self.rows self.old)) };
-
-    /// All rows, in some order. Want of memory is the one error.
-    fn into_rows(self, alloc: Global) -> Result<Vec<Row>, AllocError>
-        ensures { IfOk result (λ v. IsPermutation v.items (Self.rows self)) };
 }

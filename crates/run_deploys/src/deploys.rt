@@ -136,11 +136,11 @@ fn write_plan<S: Shelf, O: Sink>(
 }
 
 /// How many workers run: as many as the words name, which is 1 to 32 in each command that was read, and else the nearest of these.
-pub fn worker_count(run: &Run) -> u32
+pub fn worker_count(named: u32) -> u32
     ensures range { (1 ≤ result) × (result ≤ 32) }
-    ensures named { 1 ≤ run.now.workers → run.now.workers ≤ 32 → result ≡ run.now.workers }
+    ensures named { 1 ≤ named → named ≤ 32 → result ≡ named }
 {
-    run.workers.max(1).min(32)
+    named.max(1).min(32)
 }
 
 /// Runs a source, as `deploy_accepted` does.
@@ -161,7 +161,7 @@ fn deploy_run<R: Threads + Wait + Sync, S: Shelf, O: Sink, G: Gate + Sync>(
     ensures verdict { OnVerdict result (Leaves result (run_of run.now) limit (S.files shelf.old) (S.files shelf.new) (O.written out.old) (O.written out.new)) }
     ensures part { OnHalt result (LeavesInPart (run_of run.now) limit (S.files shelf.old) (S.files shelf.new) (S.keep_faults shelf.old) (S.keep_faults shelf.new) (O.written out.old) (O.written out.new)) }
 {
-    let plan = match make_plan(rt, alloc, gate, worker_count(run), inputs, limit) {
+    let plan = match make_plan(rt, alloc, gate, worker_count(run.workers), inputs, limit) {
         Ok(plan) => plan,
         Err(_) => return Status::NoMemory,
     };

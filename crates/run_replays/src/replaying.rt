@@ -159,7 +159,7 @@ fn replay_run<R: Threads + Wait + Sync, S: Shelf, O: Sink, G: Gate + Sync>(
     ensures verdict { OnVerdict result (ReplayLeaves result (run_of run.now) (S.files shelf.old) (S.files shelf.new) (O.written out.old) (O.written out.new)) }
     ensures part { OnHalt result (ReplayLeavesInPart (run_of run.now) (S.files shelf.old) (S.files shelf.new) (S.keep_faults shelf.old) (S.keep_faults shelf.new) (O.written out.old) (O.written out.new)) }
 {
-    let plan = match make_replay_plan(rt, alloc, gate, worker_count(run), inputs) {
+    let plan = match make_replay_plan(rt, alloc, gate, worker_count(run.workers), inputs) {
         Ok(plan) => plan,
         Err(status) => return status,
     };

@@ -11,6 +11,7 @@ ghost use Rattle.run_workloads.specs.Workloads.{IsWorkload, WorkloadEnds};
 use crate::plans::{Work, make_work};
 use command_words::Workload;
 use rho_outside::{Gate, Shelf, Sink};
+use run_deploys::worker_count;
 use run_reports::{Halt, keep_and_put};
 use run_status::{Status, status_of};
 use std::alloc::Global;
@@ -32,13 +33,6 @@ pub fn workload<R: Threads + Wait + Sync, S: Shelf, O: Sink, G: Gate + Sync>(
         (world (S.files shelf.new) (S.fetch_faults shelf.new) (S.keep_faults shelf.new) (O.written out.new) (O.faults out.new)) result }
 {
     run_made(rt, alloc, asked, shelf, out, gate)
-}
-
-/// How many workers run: as many as the words name, which is 1 to 32 in each command that was read, and else the nearest of these.
-fn worker_count(asked: &Workload) -> u32
-    ensures { (1 ≤ result) × (result ≤ 32) }
-{
-    asked.workers.max(1).min(32)
 }
 
 /// Keeps the log, and then puts the report.
@@ -80,7 +74,7 @@ fn run_made<R: Threads + Wait + Sync, S: Shelf, O: Sink, G: Gate + Sync>(
         (world (S.files shelf.old) (S.fetch_faults shelf.old) (S.keep_faults shelf.old) (O.written out.old) (O.faults out.old))
         (world (S.files shelf.new) (S.fetch_faults shelf.new) (S.keep_faults shelf.new) (O.written out.new) (O.faults out.new))) }
 {
-    let work = match make_work(rt, alloc, gate, worker_count(asked), asked.steps) {
+    let work = match make_work(rt, alloc, gate, worker_count(asked.workers), asked.steps) {
         Ok(work) => work,
         Err(status) => return status,
     };

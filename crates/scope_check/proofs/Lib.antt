@@ -1,5 +1,4 @@
-pub mod Scopes
-pub mod Insides
+pub use Rattle.open_processes.proofs.Meanings
 pub mod Narrow
-pub mod Meanings
+pub mod Refusals
 pub mod Walking

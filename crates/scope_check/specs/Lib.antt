@@ -1,5 +1,3 @@
-pub mod Senses
-pub mod Bound
-pub mod Pairs
+pub use Rattle.open_processes.specs.Pairs
 pub mod Faults
 pub mod Walks

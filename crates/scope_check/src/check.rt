@@ -6,16 +6,17 @@ ghost use Rattle.calculus.specs.Written.{writtens, closed as closed_form, form_o
 ghost use Rattle.calculus.specs.Meaning.{proc_written, name_written, pat_written, name_pat_written, bind_written, case_written, rest_written};
 ghost use Rattle.scope.specs.Binding.{variables, all_variables, inside, sense_of};
 ghost use Rattle.scope.specs.Rules.{outside, after, breaks, all_breaks, process_use, name_use, new_variable as variable_breaks};
-ghost use Rattle.scope_check.specs.Senses.{sense};
-ghost use Rattle.scope_check.specs.Pairs.{proc_pair, pat_pair};
+ghost use Rattle.scope_variables.specs.Senses.{sense};
+ghost use Rattle.open_processes.specs.Pairs.{proc_pair, pat_pair};
 ghost use Rattle.scope_check.specs.Walks.{Judges};
 
 use crate::declared::declarations;
 use crate::fault::ScopeFault;
-use crate::open::uses_more;
-use crate::variables::{Role, Variables};
-use crate::wide::{is_wide, members_fit};
+use crate::members::members_fit;
 use calculus::{Bind, Case, Name, NamePat, Pat, Proc, Rest};
+use open_processes::uses_more;
+use pattern_width::is_wide;
+use scope_variables::{Role, Variables};
 use std::alloc::Global;
 
 /// The first rule that a process in this scope breaks. Where it breaks none, the scope is as before.

@@ -8,8 +8,8 @@ ghost use Rattle.scope.specs.Rules.{declaration as declaration_breaks, declarati
 ghost use Rattle.scope_check.specs.Walks.{Judges};
 
 use crate::fault::ScopeFault;
-use crate::variables::{Role, Variables};
 use calculus::{Decl, Origin};
+use scope_variables::{Role, Variables};
 use std::alloc::Global;
 
 /// The declared names as variables, and what the `new` makes of each.

@@ -4,10 +4,8 @@
 mod check;
 mod declared;
 pub mod fault;
-mod open;
+mod members;
 pub mod scoped;
-mod variables;
-mod wide;
 
 pub use fault::ScopeFault;
 pub use scoped::check_scope;

@@ -4,8 +4,8 @@ ghost use Rattle.scope_check.specs.Walks.{Judges};
 
 use crate::check::check_process;
 use crate::fault::ScopeFault;
-use crate::variables::Variables;
 use calculus::Proc;
+use scope_variables::Variables;
 use std::alloc::Global;
 
 /// Tests the rules of scope. `Ok` comes where a process breaks none; a refusal names the first rule that

@@ -1,5 +1,5 @@
--- The causes for which bytes are no state exclude that they are one.
-use Rattle.std.proofs.Common.{◌≡◌, ℕ, zero, suc, ◌<◌, ◌≤◌, ◌+◌, ◌^◌, List, [], ◌∷◌, ◌++◌, length, map as each, get_or, refl, ap, sym, ◌∙◌, subst, arith, append_assoc, length-append}
+-- Rows at the front of bytes stop at one place.
+use Rattle.std.proofs.Common.{◌≡◌, ℕ, zero, suc, ◌<◌, ◌≤◌, ◌+◌, ◌^◌, List, [], ◌∷◌, ◌++◌, length, map as each, refl, ap, sym, ◌∙◌, subst, arith, append_assoc, append-nil, length-append}
 use Rattle.std.specs.Prelude.{All}
 use Rattle.std.proofs.lemmas.List.Elements.{All-push}
 use Rattle.sha2.proofs.Facts256.{length-sha256}
@@ -11,11 +11,11 @@ use Rattle.calculus.proofs.Prefixes.{cut, Splits-length}
 use Rattle.calculus.proofs.Tails.{length-be64, number-be64, number}
 use Rattle.states.specs.States.{state_text}
 use Rattle.term_encoder.proofs.Codes.{length-map}
-use Rattle.state_reader.specs.Files.{Begins, EndsEarly, in_header, in_row, heading, IsNoNextRow, no_row, misplaced, IsWrongAt, in_heading, past_end, HasOtherRoot}
+use Rattle.state_reader.specs.Files.{Begins, heading, IsNoNextRow, no_row, misplaced, IsNoFront}
 use Rattle.checkpoint.specs.Kept.{AreInOrder}
 use Rattle.checkpoint.proofs.Ordering.{text-of-order}
 use Rattle.state_reader.proofs.SameRows.{row-length}
-use Rattle.state_laws.proofs.Same.{all-behind, all-head, Next, next-row, none-left, order-front, order-moved, root-same, stored-part}
+use Rattle.state_laws.proofs.Same.{all-behind, all-head, Compared, compared, longer, shorter, equal, Next, order-front, order-moved, stored-part}
 
 digest-length : (n : ℕ) (gs : List Group) → length (digest_in n gs) ≡ 32
 digest-length n [] = refl
@@ -39,17 +39,6 @@ header-parts a b x y m n k l s t e =
     let r = cut (be64 m) (be64 n) x y (Splits-length (be64 m) (be64 n) (length-be64 m ∙ sym (length-be64 n))) q.1 in
     (q.0, sym (number-be64 m s) ∙ ap (number 0) r.0 ∙ number-be64 n t, r.1)
 
--- what is known of the text of rows, where other rows are laid out in it
-record Beside (rows : List Row) (stored : List ℕ) (told : ℕ) (firsts : List Row) (left : List ℕ) : Type 0 where
-  pub root_is : stored ≡ root rows
-  pub number_is : told ≡ length rows
-  pub rest_is : joined (each row_code rows) ≡ joined (each row_code firsts) ++ left
-
-beside : (bs stored left : List ℕ) (told : ℕ) (rows firsts : List Row) → bs ≡ state_text rows → AreInOrder rows → length rows < 2 ^ 64 → Begins bs stored told firsts left → Beside rows stored told firsts left
-beside bs stored left told rows firsts e h few b =
-    let p = header-parts stored (root rows) _ _ told (length rows) b.long (root-length rows) b.small few (sym b.is ∙ e ∙ text-parts rows h) in
-    record { root_is = p.0; number_is = p.1; rest_is = sym p.2 }
-
 text-length : (rows : List Row) → AreInOrder rows → length (state_text rows) ≡ 49 + length (joined (each row_code rows))
 text-length rows h = ap length (text-parts rows h) ∙ omega (arith, length-append heading (root rows ++ (be64 (length rows) ++ joined (each row_code rows))), length-append (root rows) (be64 (length rows) ++ joined (each row_code rows)), length-append (be64 (length rows)) (joined (each row_code rows)), root-length rows, length-be64 (length rows), nine)
   where
@@ -67,71 +56,93 @@ rows-few rows h = on rows h.storable
     on [] k = omega arith
     on (r ∷ rs) k = omega (arith, row-some r (all-head IsStorable r rs k), on rs (λ i d l. k (suc i) d (omega arith)), length-append (row_code r) (joined (each row_code rs)))
 
-get-front : (xs ys : List ℕ) (i : ℕ) → i < length xs → get_or (xs ++ ys) i 0 ≡ get_or xs i 0
-get-front [] ys i l = absurd (omega arith)
-get-front (x ∷ xs) ys zero l = refl
-get-front (x ∷ xs) ys (suc i) l = get-front xs ys i (omega arith)
-
 -- bytes that are left are no more than all
-left-short : (bs stored left : List ℕ) (told : ℕ) (firsts : List Row) → Begins bs stored told firsts left → length left ≤ length bs
-left-short bs stored left told firsts b =
+pub left-long : (bs stored left : List ℕ) (told : ℕ) (firsts : List Row) → Begins bs stored told firsts left → 49 + length left ≤ length bs
+left-long bs stored left told firsts b =
     omega (
       arith,
+      b.long,
+      length-be64 told,
+      nine,
       ap length b.is,
       length-append heading (stored ++ (be64 told ++ (joined (each row_code firsts) ++ left))),
       length-append stored (be64 told ++ (joined (each row_code firsts) ++ left)),
       length-append (be64 told) (joined (each row_code firsts) ++ left),
       length-append (joined (each row_code firsts)) left,
     )
+  where
+    nine : length heading ≡ 9
+    nine = refl
 
-next-storable : (rows firsts : List Row) (left : List ℕ) (n : Next rows firsts left) → AreInOrder rows → IsStorable n.row
-next-storable rows firsts left n h = all-head IsStorable n.row n.rest (all-behind IsStorable n.before (n.row ∷ n.rest) (subst (All IsStorable) n.is h.storable))
+next-storable : (rows firsts : List Row) (left tail : List ℕ) (n : Next rows firsts left tail) → AreInOrder rows → IsStorable n.row
+next-storable rows firsts left tail n h = all-head IsStorable n.row n.rest (all-behind IsStorable n.before (n.row ∷ n.rest) (subst (All IsStorable) n.is h.storable))
 
 codes-push : (rows : List Row) (r : Row) → each row_code (rows ++ r ∷ []) ≡ each row_code rows ++ row_code r ∷ []
 codes-push [] r = refl
 codes-push (q ∷ qs) r = ap (λ z. row_code q ∷ z) (codes-push qs r)
 
 -- the next row may stand behind others with the same codes
-next-order : (rows firsts : List Row) (left : List ℕ) (n : Next rows firsts left) (r : Row) → AreInOrder rows → All IsStorable firsts → IsStorable r → row_code n.row ≡ row_code r → AreInOrder (firsts ++ r ∷ [])
-next-order rows firsts left n r h k s e =
+next-order : (rows firsts : List Row) (left tail : List ℕ) (n : Next rows firsts left tail) (r : Row) → AreInOrder rows → All IsStorable firsts → IsStorable r → row_code n.row ≡ row_code r → AreInOrder (firsts ++ r ∷ [])
+next-order rows firsts left tail n r h k s e =
     order-moved (n.before ++ n.row ∷ []) (firsts ++ r ∷ []) (order-front (n.before ++ n.row ∷ []) n.rest (subst AreInOrder (n.is ∙ sym (append_assoc n.before (n.row ∷ []) n.rest)) h)) (All-push IsStorable firsts r k s)
     (codes-push n.before n.row ∙ ap (λ z. z ++ row_code n.row ∷ []) n.same ∙ ap (λ z. each row_code firsts ++ z ∷ []) e ∙ sym (codes-push firsts r))
 
-module _ (bs : List ℕ) (rows : List Row) (e : bs ≡ state_text rows) (h : AreInOrder rows) (few : length bs < 2 ^ 32) where
-  pub number-few : length rows < 2 ^ 64
-  number-few = omega (arith, few, ap length e, text-length rows h, rows-few rows h)
+pub length-codes : (rows others : List Row) → each row_code rows ≡ each row_code others → length rows ≡ length others
+length-codes rows others e = sym (length-map row_code rows) ∙ ap length e ∙ length-map row_code others
 
-  pub not-early : EndsEarly bs → ⊥
-  not-early (in_header c) = omega (arith, c.short, ap length e, text-length rows h)
-  not-early (in_row {root = stored} {left = left} {number = told} {rows = firsts} b l c none) =
-      let x = beside bs stored left told rows firsts e h number-few b in
-      let n = next-row rows firsts left h.storable b.order.storable x.rest_is (omega (arith, x.number_is, l)) in
-      none (omega (arith, few, left-short bs stored left told firsts b)) n.row _ (next-storable rows firsts left n h) n.behind
+next-longer : (rows firsts : List Row) (left tail : List ℕ) → Next rows firsts left tail → length firsts < length rows
+next-longer rows firsts left tail n = omega (arith, ap length n.is, length-append n.before (n.row ∷ n.rest), length-codes n.before firsts n.same)
 
-  pub not-wrong : (at : ℕ) → IsWrongAt at bs → ⊥
-  not-wrong at (in_heading w) = w.differs (ap (λ (z : List ℕ). get_or z at 0) (e ∙ text-parts rows h) ∙ get-front heading _ at (omega (arith, w.low)))
-  not-wrong at (in_row {root = stored} {left = left} {number = told} {rows = firsts} b l place c) =
-      let x = beside bs stored left told rows firsts e h number-few b in
-      let n = next-row rows firsts left h.storable b.order.storable x.rest_is (omega (arith, x.number_is, l)) in
-      on n c
-    where
-      on : Next rows firsts left → IsNoNextRow firsts left → ⊥
-      on n (no_row w) = w.none n.row _ (next-storable rows firsts left n h) n.behind
-      on n (misplaced r y s p f) =
-          let q = stored-part n.row r _ y (next-storable rows firsts left n h) s (sym n.behind ∙ p) in
-          f (next-order rows firsts left n r h b.order.storable s q.0)
-  not-wrong at (past_end {root = stored} {left = left} {number = told} {rows = firsts} b l place some) =
-      let x = beside bs stored left told rows firsts e h number-few b in
-      let q = none-left rows firsts left h.storable b.order.storable x.rest_is (omega (arith, x.number_is, l)) in
-      omega (arith, ap length q.1, some)
+-- bytes are laid out so that no further row of so many can come behind these
+pub record Stop (bs root : List ℕ) (number : ℕ) (rows : List Row) (left : List ℕ) : Type 0 where
+  pub begins : Begins bs root number rows left
+  pub last : (others : List Row) (tail : List ℕ) → Next others rows left tail → AreInOrder others → length others ≤ number → ⊥
 
-  -- rows that are laid out so have the same codes
-  pub laid-same : (stored : List ℕ) (others : List Row) → Begins bs stored (length others) others [] → (stored ≡ root rows) × (each row_code rows ≡ each row_code others)
-  laid-same stored others b =
-      let x = beside bs stored [] (length others) rows others e h number-few b in
-      (x.root_is, (none-left rows others [] h.storable b.order.storable x.rest_is (sym x.number_is)).0)
+pub early-stop : {bs root left : List ℕ} {number : ℕ} {rows : List Row} → length bs < 2 ^ 32 → Begins bs root number rows left → (length left < 2 ^ 32 → IsNoFront left) → Stop bs root number rows left
+early-stop {bs} {root} {left} {number} {rows} few b none = record {
+  begins = b;
+  last = λ others tail n h l. none (omega (arith, few, left-long bs root left number rows b)) n.row _ (next-storable others rows left tail n h) n.behind;
+}
 
-  pub not-other-root : (stored found : List ℕ) → HasOtherRoot bs stored found → ⊥
-  not-other-root stored found c =
-      let x = laid-same stored c.rows c.begins in
-      c.differs (x.0 ∙ root-same rows c.rows h.storable c.begins.order.storable x.1 ∙ sym c.is)
+pub wrong-stop : {bs root left : List ℕ} {number : ℕ} {rows : List Row} → Begins bs root number rows left → IsNoNextRow rows left → Stop bs root number rows left
+wrong-stop {bs} {root} {left} {number} {rows} b c = record { begins = b; last = λ others tail n h l. on others tail n h c }
+  where
+    on : (others : List Row) (tail : List ℕ) → Next others rows left tail → AreInOrder others → IsNoNextRow rows left → ⊥
+    on others tail n h (no_row w) = w.none n.row _ (next-storable others rows left tail n h) n.behind
+    on others tail n h (misplaced r y s p f) =
+        let q = stored-part n.row r _ y (next-storable others rows left tail n h) s (sym n.behind ∙ p) in
+        f (next-order others rows left tail n r h b.order.storable s q.0)
+
+pub full-stop : {bs root left : List ℕ} {number : ℕ} {rows : List Row} → Begins bs root number rows left → length rows ≡ number → Stop bs root number rows left
+full-stop {bs} {root} {left} {number} {rows} b e = record { begins = b; last = λ others tail n h l. absurd (omega (arith, next-longer others rows left tail n, e, l)) }
+
+-- two of these stand at one place
+pub record Alike (root stored : List ℕ) (m n : ℕ) (rows others : List Row) (left behind : List ℕ) : Type 0 where
+  pub root_is : root ≡ stored
+  pub number_is : m ≡ n
+  pub codes : each row_code rows ≡ each row_code others
+  pub left_is : left ≡ behind
+
+pub one-stop : {bs root stored left behind : List ℕ} {m n : ℕ} {rows others : List Row} → Stop bs root m rows left → Stop bs stored n others behind → Alike root stored m n rows others left behind
+one-stop {bs} {root} {stored} {left} {behind} {m} {n} {rows} {others} s t =
+    let p = header-parts root stored _ _ m n s.begins.long t.begins.long s.begins.small t.begins.small (sym s.begins.is ∙ t.begins.is) in
+    on p.0 p.1 (compared rows others left behind s.begins.order.storable t.begins.order.storable p.2)
+  where
+    on : root ≡ stored → m ≡ n → Compared rows others left behind → Alike root stored m n rows others left behind
+    on e f (longer x) = absurd (t.last rows left x s.begins.order (omega (arith, s.begins.few, f)))
+    on e f (shorter x) = absurd (s.last others behind x t.begins.order (omega (arith, t.begins.few, f)))
+    on e f (equal c l) = record { root_is = e; number_is = f; codes = c; left_is = l }
+
+-- rows of which the text is so short are fewer than eight bytes tell
+number-few : (bs : List ℕ) (rows : List Row) → bs ≡ state_text rows → AreInOrder rows → length bs < 2 ^ 32 → length rows < 2 ^ 64
+number-few bs rows e h few = omega (arith, few, ap length e, text-length rows h, rows-few rows h)
+
+-- the text of rows is laid out as their state
+pub text-laid : (bs : List ℕ) (rows : List Row) → bs ≡ state_text rows → AreInOrder rows → length bs < 2 ^ 32 → Begins bs (root rows) (length rows) rows []
+text-laid bs rows e h few = record {
+  is = e ∙ text-parts rows h ∙ ap (λ (z : List ℕ). heading ++ (root rows ++ (be64 (length rows) ++ z))) (sym (append-nil (joined (each row_code rows))));
+  long = root-length rows;
+  small = number-few bs rows e h few;
+  few = omega arith;
+  order = h;
+}

@@ -25,13 +25,13 @@ use Rattle.calculus.proofs.Tails.{length-be32, one-be32}
 use Rattle.congruent_matches.specs.Laws.{AreBinds, AreTargets, IsSameMatch, IsTarget}
 use Rattle.congruent_matches.proofs.Matched.{binds_match_alike}
 use Rattle.events.specs.Events.{stored}
-use Rattle.term_code.specs.Refusing.{AreRight, IsRight}
-use Rattle.term_code.proofs.Kids.{count-right, first-right, rest-right, row-are}
+use Rattle.code_faults.specs.Refusing.{AreRight, IsRight}
+use Rattle.code_faults.proofs.Kids.{count-right, first-right, rest-right, row-are}
 use Rattle.row_reader.proofs.Joins.{bind-parts, same-channel}
 use Rattle.storable_row_laws.proofs.Staying.{built_in_receivers_are_storable}
 use Rattle.state_laws.proofs.Same.{all-head, all-tail, heads}
 use Rattle.row_reader.proofs.SentRows.{Parted, a_send, a_receive, parted}
-use Rattle.checkpoint.specs.Kept.{AllowNoStep}
+use Rattle.states.specs.Quiet.{AllowNoStep}
 use Rattle.state_reader.proofs.SameRows.{storable-row, storable-short}
 
 other-tag : {A : Type 0} → ◌≡◌ {A = ℕ} 1 2 → A
@@ -351,7 +351,7 @@ built-ins-same =
     let q = all-head IsStorable stdout_ack [] (all-tail IsStorable stdout (stdout_ack ∷ []) b) in
     (same-row stdout stdout p p refl, (same-row stdout_ack stdout_ack q q refl, tt))
 
-meeting-same : (s : Step) (rs qs : List Row) → All IsStorable rs → All IsStorable qs → each row_code rs ≡ each row_code qs → is_none (meeting (stored rs) [] s) ≡ is_none (meeting (stored qs) [] s)
+pub meeting-same : (s : Step) (rs qs : List Row) → All IsStorable rs → All IsStorable qs → each row_code rs ≡ each row_code qs → is_none (meeting (stored rs) [] s) ≡ is_none (meeting (stored qs) [] s)
 unfolding meeting
 meeting-same s rs qs h k e = on (differ s.data_ids)
   where

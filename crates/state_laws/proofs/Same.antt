@@ -1,5 +1,5 @@
 -- Rows whose codes are those of others, one by one.
-use Rattle.std.proofs.Common.{◌≡◌, ℕ, zero, suc, ◌<◌, Bool, true, false, not, ◌&&◌, ◌||◌, List, [], ◌∷◌, ◌++◌, length, map as each, refl, ap, sym, ◌∙◌, subst, arith, append_assoc}
+use Rattle.std.proofs.Common.{◌≡◌, ℕ, zero, suc, Bool, true, false, not, ◌&&◌, ◌||◌, List, [], ◌∷◌, ◌++◌, map as each, refl, ap, sym, ◌∙◌, subst, arith, append_assoc}
 use Rattle.std.specs.Prelude.{All}
 use Rattle.std.specs.Str.{bytes_eq}
 use Rattle.calculus.specs.Bytes.{joined}
@@ -35,40 +35,43 @@ module _ {A : Type 0} (P : A → Type 0) where
 pub stored-part : (r q : Row) (x y : List ℕ) → IsStorable r → IsStorable q → row_code r ++ x ≡ row_code q ++ y → (row_code r ≡ row_code q) × (x ≡ y)
 stored-part r q x y h k e = rows-part r q x y (storable-row r h) (storable-row q k) (storable-short r h) (storable-short q k) e
 
--- the row that comes after the first of these, which stand in the bytes as others do
-pub record Next (rows firsts : List Row) (left : List ℕ) : Type 0 where
+-- the row that comes after the first of these, which stand in the bytes as others do, where these bytes come behind all
+pub record Next (rows firsts : List Row) (left tail : List ℕ) : Type 0 where
   pub before : List Row
   pub row : Row
   pub rest : List Row
   pub is : rows ≡ before ++ row ∷ rest
   pub same : each row_code before ≡ each row_code firsts
-  pub behind : left ≡ row_code row ++ joined (each row_code rest)
+  pub behind : left ≡ row_code row ++ (joined (each row_code rest) ++ tail)
 
-pub next-row : (rows firsts : List Row) (left : List ℕ) → All IsStorable rows → All IsStorable firsts → joined (each row_code rows) ≡ joined (each row_code firsts) ++ left → length firsts < length rows → Next rows firsts left
-next-row [] firsts left h k e l = absurd (omega arith)
-next-row (r ∷ rs) [] left h k e l = record { before = []; row = r; rest = rs; is = refl; same = refl; behind = sym e }
-next-row (r ∷ rs) (q ∷ qs) left h k e l =
-    let p = stored-part r q _ _ (all-head IsStorable r rs h) (all-head IsStorable q qs k) (e ∙ append_assoc (row_code q) (joined (each row_code qs)) left) in
-    let n = next-row rs qs left (all-tail IsStorable r rs h) (all-tail IsStorable q qs k) p.1 (omega arith) in
-    record {
-      before = r ∷ n.before;
-      row = n.row;
-      rest = n.rest;
-      is = ap (λ z. r ∷ z) n.is;
-      same = ap (λ z. z ∷ each row_code n.before) p.0 ∙ ap (λ z. row_code q ∷ z) n.same;
-      behind = n.behind;
-    }
+next-behind : (r q : Row) (rows firsts : List Row) (left tail : List ℕ) → row_code r ≡ row_code q → Next rows firsts left tail → Next (r ∷ rows) (q ∷ firsts) left tail
+next-behind r q rows firsts left tail c n = record {
+  before = r ∷ n.before;
+  row = n.row;
+  rest = n.rest;
+  is = ap (λ z. r ∷ z) n.is;
+  same = ap (λ z. z ∷ each row_code n.before) c ∙ ap (λ z. row_code q ∷ z) n.same;
+  behind = n.behind;
+}
 
--- as many rows in the same bytes have the same codes, and nothing is left
-pub none-left : (rows others : List Row) (left : List ℕ) → All IsStorable rows → All IsStorable others → joined (each row_code rows) ≡ joined (each row_code others) ++ left → length rows ≡ length others
-    → (each row_code rows ≡ each row_code others) × (left ≡ [])
-none-left [] [] left h k e l = (refl, sym e)
-none-left [] (q ∷ qs) left h k e l = absurd (omega arith)
-none-left (r ∷ rs) [] left h k e l = absurd (omega arith)
-none-left (r ∷ rs) (q ∷ qs) left h k e l =
-    let p = stored-part r q _ _ (all-head IsStorable r rs h) (all-head IsStorable q qs k) (e ∙ append_assoc (row_code q) (joined (each row_code qs)) left) in
-    let n = none-left rs qs left (all-tail IsStorable r rs h) (all-tail IsStorable q qs k) p.1 (omega arith) in
-    (ap (λ z. z ∷ each row_code rs) p.0 ∙ ap (λ z. row_code q ∷ z) n.0, n.1)
+-- rows at the front of equal bytes: those of one go on, or they have the same codes and leave the same bytes
+pub data Compared (rows others : List Row) (left behind : List ℕ) : Type 0 where
+  longer : Next rows others behind left → Compared rows others left behind
+  shorter : Next others rows left behind → Compared rows others left behind
+  equal : each row_code rows ≡ each row_code others → left ≡ behind → Compared rows others left behind
+
+pub compared : (rows others : List Row) (left behind : List ℕ) → All IsStorable rows → All IsStorable others → joined (each row_code rows) ++ left ≡ joined (each row_code others) ++ behind → Compared rows others left behind
+compared [] [] left behind h k e = equal refl e
+compared [] (q ∷ qs) left behind h k e = shorter (record { before = []; row = q; rest = qs; is = refl; same = refl; behind = e ∙ append_assoc (row_code q) (joined (each row_code qs)) behind })
+compared (r ∷ rs) [] left behind h k e = longer (record { before = []; row = r; rest = rs; is = refl; same = refl; behind = sym e ∙ append_assoc (row_code r) (joined (each row_code rs)) left })
+compared (r ∷ rs) (q ∷ qs) left behind h k e =
+    let p = stored-part r q _ _ (all-head IsStorable r rs h) (all-head IsStorable q qs k) (sym (append_assoc (row_code r) (joined (each row_code rs)) left) ∙ e ∙ append_assoc (row_code q) (joined (each row_code qs)) behind) in
+    on p.0 (compared rs qs left behind (all-tail IsStorable r rs h) (all-tail IsStorable q qs k) p.1)
+  where
+    on : row_code r ≡ row_code q → Compared rs qs left behind → Compared (r ∷ rs) (q ∷ qs) left behind
+    on c (longer n) = longer (next-behind r q rs qs behind left c n)
+    on c (shorter n) = shorter (next-behind q r qs rs left behind (sym c) n)
+    on c (equal d i) = equal (ap (λ z. z ∷ each row_code rs) c ∙ ap (λ z. row_code q ∷ z) d) i
 
 pub heads : {A : Type 0} {x y : A} {xs ys : List A} → x ∷ xs ≡ y ∷ ys → (x ≡ y) × (xs ≡ ys)
 heads e = (cc, cc)

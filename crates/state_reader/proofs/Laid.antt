@@ -17,7 +17,8 @@ use Rattle.state_reader.specs.Reading.{IsOfRows}
 use Rattle.state_reader.specs.Refused.{IsRefused}
 use Rattle.state_reader.specs.declared.fault.StateFault.{StateFault}
 use Rattle.state_reader.specs.declared.fault.StateFault.TheVariants as fault
-use Rattle.checkpoint.specs.Kept.{AllowNoStep, AreInOrder}
+use Rattle.checkpoint.specs.Kept.{AreInOrder}
+use Rattle.states.specs.Quiet.{AllowNoStep}
 use Rattle.checkpoint.proofs.Ordering.{text-of-order}
 
 -- the header, rows, and what is left

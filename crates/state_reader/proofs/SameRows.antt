@@ -15,10 +15,10 @@ use Rattle.calculus.proofs.Ordered.{up_to_total}
 use Rattle.calculus.proofs.Prefixes.{cut, Splits-append, Splits-length}
 use Rattle.calculus.proofs.Tails.{length-be32, one-be32}
 use Rattle.storable_row_laws.proofs.Lengths.{storable_rows_are_short}
-use Rattle.term_code.specs.Refusing.{AreRight, IsRight}
+use Rattle.code_faults.specs.Refusing.{AreRight, IsRight}
 use Rattle.row_reader.specs.RowCodes.{channel_codes, IsRow}
 use Rattle.row_reader.proofs.Joins.{same-channel}
-use Rattle.term_code.proofs.Kids.{count-right, first-right, rest-right, row-are}
+use Rattle.code_faults.proofs.Kids.{count-right, first-right, rest-right, row-are}
 use Rattle.row_reader.proofs.SentRows.{Parted, a_send, a_receive, parted}
 
 other-tag : {A : Type 0} → ◌≡◌ {A = ℕ} 1 2 → A

@@ -5,7 +5,7 @@ ghost use Rattle.calculus.specs.Steps.{differ};
 ghost use Rattle.events.specs.Events.{first_ids};
 ghost use Rattle.states.specs.States.{state_text};
 ghost use Rattle.state_reader.specs.Files.{Begins, EndsEarly, IsLeastOf, IsWrongAt};
-ghost use Rattle.checkpoint.specs.Kept.{AllowNoStep};
+ghost use Rattle.states.specs.Quiet.{AllowNoStep};
 ghost use Rattle.state_reader.specs.Reading.{IsOfRows};
 ghost use Rattle.state_reader.specs.Refused.{IsRefused};
 ghost use Rattle.state_reader.specs.declared.fault.StateFault.TheVariants.{NotCanonical, Short};

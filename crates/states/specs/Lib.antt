@@ -1,3 +1,4 @@
 pub mod States
 pub mod Laws
 pub mod Examples
+pub mod Quiet

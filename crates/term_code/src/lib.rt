@@ -2,15 +2,10 @@
 #![tactic(auto)]
 
 mod decode;
-pub mod examples;
-pub mod fault;
-mod fields;
-pub mod laws;
 mod patterns;
-pub mod reader;
-mod text;
 
-pub use decode::decode_term;
-pub use fault::{CodeFault, ReadFault};
-pub use reader::{Reader, Sense, check_order};
+pub use code_faults::{CodeFault, ReadFault, Sense};
+pub use code_fields::{Reader, check_order};
+pub use decode::{decode_term, read_term, read_terms};
+pub use patterns::read_name_pats;
 pub use term_encoder::{code_len, encode_part, encode_term, group_key, shard_of};

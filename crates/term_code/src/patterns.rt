@@ -6,17 +6,19 @@ ghost use Rattle.calculus.specs.Tree.{row};
 ghost use Rattle.calculus.specs.Variables.{bound};
 ghost use Rattle.rho_term.specs.Normal.{IsOrdered};
 ghost use Rattle.rho_term.specs.Parts.{pat_part_tree, pair_tree};
-ghost use Rattle.term_code.specs.Scopes.{scope_of, senses_of};
-ghost use Rattle.term_code.specs.Reading.{Reads};
-ghost use Rattle.term_code.specs.Beginning.{HasPlace, Goes, Begun, BegunRow};
-ghost use Rattle.term_code.specs.Refusing.{Refuses, RefusesRow};
-ghost use Rattle.term_code.specs.Tags.{is_pat_form_tag};
-ghost use Rattle.term_code.specs.Wide.{is_wide_tag};
-ghost use Rattle.term_code.specs.Blaming.{Wrong, InTree, InRow};
-ghost use Rattle.term_code.specs.declared.fault.ReadFault.TheVariants.{NotCanonical};
+ghost use Rattle.code_faults.specs.Scopes.{scope_of, senses_of};
+ghost use Rattle.code_faults.specs.Reading.{Reads};
+ghost use Rattle.code_faults.specs.Beginning.{HasPlace, Goes, Begun, BegunRow};
+ghost use Rattle.code_faults.specs.Refusing.{Refuses, RefusesRow};
+ghost use Rattle.code_faults.specs.Tags.{is_pat_form_tag};
+ghost use Rattle.code_faults.specs.Wide.{is_wide_tag};
+ghost use Rattle.code_faults.specs.Blaming.{Wrong, InTree, InRow};
+ghost use Rattle.code_faults.specs.declared.fault.ReadFault.TheVariants.{NotCanonical};
 
-use crate::fault::ReadFault;
-use crate::reader::{Reader, Sense, lacks_room};
+use crate::decode::{read_part, read_term};
+use code_faults::{ReadFault, Sense};
+use code_fields::Reader;
+use code_fields::reader::lacks_room;
 use rho_term::{PatPart, TermPat};
 
 // Whether the byte is the tag of a part of a pattern that is no leaf.
@@ -69,273 +71,273 @@ fn after_name_variable(binds: bool, bytes: &[u8]) -> Option<&[u8]>
     }
 }
 
-impl<'a> Reader<'a> {
-    // A pattern of processes. Where `binds` is false it may bind no variable; what it binds is added
-    // to `found`.
-    #[cycle(read)]
-    pub(crate) fn pat(
-        &mut self,
-        binds: bool,
-        scope: &Vec<Sense>,
-        found: &mut Vec<Sense>,
-        room: u32,
-    ) -> Result<TermPat, ReadFault>
-        ensures reads { IfOk result (λ t. Reads pat (scope_of scope.now.items) room t self.old.input.now self.new.input.now) }
-        ensures bound { IfOk result (λ t. senses_of found.new.items ≡ senses_of found.old.items ++ bound t) }
-        ensures wrong { IfErr result (λ e. Wrong (InTree binds pat (scope_of scope.now.items) room) e self.old.input.now) }
-        ensures refuses { IfErr result (λ e. Refuses binds pat (scope_of scope.now.items) room e self.old.input.now) }
-        ensures free { binds ≡ false → IfOk result (λ t. bound t ≡ []) }
-        ensures begun { IfErr result (λ e. HasPlace e → Goes e (Begun binds pat (scope_of scope.now.items) room self.old.input.now)) }
-    {
-        let count = self.number(0, 9)?;
-        let mut parts = Vec::new(self.alloc);
-        let mut wide: u32 = 0;
-        for i in 0..count {
-            let at = self.place();
-            let tag = self.byte()?;
-            if lacks_room(room, is_pat_form(tag)) {
-                return Err(ReadFault::TooDeep { at });
-            }
-            wide = more_wide(wide, i, tag, at)?;
-            let part = self.pat_part(tag, binds, scope, found, room)?;
-            parts.push(part)?;
+// A pattern of processes. Where `binds` is false it may bind no variable; what it binds is added
+// to `found`.
+#[cycle(read)]
+pub(crate) fn read_pat(
+    reader: &mut Reader<'_>,
+    binds: bool,
+    scope: &Vec<Sense>,
+    found: &mut Vec<Sense>,
+    room: u32,
+) -> Result<TermPat, ReadFault>
+    ensures reads { IfOk result (λ t. Reads pat (scope_of scope.now.items) room t reader.old.input.now reader.new.input.now) }
+    ensures bound { IfOk result (λ t. senses_of found.new.items ≡ senses_of found.old.items ++ bound t) }
+    ensures wrong { IfErr result (λ e. Wrong (InTree binds pat (scope_of scope.now.items) room) e reader.old.input.now) }
+    ensures refuses { IfErr result (λ e. Refuses binds pat (scope_of scope.now.items) room e reader.old.input.now) }
+    ensures free { binds ≡ false → IfOk result (λ t. bound t ≡ []) }
+    ensures begun { IfErr result (λ e. HasPlace e → Goes e (Begun binds pat (scope_of scope.now.items) room reader.old.input.now)) }
+{
+    let count = reader.number(0, 9)?;
+    let mut parts = Vec::new(reader.alloc);
+    let mut wide: u32 = 0;
+    for i in 0..count {
+        let at = reader.place();
+        let tag = reader.byte()?;
+        if lacks_room(room, is_pat_form(tag)) {
+            return Err(ReadFault::TooDeep { at });
         }
-        Ok(TermPat::new(parts))
+        wide = more_wide(wide, i, tag, at)?;
+        let part = read_pat_part(reader, tag, binds, scope, found, room)?;
+        parts.push(part)?;
     }
+    Ok(TermPat::new(parts))
+}
 
-    // A pattern of names: that of the process that it quotes, or a name variable alone.
-    #[cycle(read)]
-    pub(crate) fn name_pat(
-        &mut self,
-        binds: bool,
-        scope: &Vec<Sense>,
-        found: &mut Vec<Sense>,
-        room: u32,
-    ) -> Result<TermPat, ReadFault>
-        ensures reads { IfOk result (λ t. Reads name_pat (scope_of scope.now.items) room t self.old.input.now self.new.input.now) }
-        ensures bound { IfOk result (λ t. senses_of found.new.items ≡ senses_of found.old.items ++ bound t) }
-        ensures wrong { IfErr result (λ e. Wrong (InTree binds name_pat (scope_of scope.now.items) room) e self.old.input.now) }
-        ensures refuses { IfErr result (λ e. Refuses binds name_pat (scope_of scope.now.items) room e self.old.input.now) }
-        ensures free { binds ≡ false → IfOk result (λ t. bound t ≡ []) }
-        ensures begun { IfErr result (λ e. HasPlace e → Goes e (Begun binds name_pat (scope_of scope.now.items) room self.old.input.now)) }
-    {
-        match after_name_variable(binds, self.input) {
-            Some(others) => {
-                self.input = others;
-                found.push(Sense::Name)?;
-                let mut parts = Vec::new(self.alloc);
-                parts.push(PatPart::NameVar)?;
-                Ok(TermPat::new(parts))
-            }
-            None => self.pat(binds, scope, found, room),
+// A pattern of names: that of the process that it quotes, or a name variable alone.
+#[cycle(read)]
+pub(crate) fn read_name_pat(
+    reader: &mut Reader<'_>,
+    binds: bool,
+    scope: &Vec<Sense>,
+    found: &mut Vec<Sense>,
+    room: u32,
+) -> Result<TermPat, ReadFault>
+    ensures reads { IfOk result (λ t. Reads name_pat (scope_of scope.now.items) room t reader.old.input.now reader.new.input.now) }
+    ensures bound { IfOk result (λ t. senses_of found.new.items ≡ senses_of found.old.items ++ bound t) }
+    ensures wrong { IfErr result (λ e. Wrong (InTree binds name_pat (scope_of scope.now.items) room) e reader.old.input.now) }
+    ensures refuses { IfErr result (λ e. Refuses binds name_pat (scope_of scope.now.items) room e reader.old.input.now) }
+    ensures free { binds ≡ false → IfOk result (λ t. bound t ≡ []) }
+    ensures begun { IfErr result (λ e. HasPlace e → Goes e (Begun binds name_pat (scope_of scope.now.items) room reader.old.input.now)) }
+{
+    match after_name_variable(binds, reader.input) {
+        Some(others) => {
+            reader.input = others;
+            found.push(Sense::Name)?;
+            let mut parts = Vec::new(reader.alloc);
+            parts.push(PatPart::NameVar)?;
+            Ok(TermPat::new(parts))
         }
+        None => read_pat(reader, binds, scope, found, room),
     }
+}
 
-    // The part of a pattern that goes on so after its tag, which is that of no form where none has room.
-    #[cycle(read)]
-    fn pat_part(
-        &mut self,
-        tag: u8,
-        binds: bool,
-        scope: &Vec<Sense>,
-        found: &mut Vec<Sense>,
-        room: u32,
-    ) -> Result<PatPart, ReadFault>
-        requires { room ≡ 0 → is_pat_form_tag tag ≡ false }
-        ensures reads { IfOk result (λ p. Reads pat_part (scope_of scope.now.items) room (pat_part_tree p) (tag ∷ self.old.input.now) self.new.input.now) }
-        ensures ordered { IfOk result (λ p. IsOrdered (pat_part_tree p)) }
-        ensures bound { IfOk result (λ p. senses_of found.new.items ≡ senses_of found.old.items ++ bound (pat_part_tree p)) }
-        ensures wrong { IfErr result (λ e. Wrong (InTree binds pat_part (scope_of scope.now.items) room) e (tag ∷ self.old.input.now)) }
-        ensures refuses { IfErr result (λ e. Refuses binds pat_part (scope_of scope.now.items) room e (tag ∷ self.old.input.now)) }
-        ensures free { binds ≡ false → IfOk result (λ p. bound (pat_part_tree p) ≡ []) }
-        ensures begun { IfErr result (λ e. HasPlace e → Goes e (Begun binds pat_part (scope_of scope.now.items) room (tag ∷ self.old.input.now))) }
-    {
-        match tag {
-            0x50 => {
-                if !binds {
-                    return Err(ReadFault::NotCanonical {
-                        at: self.last_place(),
-                    });
-                }
-                found.push(Sense::Process)?;
-                Ok(PatPart::Var)
+// The part of a pattern that goes on so after its tag, which is that of no form where none has room.
+#[cycle(read)]
+fn read_pat_part(
+    reader: &mut Reader<'_>,
+    tag: u8,
+    binds: bool,
+    scope: &Vec<Sense>,
+    found: &mut Vec<Sense>,
+    room: u32,
+) -> Result<PatPart, ReadFault>
+    requires { room ≡ 0 → is_pat_form_tag tag ≡ false }
+    ensures reads { IfOk result (λ p. Reads pat_part (scope_of scope.now.items) room (pat_part_tree p) (tag ∷ reader.old.input.now) reader.new.input.now) }
+    ensures ordered { IfOk result (λ p. IsOrdered (pat_part_tree p)) }
+    ensures bound { IfOk result (λ p. senses_of found.new.items ≡ senses_of found.old.items ++ bound (pat_part_tree p)) }
+    ensures wrong { IfErr result (λ e. Wrong (InTree binds pat_part (scope_of scope.now.items) room) e (tag ∷ reader.old.input.now)) }
+    ensures refuses { IfErr result (λ e. Refuses binds pat_part (scope_of scope.now.items) room e (tag ∷ reader.old.input.now)) }
+    ensures free { binds ≡ false → IfOk result (λ p. bound (pat_part_tree p) ≡ []) }
+    ensures begun { IfErr result (λ e. HasPlace e → Goes e (Begun binds pat_part (scope_of scope.now.items) room (tag ∷ reader.old.input.now))) }
+{
+    match tag {
+        0x50 => {
+            if !binds {
+                return Err(ReadFault::NotCanonical {
+                    at: reader.last_place(),
+                });
             }
-            0x52 => Ok(PatPart::Wild),
-            0x57 => Ok(PatPart::Simple(self.simple()?)),
-            0x31..=0x33 => {
-                let outside = Vec::new(self.alloc);
-                Ok(PatPart::Closed(self.part(tag, &outside, room)?))
-            }
-            _ => {
-                if is_pat_form(tag) {
-                    self.pat_form(tag, binds, scope, found, room - 1)
-                } else {
-                    Ok(PatPart::Ground(self.ground(tag)?))
-                }
+            found.push(Sense::Process)?;
+            Ok(PatPart::Var)
+        }
+        0x52 => Ok(PatPart::Wild),
+        0x57 => Ok(PatPart::Simple(reader.simple()?)),
+        0x31..=0x33 => {
+            let outside = Vec::new(reader.alloc);
+            Ok(PatPart::Closed(read_part(reader, tag, &outside, room)?))
+        }
+        _ => {
+            if is_pat_form(tag) {
+                read_pat_form(reader, tag, binds, scope, found, room - 1)
+            } else {
+                Ok(PatPart::Ground(reader.ground(tag)?))
             }
         }
     }
 }
 
-impl<'a> Reader<'a> {
-    #[cycle(read)]
-    fn pat_form(
-        &mut self,
-        tag: u8,
-        binds: bool,
-        scope: &Vec<Sense>,
-        found: &mut Vec<Sense>,
-        room: u32,
-    ) -> Result<PatPart, ReadFault>
-        requires form { is_pat_form_tag tag ≡ true }
-        requires not_closed { (0x31 ≤ tag) → (tag ≤ 0x33) → ⊥ }
-        ensures reads { IfOk result (λ p. Reads pat_part (scope_of scope.now.items) (room + 1) (pat_part_tree p) (tag ∷ self.old.input.now) self.new.input.now) }
-        ensures ordered { IfOk result (λ p. IsOrdered (pat_part_tree p)) }
-        ensures bound { IfOk result (λ p. senses_of found.new.items ≡ senses_of found.old.items ++ bound (pat_part_tree p)) }
-        ensures wrong { IfErr result (λ e. Wrong (InTree binds pat_part (scope_of scope.now.items) (room + 1)) e (tag ∷ self.old.input.now)) }
-        ensures refuses { IfErr result (λ e. Refuses binds pat_part (scope_of scope.now.items) (room + 1) e (tag ∷ self.old.input.now)) }
-        ensures free { binds ≡ false → IfOk result (λ p. bound (pat_part_tree p) ≡ []) }
-        ensures begun { IfErr result (λ e. HasPlace e → Goes e (Begun binds pat_part (scope_of scope.now.items) (room + 1) (tag ∷ self.old.input.now))) }
-    {
-        match tag {
-            0x20 => {
-                let members = self.pats(0, u32::MAX, binds, scope, found, room)?;
-                let rest = self.bound_remainder(binds, found)?;
-                Ok(PatPart::List(members, rest))
-            }
-            0x21 => Ok(PatPart::Tuple(self.pats(1, u32::MAX, binds, scope, found, room)?)),
-            0x22 => {
-                let members = self.pats(0, 8, binds, scope, found, room)?;
-                let rest = self.bound_remainder(binds, found)?;
-                Ok(PatPart::Set(members, rest))
-            }
-            0x23 => {
-                let pairs = self.pat_pairs(binds, scope, found, room)?;
-                let rest = self.bound_remainder(binds, found)?;
-                Ok(PatPart::Map(pairs, rest))
-            }
-            0x30 => {
-                let persistent = self.boolean()?;
-                let channel = self.name_pat(binds, scope, found, room)?;
-                let args = self.pats(0, u32::MAX, binds, scope, found, room)?;
-                Ok(PatPart::Send {
-                    channel,
-                    args,
-                    persistent,
-                })
-            }
-            0x34 => {
-                let rights = self.rights()?;
-                let body = self.free_pat(scope, room)?;
-                Ok(PatPart::Bundle { rights, body })
-            }
-            0x53 => Ok(PatPart::Same(self.term(scope, room)?)),
-            0x54 => {
-                let left = self.pat(binds, scope, found, room)?;
-                let right = self.pat(binds, scope, found, room)?;
-                Ok(PatPart::Both(left, right))
-            }
-            0x55 => {
-                let left = self.free_pat(scope, room)?;
-                let right = self.free_pat(scope, room)?;
-                Ok(PatPart::Either(left, right))
-            }
-            0x56 => Ok(PatPart::Not(self.free_pat(scope, room)?)),
-            _ => Err(ReadFault::NotCanonical {
-                at: self.last_place(),
-            }),
+#[cycle(read)]
+fn read_pat_form(
+    reader: &mut Reader<'_>,
+    tag: u8,
+    binds: bool,
+    scope: &Vec<Sense>,
+    found: &mut Vec<Sense>,
+    room: u32,
+) -> Result<PatPart, ReadFault>
+    requires form { is_pat_form_tag tag ≡ true }
+    requires not_closed { (0x31 ≤ tag) → (tag ≤ 0x33) → ⊥ }
+    ensures reads { IfOk result (λ p. Reads pat_part (scope_of scope.now.items) (room + 1) (pat_part_tree p) (tag ∷ reader.old.input.now) reader.new.input.now) }
+    ensures ordered { IfOk result (λ p. IsOrdered (pat_part_tree p)) }
+    ensures bound { IfOk result (λ p. senses_of found.new.items ≡ senses_of found.old.items ++ bound (pat_part_tree p)) }
+    ensures wrong { IfErr result (λ e. Wrong (InTree binds pat_part (scope_of scope.now.items) (room + 1)) e (tag ∷ reader.old.input.now)) }
+    ensures refuses { IfErr result (λ e. Refuses binds pat_part (scope_of scope.now.items) (room + 1) e (tag ∷ reader.old.input.now)) }
+    ensures free { binds ≡ false → IfOk result (λ p. bound (pat_part_tree p) ≡ []) }
+    ensures begun { IfErr result (λ e. HasPlace e → Goes e (Begun binds pat_part (scope_of scope.now.items) (room + 1) (tag ∷ reader.old.input.now))) }
+{
+    match tag {
+        0x20 => {
+            let members = read_pats(reader, 0, u32::MAX, binds, scope, found, room)?;
+            let rest = reader.bound_remainder(binds, found)?;
+            Ok(PatPart::List(members, rest))
         }
-    }
-
-    // A pattern that binds no variable.
-    #[cycle(read)]
-    fn free_pat(&mut self, scope: &Vec<Sense>, room: u32) -> Result<TermPat, ReadFault>
-        ensures reads { IfOk result (λ t. Reads pat (scope_of scope.now.items) room t self.old.input.now self.new.input.now) }
-        ensures bound { IfOk result (λ t. bound t ≡ []) }
-        ensures wrong { IfErr result (λ e. Wrong (InTree false pat (scope_of scope.now.items) room) e self.old.input.now) }
-        ensures refuses { IfErr result (λ e. Refuses false pat (scope_of scope.now.items) room e self.old.input.now) }
-        ensures begun { IfErr result (λ e. HasPlace e → Goes e (Begun false pat (scope_of scope.now.items) room self.old.input.now)) }
-    {
-        let mut found = Vec::new(self.alloc);
-        self.pat(false, scope, &mut found, room)
-    }
-
-    // From `least` to `most` patterns.
-    #[cycle(read)]
-    fn pats(
-        &mut self,
-        least: u32,
-        most: u32,
-        binds: bool,
-        scope: &Vec<Sense>,
-        found: &mut Vec<Sense>,
-        room: u32,
-    ) -> Result<Vec<TermPat>, ReadFault>
-        ensures reads { IfOk result (λ ts. Reads (row_of pat) (scope_of scope.now.items) room (many row ts.items) self.old.input.now self.new.input.now) }
-        ensures bound { IfOk result (λ ts. senses_of found.new.items ≡ senses_of found.old.items ++ bound (many row ts.items)) }
-        ensures least { IfOk result (λ ts. least ≤ length ts.items) }
-        ensures most { IfOk result (λ ts. length ts.items ≤ most) }
-        ensures wrong { IfErr result (λ e. Wrong (InRow binds pat (scope_of scope.now.items) room least most) e self.old.input.now) }
-        ensures refuses { IfErr result (λ e. RefusesRow binds pat (scope_of scope.now.items) room least most e self.old.input.now) }
-        ensures free { binds ≡ false → IfOk result (λ ts. bound (many row ts.items) ≡ []) }
-        ensures begun { IfErr result (λ e. HasPlace e → least ≤ most → Goes e (BegunRow binds pat (scope_of scope.now.items) room least most self.old.input.now)) }
-    {
-        let count = self.number(least, most)?;
-        let mut pats = Vec::new(self.alloc);
-        for _i in 0..count {
-            let pat = self.pat(binds, scope, found, room)?;
-            pats.push(pat)?;
+        0x21 => Ok(PatPart::Tuple(read_pats(reader, 1, u32::MAX, binds, scope, found, room)?)),
+        0x22 => {
+            let members = read_pats(reader, 0, 8, binds, scope, found, room)?;
+            let rest = reader.bound_remainder(binds, found)?;
+            Ok(PatPart::Set(members, rest))
         }
-        Ok(pats)
-    }
-
-    /// Patterns of names. What they bind is added to `found`.
-    #[cycle(read)]
-    pub fn name_pats(
-        &mut self,
-        scope: &Vec<Sense>,
-        found: &mut Vec<Sense>,
-        room: u32,
-    ) -> Result<Vec<TermPat>, ReadFault>
-        ensures reads { IfOk result (λ ts. Reads (row_of name_pat) (scope_of scope.now.items) room (many row ts.items) self.old.input.now self.new.input.now) }
-        ensures bound { IfOk result (λ ts. senses_of found.new.items ≡ senses_of found.old.items ++ bound (many row ts.items)) }
-        ensures wrong { IfErr result (λ e. Wrong (InRow true name_pat (scope_of scope.now.items) room 0 0xFFFFFFFF) e self.old.input.now) }
-        ensures refuses { IfErr result (λ e. RefusesRow true name_pat (scope_of scope.now.items) room 0 0xFFFFFFFF e self.old.input.now) }
-        ensures begun { IfErr result (λ e. HasPlace e → Goes e (BegunRow true name_pat (scope_of scope.now.items) room 0 0xFFFFFFFF self.old.input.now)) }
-    {
-        let count = self.number(0, u32::MAX)?;
-        let mut pats = Vec::new(self.alloc);
-        for _i in 0..count {
-            let pat = self.name_pat(true, scope, found, room)?;
-            pats.push(pat)?;
+        0x23 => {
+            let pairs = read_pat_pairs(reader, binds, scope, found, room)?;
+            let rest = reader.bound_remainder(binds, found)?;
+            Ok(PatPart::Map(pairs, rest))
         }
-        Ok(pats)
-    }
-
-    // At most 8 pairs of patterns.
-    #[cycle(read)]
-    fn pat_pairs(
-        &mut self,
-        binds: bool,
-        scope: &Vec<Sense>,
-        found: &mut Vec<Sense>,
-        room: u32,
-    ) -> Result<Vec<(TermPat, TermPat)>, ReadFault>
-        ensures reads { IfOk result (λ ps. Reads (row_of (pair_of pat)) (scope_of scope.now.items) room (many row (map pair_tree ps.items)) self.old.input.now self.new.input.now) }
-        ensures bound { IfOk result (λ ps. senses_of found.new.items ≡ senses_of found.old.items ++ bound (many row (map pair_tree ps.items))) }
-        ensures few { IfOk result (λ ps. length ps.items ≤ 8) }
-        ensures wrong { IfErr result (λ e. Wrong (InRow binds (pair_of pat) (scope_of scope.now.items) room 0 8) e self.old.input.now) }
-        ensures refuses { IfErr result (λ e. RefusesRow binds (pair_of pat) (scope_of scope.now.items) room 0 8 e self.old.input.now) }
-        ensures free { binds ≡ false → IfOk result (λ ps. bound (many row (map pair_tree ps.items)) ≡ []) }
-        ensures begun { IfErr result (λ e. HasPlace e → Goes e (BegunRow binds (pair_of pat) (scope_of scope.now.items) room 0 8 self.old.input.now)) }
-    {
-        let count = self.number(0, 8)?;
-        let mut pairs = Vec::new(self.alloc);
-        for _i in 0..count {
-            let key = self.pat(binds, scope, found, room)?;
-            let value = self.pat(binds, scope, found, room)?;
-            pairs.push((key, value))?;
+        0x30 => {
+            let persistent = reader.boolean()?;
+            let channel = read_name_pat(reader, binds, scope, found, room)?;
+            let args = read_pats(reader, 0, u32::MAX, binds, scope, found, room)?;
+            Ok(PatPart::Send {
+                channel,
+                args,
+                persistent,
+            })
         }
-        Ok(pairs)
+        0x34 => {
+            let rights = reader.rights()?;
+            let body = read_free_pat(reader, scope, room)?;
+            Ok(PatPart::Bundle { rights, body })
+        }
+        0x53 => Ok(PatPart::Same(read_term(reader, scope, room)?)),
+        0x54 => {
+            let left = read_pat(reader, binds, scope, found, room)?;
+            let right = read_pat(reader, binds, scope, found, room)?;
+            Ok(PatPart::Both(left, right))
+        }
+        0x55 => {
+            let left = read_free_pat(reader, scope, room)?;
+            let right = read_free_pat(reader, scope, room)?;
+            Ok(PatPart::Either(left, right))
+        }
+        0x56 => Ok(PatPart::Not(read_free_pat(reader, scope, room)?)),
+        _ => Err(ReadFault::NotCanonical {
+            at: reader.last_place(),
+        }),
     }
+}
+
+// A pattern that binds no variable.
+#[cycle(read)]
+fn read_free_pat(
+    reader: &mut Reader<'_>,
+    scope: &Vec<Sense>,
+    room: u32,
+) -> Result<TermPat, ReadFault>
+    ensures reads { IfOk result (λ t. Reads pat (scope_of scope.now.items) room t reader.old.input.now reader.new.input.now) }
+    ensures bound { IfOk result (λ t. bound t ≡ []) }
+    ensures wrong { IfErr result (λ e. Wrong (InTree false pat (scope_of scope.now.items) room) e reader.old.input.now) }
+    ensures refuses { IfErr result (λ e. Refuses false pat (scope_of scope.now.items) room e reader.old.input.now) }
+    ensures begun { IfErr result (λ e. HasPlace e → Goes e (Begun false pat (scope_of scope.now.items) room reader.old.input.now)) }
+{
+    let mut found = Vec::new(reader.alloc);
+    read_pat(reader, false, scope, &mut found, room)
+}
+
+// From `least` to `most` patterns.
+#[cycle(read)]
+fn read_pats(
+    reader: &mut Reader<'_>,
+    least: u32,
+    most: u32,
+    binds: bool,
+    scope: &Vec<Sense>,
+    found: &mut Vec<Sense>,
+    room: u32,
+) -> Result<Vec<TermPat>, ReadFault>
+    ensures reads { IfOk result (λ ts. Reads (row_of pat) (scope_of scope.now.items) room (many row ts.items) reader.old.input.now reader.new.input.now) }
+    ensures bound { IfOk result (λ ts. senses_of found.new.items ≡ senses_of found.old.items ++ bound (many row ts.items)) }
+    ensures least { IfOk result (λ ts. least ≤ length ts.items) }
+    ensures most { IfOk result (λ ts. length ts.items ≤ most) }
+    ensures wrong { IfErr result (λ e. Wrong (InRow binds pat (scope_of scope.now.items) room least most) e reader.old.input.now) }
+    ensures refuses { IfErr result (λ e. RefusesRow binds pat (scope_of scope.now.items) room least most e reader.old.input.now) }
+    ensures free { binds ≡ false → IfOk result (λ ts. bound (many row ts.items) ≡ []) }
+    ensures begun { IfErr result (λ e. HasPlace e → least ≤ most → Goes e (BegunRow binds pat (scope_of scope.now.items) room least most reader.old.input.now)) }
+{
+    let count = reader.number(least, most)?;
+    let mut pats = Vec::new(reader.alloc);
+    for _i in 0..count {
+        let pat = read_pat(reader, binds, scope, found, room)?;
+        pats.push(pat)?;
+    }
+    Ok(pats)
+}
+
+/// Patterns of names. What they bind is added to `found`.
+#[cycle(read)]
+pub fn read_name_pats(
+    reader: &mut Reader<'_>,
+    scope: &Vec<Sense>,
+    found: &mut Vec<Sense>,
+    room: u32,
+) -> Result<Vec<TermPat>, ReadFault>
+    ensures reads { IfOk result (λ ts. Reads (row_of name_pat) (scope_of scope.now.items) room (many row ts.items) reader.old.input.now reader.new.input.now) }
+    ensures bound { IfOk result (λ ts. senses_of found.new.items ≡ senses_of found.old.items ++ bound (many row ts.items)) }
+    ensures wrong { IfErr result (λ e. Wrong (InRow true name_pat (scope_of scope.now.items) room 0 0xFFFFFFFF) e reader.old.input.now) }
+    ensures refuses { IfErr result (λ e. RefusesRow true name_pat (scope_of scope.now.items) room 0 0xFFFFFFFF e reader.old.input.now) }
+    ensures begun { IfErr result (λ e. HasPlace e → Goes e (BegunRow true name_pat (scope_of scope.now.items) room 0 0xFFFFFFFF reader.old.input.now)) }
+{
+    let count = reader.number(0, u32::MAX)?;
+    let mut pats = Vec::new(reader.alloc);
+    for _i in 0..count {
+        let pat = read_name_pat(reader, true, scope, found, room)?;
+        pats.push(pat)?;
+    }
+    Ok(pats)
+}
+
+// At most 8 pairs of patterns.
+#[cycle(read)]
+fn read_pat_pairs(
+    reader: &mut Reader<'_>,
+    binds: bool,
+    scope: &Vec<Sense>,
+    found: &mut Vec<Sense>,
+    room: u32,
+) -> Result<Vec<(TermPat, TermPat)>, ReadFault>
+    ensures reads { IfOk result (λ ps. Reads (row_of (pair_of pat)) (scope_of scope.now.items) room (many row (map pair_tree ps.items)) reader.old.input.now reader.new.input.now) }
+    ensures bound { IfOk result (λ ps. senses_of found.new.items ≡ senses_of found.old.items ++ bound (many row (map pair_tree ps.items))) }
+    ensures few { IfOk result (λ ps. length ps.items ≤ 8) }
+    ensures wrong { IfErr result (λ e. Wrong (InRow binds (pair_of pat) (scope_of scope.now.items) room 0 8) e reader.old.input.now) }
+    ensures refuses { IfErr result (λ e. RefusesRow binds (pair_of pat) (scope_of scope.now.items) room 0 8 e reader.old.input.now) }
+    ensures free { binds ≡ false → IfOk result (λ ps. bound (many row (map pair_tree ps.items)) ≡ []) }
+    ensures begun { IfErr result (λ e. HasPlace e → Goes e (BegunRow binds (pair_of pat) (scope_of scope.now.items) room 0 8 reader.old.input.now)) }
+{
+    let count = reader.number(0, 8)?;
+    let mut pairs = Vec::new(reader.alloc);
+    for _i in 0..count {
+        let key = read_pat(reader, binds, scope, found, room)?;
+        let value = read_pat(reader, binds, scope, found, room)?;
+        pairs.push((key, value))?;
+    }
+    Ok(pairs)
 }

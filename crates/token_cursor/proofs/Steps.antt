@@ -20,7 +20,7 @@ use Rattle.grammar.specs.Productions.{Prod}
 use Rattle.grammar.specs.Rules.{Bracket, Sort, Rule, done, last, holds}
 use Rattle.grammar.specs.Terminals.{Holding, Terminal, sees}
 use Rattle.grammar.specs.Values.{Spelt, spelt}
-use Rattle.token_cursor.specs.declared.part.Part.{Part}
+use Rattle.syntax_forms.specs.declared.part.Part.{Part}
 use Rattle.token_cursor.specs.Meaning.{Missing}
 use Rattle.token_cursor.specs.Reading.{Makes, Turns, sees_member}
 

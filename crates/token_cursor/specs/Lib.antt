@@ -1,3 +1,4 @@
 pub mod Levels
 pub mod Meaning
 pub mod Reading
+pub use Rattle.syntax_forms.specs.Forms

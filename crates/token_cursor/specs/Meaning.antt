@@ -1,18 +1,15 @@
 -- What the parser's types mean.
 use Rattle.std.specs.Prelude.{ℕ, ◌≡◌, Bool, true, false, not, ◌||◌, List, ◌⊎◌, map}
+pub use Rattle.syntax_forms.specs.Forms.{left_written}
 use Rattle.grammar.specs.declared.mark.Mark.{Mark}
 use Rattle.grammar.specs.declared.mark.Mark.TheVariants as marks
 use Rattle.grammar.specs.Terminals.{Terminal, a_string, a_uri, a_word, sees, terminal, terminals}
-use Rattle.calculus.specs.Meaning.{name_pat_written, rest_written, row_of}
-use Rattle.calculus.specs.Tree.{bind}
-use Rattle.calculus.specs.Written.{Written, around, form_of_two}
 use Rattle.grammar.specs.Choice.{sees_text}
 use Rattle.grammar.specs.Descent.{Stuck, Full}
 use Rattle.grammar.specs.declared.fault.Fault.{Fault}
 use Rattle.grammar.specs.declared.fault.Fault.TheVariants.{NoMemory}
 use Rattle.tokens.specs.Token as tokens
 use Rattle.rho_lexer.specs.Meaning.{kind_token}
-use Rattle.token_cursor.specs.declared.part.Left.{Left}
 use Rattle.rho_lexer.specs.declared.token.Token.{Token}
 use Rattle.rho_lexer.specs.declared.token.TokenKind.{TokenKind}
 
@@ -79,10 +76,6 @@ sees_key_operand ts = (sees marks.True ts || sees marks.False ts) || ((sees mark
 -- a sign that begins an operand is next
 abbrev pub sees_sign_operand : List Terminal → Bool
 sees_sign_operand ts = (sees marks.Minus ts || sees marks.Star ts) || (sees marks.Open ts || (sees marks.OpenBrace ts || sees marks.OpenSquare ts))
-
--- the patterns of a bind and their remainder
-abbrev pub left_written : Left → Written
-left_written l = form_of_two (around bind) (row_of (map name_pat_written l.pats.items)) (rest_written l.rest)
 
 -- the greatest height of a source
 abbrev pub most_height : ℕ

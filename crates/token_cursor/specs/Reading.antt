@@ -2,9 +2,7 @@
 use Rattle.std.specs.Prelude.{ℕ, zero, suc, Bool, false, not, ◌&&◌, List, map, Result, Ok, Err}
 use Rattle.std.specs.declared.alloc.Global.{Global}
 use Rattle.std.specs.declared.vec.Vec.{Vec}
-use Rattle.calculus.specs.Meaning.{bind_written, ground_label, name_pat_written, name_written, pair_of, pat_written, proc_written, rest_written, row_of}
-use Rattle.calculus.specs.Tree.{pattern}
-use Rattle.calculus.specs.Written.{Written, around, form_of_two}
+use Rattle.calculus.specs.Meaning.{bind_written, ground_label, name_pat_written, name_written, pat_written, proc_written, rest_written, row_of}
 use Rattle.calculus.specs.declared.plain.Ground.{Ground}
 use Rattle.calculus.specs.declared.plain.Rest.{Rest}
 use Rattle.calculus.specs.declared.process.Bind.{Bind}
@@ -21,14 +19,15 @@ use Rattle.grammar.specs.Grammar.{rule}
 use Rattle.grammar.specs.Rules.{Bracket, round, square, Separator, semicolon, ampersand, separator_mark, Sort, Rule}
 use Rattle.grammar.specs.Terminals.{Terminal, sees}
 use Rattle.grammar.specs.Values.{Spelt, Side, spelt, leaf, ground_of}
-use Rattle.token_cursor.specs.Meaning.{left_written}
-use Rattle.token_cursor.specs.declared.part.Bracket as brackets
-use Rattle.token_cursor.specs.declared.part.Bracket.TheVariants as rounds
-use Rattle.token_cursor.specs.declared.part.Separator as separators
-use Rattle.token_cursor.specs.declared.part.Separator.TheVariants as signs
-use Rattle.token_cursor.specs.declared.part.Left.{Left}
-use Rattle.token_cursor.specs.declared.part.Part.{Part}
-use Rattle.token_cursor.specs.declared.part.Sequence.{Sequence}
+use Rattle.syntax_forms.specs.Forms.{left_written}
+pub use Rattle.syntax_forms.specs.Forms.{pairs_written, pat_pairs_written, sequence_written}
+use Rattle.syntax_forms.specs.declared.part.Bracket as brackets
+use Rattle.syntax_forms.specs.declared.part.Bracket.TheVariants as rounds
+use Rattle.syntax_forms.specs.declared.part.Separator as separators
+use Rattle.syntax_forms.specs.declared.part.Separator.TheVariants as signs
+use Rattle.syntax_forms.specs.declared.part.Left.{Left}
+use Rattle.syntax_forms.specs.declared.part.Part.{Part}
+use Rattle.syntax_forms.specs.declared.part.Sequence.{Sequence}
 
 -- what is spelt where a process was read
 abbrev pub of_proc : Part Proc → Spelt
@@ -58,21 +57,9 @@ of_pat_row p = spelt (row_of (map pat_written p.value.items)) p.height
 abbrev pub of_left : Part Left → Spelt
 of_left p = spelt (left_written p.value) p.height
 
--- the members of a list or a set of patterns, and their remainder
-abbrev pub sequence_written : Sequence → Written
-sequence_written s = form_of_two (around pattern) (row_of (map pat_written s.pats.items)) (rest_written s.rest)
-
 -- where such a sequence was read
 abbrev pub of_sequence : Part Sequence → Spelt
 of_sequence p = spelt (sequence_written p.value) p.height
-
--- keys with their values
-abbrev pub pairs_written : List (Proc × Proc) → List Written
-pairs_written ps = map pair_of (map (λ p. (proc_written p.0, proc_written p.1)) ps)
-
--- patterns of keys with those of their values
-abbrev pub pat_pairs_written : List (Pat × Pat) → List Written
-pat_pairs_written ps = map pair_of (map (λ p. (pat_written p.0, pat_written p.1)) ps)
 
 -- where a bind was read
 abbrev pub of_bind : Part Bind → Spelt

@@ -8,10 +8,10 @@ ghost use Rattle.token_cursor.specs.Reading.{Makes, bracket_of, of_pat, of_pat_r
 ghost use Rattle.std.specs.Prelude.{◌≡◌, ◌+◌, ◌<◌, ◌≤◌, ◌^◌, IfOk, ℕ, length, map};
 
 use crate::cursor::Cursor;
-use crate::part::{Bracket, Part, Sequence};
-use crate::{parts, pattern_forms, process_forms};
 use calculus::{Pat, Proc};
 use grammar::{Fault, Mark};
+use syntax_forms::part::{Bracket, Part, Sequence};
+use syntax_forms::{parts, pattern_forms, process_forms};
 
 impl<'a> Cursor<'a> {
     /// The end of parentheses.

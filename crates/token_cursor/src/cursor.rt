@@ -12,11 +12,11 @@ ghost use Rattle.token_cursor.specs.Reading.{bracket_of, sees_bind, sees_member,
 ghost use Rattle.std.specs.Prelude.{◌≡◌, ◌<◌, ◌≤◌, IfOk, MatchResult, length, string_bytes, true};
 
 use crate::mark::is_mark;
-use crate::part::{Bracket, Separator};
 use calculus::{Kind, Rights, Simple};
 use grammar::{Fault, Mark};
 use rho_lexer::{Token, TokenKind};
 use std::alloc::Global;
+use syntax_forms::part::{Bracket, Separator};
 
 /// The tokens that are left of a source. After a fault `rest` begins where the fault shows, unless memory ran out.
 #[derive(Drop)]

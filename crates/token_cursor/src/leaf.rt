@@ -11,10 +11,10 @@ ghost use Rattle.token_cursor.specs.Reading.{Gives, Makes, Turns, bracket_of, of
 ghost use Rattle.std.specs.Prelude.{◌≡◌, ◌+◌, ◌<◌, ◌≤◌, ◌^◌, ◌++◌, ◌∷◌, [], IfOk, List, MatchResult, Option, ℕ, false, length, map, option_map, string_bytes};
 
 use crate::cursor::Cursor;
-use crate::part::{Bracket, Left, Part, Sequence};
-use crate::{pattern_forms, process_forms};
 use calculus::{Decl, Ground, Name, NamePat, Pat, Proc, Rest, Simple};
 use grammar::{Fault, Mark};
+use syntax_forms::part::{Bracket, Left, Part, Sequence};
+use syntax_forms::{pattern_forms, process_forms};
 
 /// The greatest integer that stands without a `-`.
 const GREATEST: u64 = 9_223_372_036_854_775_807;

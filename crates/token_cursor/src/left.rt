@@ -9,10 +9,10 @@ ghost use Rattle.token_cursor.specs.Reading.{Gives, Makes, of_left};
 ghost use Rattle.std.specs.Prelude.{◌≡◌, ◌<◌, ◌≤◌, IfOk, ℕ, false, length};
 
 use crate::cursor::Cursor;
-use crate::part::{Left, Part};
-use crate::pattern_forms;
 use calculus::Rest;
 use grammar::{Fault, Mark};
+use syntax_forms::part::{Left, Part};
+use syntax_forms::pattern_forms;
 
 impl<'a> Cursor<'a> {
     /// A remainder or nothing, where no pattern stands.

@@ -1,5 +1,4 @@
-//! The tokens of a source that are left, the steps that take some of them and hold no further process,
-//! and what the productions make of their constituents.
+//! The tokens of a source that are left, and the steps that take some of them and hold no further process.
 #![tactic(auto)]
 
 mod close;
@@ -8,10 +7,7 @@ mod leaf;
 mod left;
 pub mod level;
 mod mark;
-pub mod part;
-pub mod parts;
-pub mod pattern_forms;
-pub mod process_forms;
 
 pub use cursor::Cursor;
 pub use level::Level;
+pub use syntax_forms::{part, parts, pattern_forms, process_forms};

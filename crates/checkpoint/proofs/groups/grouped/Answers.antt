@@ -1,13 +1,13 @@
 use Rattle.std.proofs.Common.{◌≡◌, ◌+◌, List, ◌∷◌, length, map, take, drop, refl, sym, ◌∙◌, ap, subst, arith, inl}
 use Rattle.std.proofs.Math.Seq.{take-length}
-use Rattle.radix_root.specs.Leaves.{Keeps, groups_of}
+use Rattle.radix_root.specs.Leaves.{groups_of}
 use Rattle.checkpoint.specs.declared.groups.KeyedRow.{KeyedRow}
-use Rattle.checkpoint.specs.Groups.{row_of}
+use Rattle.checkpoint.specs.Groups.{row_of, Give}
 use Rattle.checkpoint.proofs.Adding.{Going, go-on, none-held, taken-more, dropped-more}
 use Rattle.checkpoint.proofs.groups.grouped.Goals as goal
 
 pub loop-row-init : goal.loop-row-init
-loop-row-init c = record { holds = none-held _ c.new.ensures c.new-2.ensures.items; least = λ k. inl refl; next = inl (λ k. refl); rest = c.requires.ascending; keyed = c.requires.keyed }
+loop-row-init c = record { holds = none-held _ c.new.ensures.items c.new-2.ensures.items; least = λ k. inl refl; next = inl (λ k. refl); rest = c.requires.ascending; keyed = c.requires.keyed }
 
 pub loop-row-preserved : goal.loop-row-preserved
 loop-row-preserved c =
@@ -22,5 +22,5 @@ pub returns : goal.returns
 returns c =
     let ks = c.args.keyed.now in
     let e : c.loop-row.row-index ≡ length ks = omega arith in
-    subst (λ (ds : List KeyedRow). Keeps c.close.new.self.tree (groups_of (map row_of ds))) (ap (λ n. take n ks) e ∙ take-length ks)
-    (c.in_ok-close.ensures.tree (map row_of (take c.loop-row.row-index ks)) c.loop-row.invariant.holds)
+    subst (λ (ds : List KeyedRow). Give c.close.new.self.closed.items (groups_of (map row_of ds))) (ap (λ n. take n ks) e ∙ take-length ks)
+    (c.in_ok-close.ensures.closed (map row_of (take c.loop-row.row-index ks)) c.loop-row.invariant.holds)

@@ -1,14 +1,12 @@
-use Rattle.std.proofs.Common.{List, sym, subst, map}
-use Rattle.radix_root.specs.Leaves.{Keeps, groups_of}
-use Rattle.checkpoint.specs.declared.groups.KeyedRow.{KeyedRow}
-use Rattle.checkpoint.specs.Groups.{row_of, AreByKey}
-use Rattle.checkpoint.proofs.Adding.{groups-moved}
+use Rattle.std.proofs.Common.{List, ap, ◌∙◌}
+use Rattle.radix_root.specs.Leaves.{Leaves, digest_at}
+use Rattle.radix_root.specs.Groups.{digest_after}
+use Rattle.radix_root.specs.declared.group.Group.{Group}
 use Rattle.checkpoint.proofs.groups.tree_of.Goals as goal
 
-pub grouped-requires : goal.grouped-requires
-grouped-requires c = subst AreByKey (sym c.as_slice.ensures.value) c.in_ok-keyed.ensures.order
-
 pub returns : goal.returns
-returns c =
-    let tree = c.in_ok-tree.tree in
-    groups-moved tree c.in_ok-keyed.ensures.rows (subst (λ (ks : List KeyedRow). Keeps tree (groups_of (map row_of ks))) c.as_slice.ensures.value c.in_ok-tree.ensures)
+returns c = λ k.
+    c.in_ok-tree.ensures k
+    ∙ ap (λ (gs : List Group). digest_after gs (digest_at c.new.result k) k) c.as_slice.ensures.value
+    ∙ ap (λ (ls : Leaves). digest_after c.in_ok-groups.groups.items (digest_at ls k) k) c.new.ensures
+    ∙ c.in_ok-groups.ensures k

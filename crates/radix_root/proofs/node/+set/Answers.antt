@@ -1,11 +1,14 @@
-use Rattle.std.proofs.Common.{rules, ◌≡◌, ◌<◌, ◌+◌, ◌-◌, ◌*◌, List, ◌∷◌, ◌==◌, Some, None, true, false, length, map, refl, sym, ap, subst, ◌∙◌, arith, vec_len}
+use Rattle.std.proofs.Common.{rules, suc, ◌≡◌, ◌<◌, ◌+◌, ◌-◌, ◌*◌, List, ◌∷◌, ◌==◌, Some, None, true, false, length, map, refl, sym, ap, subst, ◌∙◌, arith, vec_len}
 use Rattle.std.proofs.lemmas.Bool.Decides.{nat_tests}
 use Rattle.std.proofs.lemmas.Result.{IfOk-weaker, on_ok_weaker}
 use Rattle.sha2.specs.Sha256.{sha256}
 use Rattle.calculus.specs.Bytes.{joined}
-use Rattle.radix_root.specs.Nodes.{Seen, leaves_of, height_of, AreLeaves, AllShare, Shares}
-use Rattle.radix_root.proofs.Forks.{fork-leaves, fork-set}
-use Rattle.radix_root.proofs.Wells.{forks, forks-leaves, well-leaf, well-fork, well-node, set-several, split-several, shared-at, depth-at, parts-below, both-ok}
+use Rattle.calculus.specs.Root.{sixteen}
+use Rattle.radix_root.specs.Nodes.{Seen, leaves_of, digest_under, height_of, AreLeaves, AllShare, Shares, IsPlace, NoneHas, IsNode, IsFork}
+use Rattle.radix_root.specs.Leaves.{digest_at}
+use Rattle.radix_root.proofs.Forks.{children-leaves}
+use Rattle.radix_root.proofs.Pushed.{leaf-pushed}
+use Rattle.radix_root.proofs.Wells.{forks, forks-leaves, fork-set, well-leaf, well-fork, well-node, set-several, split-several, shared-at, depth-at, parts-below, both-ok}
 use Rattle.radix_root.proofs.node.+set.Goals as goal
 
 pub Node::set-set_below-requires : goal.Node::set-set_below-requires
@@ -30,8 +33,8 @@ Node::set-invariant_of-self-then-not-is_empty t c =
     let some : 0 < length ins.children.items = grind (arith, nat_tests) in
     let f = forks ins.depth ins.digest.0 ins.key ins.children.items c.self.invariant some in
     well-fork ins.depth c.fork_digest-whole.result.0 ins.key c.set_below.new.children.items f.0 c.in_ok-made.ensures.fork
-    (set-several (leaves_of ins.children.items) (leaves_of c.set_below.new.children.items) c.args.key.now.0 c.args.digest.now.0 (fork-leaves ins.depth 0 ins.children.items f.1.children) c.requires.sizes.1 c.in_ok-made.ensures.groups f.2)
-    (c.fork_digest-whole.ensures ∙ ap (λ (cs : List Seen). sha256 (0x11 ∷ joined (map (λ (s : Seen). s.digest) cs))) c.as_slice.ensures.value)
+    (set-several (leaves_of ins.children.items) (leaves_of c.set_below.new.children.items) c.args.key.now.0 c.args.digest.now.0 (children-leaves ins.depth ins.children.items f.1.children) c.requires.sizes.1 c.in_ok-made.ensures.groups f.2)
+    (c.fork_digest-whole.ensures ∙ ap (λ (cs : List Seen). sha256 (0x11 ∷ joined (map (digest_under cs) sixteen))) c.as_slice.ensures.value)
 
 pub Node::set-returns-then-not-is_empty-clause-node : goal.Node::set-returns-then-not-is_empty-clause-node
 Node::set-returns-then-not-is_empty-clause-node t c =
@@ -41,9 +44,9 @@ Node::set-returns-then-not-is_empty-clause-node t c =
     let some : 0 < length ins.children.items = grind (arith, nat_tests) in
     let f = forks ins.depth ins.digest.0 ins.key ins.children.items c.self.invariant some in
     let well = well-fork ins.depth c.fork_digest-whole.result.0 ins.key c.set_below.new.children.items f.0 c.in_ok-made.ensures.fork
-    (set-several (leaves_of ins.children.items) (leaves_of c.set_below.new.children.items) c.args.key.now.0 c.args.digest.now.0 (fork-leaves ins.depth 0 ins.children.items f.1.children) c.requires.sizes.1 c.in_ok-made.ensures.groups f.2)
-    (c.fork_digest-whole.ensures ∙ ap (λ (cs : List Seen). sha256 (0x11 ∷ joined (map (λ (s : Seen). s.digest) cs))) c.as_slice.ensures.value) in
-    well-node ins.depth c.args.self.now.depth c.fork_digest-whole.result.0 ins.key c.set_below.new.children.items (height_of c.set_below.new.children.items) (ap (λ (s : Seen). s.depth) c.self.view_is) well
+    (set-several (leaves_of ins.children.items) (leaves_of c.set_below.new.children.items) c.args.key.now.0 c.args.digest.now.0 (children-leaves ins.depth ins.children.items f.1.children) c.requires.sizes.1 c.in_ok-made.ensures.groups f.2)
+    (c.fork_digest-whole.ensures ∙ ap (λ (cs : List Seen). sha256 (0x11 ∷ joined (map (digest_under cs) sixteen))) c.as_slice.ensures.value) in
+    well-node ins.depth c.args.self.now.depth ins.half c.fork_digest-whole.result.0 ins.key c.set_below.new.children.items (height_of c.set_below.new.children.items) (ap (λ (s : Seen). s.depth) c.self.view_is) well
 
 pub Node::set-invariant_of-self-in_default : goal.Node::set-invariant_of-self-in_default
 Node::set-invariant_of-self-in_default t c =
@@ -59,7 +62,7 @@ Node::set-returns-in_default-clause-node t c =
     let same : vec_len ins.children ≡ length ins.children.items = search rules in
     let test : (vec_len ins.children == 0) ≡ true = sym c.is_empty.ensures ∙ c.if-not-is_empty.false in
     let none : length ins.children.items ≡ 0 = grind (arith, nat_tests) in
-    well-node ins.depth c.args.self.now.depth c.args.digest.now.0 (Some c.args.key.now) ins.children.items (height_of ins.children.items) (ap (λ (s : Seen). s.depth) c.self.view_is)
+    well-node ins.depth c.args.self.now.depth ins.half c.args.digest.now.0 (Some c.args.key.now) ins.children.items (height_of ins.children.items) (ap (λ (s : Seen). s.depth) c.self.view_is)
     (well-leaf ins.depth c.args.key.now c.args.digest.now.0 ins.children.items c.self.invariant.within c.requires.sizes.0 c.requires.sizes.1 none)
 
 pub Node::split-forked-requires : goal.Node::split-forked-requires
@@ -94,7 +97,7 @@ Node::split-invariant_of-self t c =
     let long = ap length (ap (λ (s : Seen). s.digest) c.self.view_is) ∙ (subst AreLeaves c.requires.one all).0.1 in
     let several = split-several (leaves_of c.in_ok-children.children.items) (leaves_of c.set_below.new.children.items) c.args.own.now.0 ins.digest.0 c.args.key.now.0 c.args.digest.now.0 c.in_ok-children.ensures.leaves long c.requires.sizes.1 c.requires.other c.in_ok-made.ensures.groups in
     well-fork ins.depth c.fork_digest-self-inside.result.0 None c.set_below.new.children.items refl c.in_ok-made.ensures.fork several
-    (c.fork_digest-self-inside.ensures ∙ ap (λ (cs : List Seen). sha256 (0x11 ∷ joined (map (λ (s : Seen). s.digest) cs))) c.as_slice.ensures.value)
+    (c.fork_digest-self-inside.ensures ∙ ap (λ (cs : List Seen). sha256 (0x11 ∷ joined (map (digest_under cs) sixteen))) c.as_slice.ensures.value)
 
 pub Node::split-returns-clause-node : goal.Node::split-returns-clause-node
 Node::split-returns-clause-node t c =
@@ -104,8 +107,8 @@ Node::split-returns-clause-node t c =
     let long = ap length (ap (λ (s : Seen). s.digest) c.self.view_is) ∙ (subst AreLeaves c.requires.one all).0.1 in
     let several = split-several (leaves_of c.in_ok-children.children.items) (leaves_of c.set_below.new.children.items) c.args.own.now.0 ins.digest.0 c.args.key.now.0 c.args.digest.now.0 c.in_ok-children.ensures.leaves long c.requires.sizes.1 c.requires.other c.in_ok-made.ensures.groups in
     let well = well-fork ins.depth c.fork_digest-self-inside.result.0 None c.set_below.new.children.items refl c.in_ok-made.ensures.fork several
-    (c.fork_digest-self-inside.ensures ∙ ap (λ (cs : List Seen). sha256 (0x11 ∷ joined (map (λ (s : Seen). s.digest) cs))) c.as_slice.ensures.value) in
-    well-node ins.depth now.depth c.fork_digest-self-inside.result.0 None c.set_below.new.children.items (height_of c.set_below.new.children.items) (ap (λ (s : Seen). s.depth) c.self.view_is) well
+    (c.fork_digest-self-inside.ensures ∙ ap (λ (cs : List Seen). sha256 (0x11 ∷ joined (map (digest_under cs) sixteen))) c.as_slice.ensures.value) in
+    well-node ins.depth now.depth ins.half c.fork_digest-self-inside.result.0 None c.set_below.new.children.items (height_of c.set_below.new.children.items) (ap (λ (s : Seen). s.depth) c.self.view_is) well
 
 pub set_below-set-requires : goal.set_below-set-requires
 set_below-set-requires t c =
@@ -113,26 +116,48 @@ set_below-set-requires t c =
     let half = c.half_at-half in
     let items = c.args.children.now.items in
     let at_half = sym c.index_mut.ensures.value in
-    let deep : o.depth ≡ c.args.depth + 1 = depth-at c.args.depth half.result items o c.requires.fork half.ensures.small at_half ∙ omega arith in
+    let place = subst (λ (cs : List Seen). IsPlace half.result cs c.in-Some.place) c.as_slice.ensures.value c.in-Some.ensures.some in
+    let deep : o.depth ≡ c.args.depth + 1 = depth-at c.args.depth half.result c.in-Some.place items o c.requires.fork place at_half ∙ omega arith in
     let falls : 3 * (64 - o.depth) + 2 < 3 * (64 - c.args.depth) = omega (arith, deep, c.requires.fork.within) in
-    (search rules, (shared-at c.args.depth c.args.key.now.0 half.result items o c.requires.fork c.requires.shared half.ensures.half half.ensures.small at_half, c.requires.sizes))
+    (search rules, (shared-at c.args.depth half.result c.args.key.now.0 c.in-Some.place items o c.requires.fork c.requires.shared half.ensures.half place at_half, c.requires.sizes))
 
-pub set_below-returns-clause-fork : goal.set_below-returns-clause-fork
-set_below-returns-clause-fork t c =
+pub set_below-returns-in-Some-clause-fork : goal.set_below-returns-in-Some-clause-fork
+set_below-returns-in-Some-clause-fork t c =
     let half = c.half_at-half in
+    let place = subst (λ (cs : List Seen). IsPlace half.result cs c.in-Some.place) c.as_slice.ensures.value c.in-Some.ensures.some in
     on_ok_weaker c.set.result
-    (λ p. (fork-set c.args.depth half.result c.args.children.now.items c.index_mut.result.now c.set.new.self c.args.key.now.0 c.args.digest.now.0 c.requires.fork half.ensures.half half.ensures.small (sym c.index_mut.ensures.value) p.0 p.1).0)
+    (λ p. (fork-set c.args.depth half.result c.in-Some.place c.args.children.now.items c.index_mut.result.now c.set.new.self c.args.key.now.0 c.args.digest.now.0 c.requires.fork half.ensures.half place (sym c.index_mut.ensures.value) p.0 c.set.ensures.half p.1).0)
     (both-ok _ _ c.set.result c.set.ensures.node c.set.ensures.groups)
 
-pub set_below-returns-clause-groups : goal.set_below-returns-clause-groups
-set_below-returns-clause-groups t c =
+pub set_below-returns-in-Some-clause-groups : goal.set_below-returns-in-Some-clause-groups
+set_below-returns-in-Some-clause-groups t c =
     let half = c.half_at-half in
+    let place = subst (λ (cs : List Seen). IsPlace half.result cs c.in-Some.place) c.as_slice.ensures.value c.in-Some.ensures.some in
     on_ok_weaker c.set.result
-    (λ p. (fork-set c.args.depth half.result c.args.children.now.items c.index_mut.result.now c.set.new.self c.args.key.now.0 c.args.digest.now.0 c.requires.fork half.ensures.half half.ensures.small (sym c.index_mut.ensures.value) p.0 p.1).1)
+    (λ p. (fork-set c.args.depth half.result c.in-Some.place c.args.children.now.items c.index_mut.result.now c.set.new.self c.args.key.now.0 c.args.digest.now.0 c.requires.fork half.ensures.half place (sym c.index_mut.ensures.value) p.0 c.set.ensures.half p.1).1)
     (both-ok _ _ c.set.result c.set.ensures.node c.set.ensures.groups)
 
-pub set_below-returns-clause-made : goal.set_below-returns-clause-made
-set_below-returns-clause-made t c =
+pub set_below-returns-in-Some-clause-made : goal.set_below-returns-in-Some-clause-made
+set_below-returns-in-Some-clause-made t c =
     let half = c.half_at-half in
-    let deep = depth-at c.args.depth half.result c.args.children.now.items c.index_mut.result.now c.requires.fork half.ensures.small (sym c.index_mut.ensures.value) in
+    let place = subst (λ (cs : List Seen). IsPlace half.result cs c.in-Some.place) c.as_slice.ensures.value c.in-Some.ensures.some in
+    let deep = depth-at c.args.depth half.result c.in-Some.place c.args.children.now.items c.index_mut.result.now c.requires.fork place (sym c.index_mut.ensures.value) in
     IfOk-weaker c.set.result _ _ (λ n h. omega (arith, h, deep)) c.set.ensures.made
+
+pub set_below-returns-in_ok-push-in-None-clause-fork : goal.set_below-returns-in_ok-push-in-None-clause-fork
+set_below-returns-in_ok-push-in-None-clause-fork t c =
+    let half = c.half_at-half in
+    let items = c.args.children.now.items in
+    let none = subst (λ h. NoneHas h items) (sym c.leaf.ensures.half) (subst (λ (cs : List Seen). NoneHas half.result cs) c.as_slice.ensures.value c.in-None.ensures.none) in
+    let next : c.args.depth + 1 ≡ suc c.args.depth = omega arith in
+    let pushed = leaf-pushed c.args.depth items c.leaf.result c.args.key.now.0 c.args.digest.now.0 c.requires.fork none (sym half.ensures.half ∙ sym c.leaf.ensures.half) (subst (λ m. IsNode m c.leaf.result) next c.leaf.ensures.node) c.leaf.ensures.leaves in
+    subst (IsFork c.args.depth) (sym c.in_ok-push-in-None.ensures.items) pushed.0
+
+pub set_below-returns-in_ok-push-in-None-clause-groups : goal.set_below-returns-in_ok-push-in-None-clause-groups
+set_below-returns-in_ok-push-in-None-clause-groups t c = λ k.
+    let half = c.half_at-half in
+    let items = c.args.children.now.items in
+    let none = subst (λ h. NoneHas h items) (sym c.leaf.ensures.half) (subst (λ (cs : List Seen). NoneHas half.result cs) c.as_slice.ensures.value c.in-None.ensures.none) in
+    let next : c.args.depth + 1 ≡ suc c.args.depth = omega arith in
+    let pushed = leaf-pushed c.args.depth items c.leaf.result c.args.key.now.0 c.args.digest.now.0 c.requires.fork none (sym half.ensures.half ∙ sym c.leaf.ensures.half) (subst (λ m. IsNode m c.leaf.result) next c.leaf.ensures.node) c.leaf.ensures.leaves in
+    ap (λ (cs : List Seen). digest_at (leaves_of cs) k) c.in_ok-push-in-None.ensures.items ∙ pushed.1 k

@@ -1,5 +1,6 @@
 use Rattle.std.proofs.Common.{◌≡◌, ◌+◌, suc, false, [], ◌∷◌, sym, ap, subst, ◌∙◌, append-nil, arith}
-use Rattle.std.specs.Prelude.{Some, Option, option_map, option_copied}
+use Rattle.std.specs.Prelude.{Some, Option, option_map, option_copied, slice_get}
+use Rattle.racing_replays.specs.Counted.{uses}
 use Rattle.calculus.specs.Steps.{is_one_of}
 use Rattle.replay_scene.specs.Spaces.{SeenRow}
 use Rattle.replay_shards.specs.Hands.{all_shown, parts_of}
@@ -24,6 +25,6 @@ returns-in_ok-push-in-Some-2 c ss q rig found =
     let one : Some (seen_row seen) ≡ Some q = sym (ap (λ o. option_map seen_row (option_copied o)) c.in-Some.is) ∙ c.find_in.ensures ∙ found in
     let same : seen_row seen ≡ q = cc one in
     let out : is_one_of (seen_row seen).row.id gone ≡ false = ap (λ y. is_one_of y gone) (ap (λ (w : SeenRow). w.row.id) same ∙ sym x) ∙ sym c.is_among.ensures ∙ c.if-is_among.false in
-    let used : IsUseTry ss seen.row (seen.done + 1) (c.in-Some-2.tried ∷ []) = subst (λ (o : Option Try). IsUseTry ss seen.row (seen.done + 1) (if_any o)) c.in-Some-2.is (c.in_ok-use_try.ensures ss rig) in
+    let used : IsUseTry ss seen.row (seen.done + 1) (c.in-Some-2.tried ∷ []) = subst (λ (o : Option Try). IsUseTry ss seen.row (seen.done + 1) (if_any o)) c.in-Some-2.is (c.in_ok-use_try.ensures ss (seen.done + 1) (c.next_use_at-next_use.ensures ss rig ∙ ap (λ x. slice_get (uses x 0 ss) (seen.done + 1)) c.id.ensures)) in
     let next : seen.done + 1 ≡ suc seen.done = omega arith in
     record { more = c.in-Some-2.tried ∷ []; are = c.in_ok-push-in-Some-2.ensures.items; next = subst (λ (w : SeenRow). AreNext ss gone (w ∷ []) (c.in-Some-2.tried ∷ [])) same (one-next ss gone (seen_row seen) (c.in-Some-2.tried ∷ []) (seen.done + 1) next out used) }

@@ -1,4 +1,4 @@
-use Rattle.term_code.proofs.Exit.{exit}
+use Rattle.code_faults.proofs.Exit.{exit}
 use Rattle.row_reader.proofs.Joins.{cut-here}
 use Rattle.row_reader.proofs.SentRows.{none-refused, none-there}
 use Rattle.row_reader.proofs.front.any_row.Goals as goal

@@ -4,12 +4,12 @@ use Rattle.calculus.specs.Shape.{leaf, many}
 use Rattle.calculus.specs.Tree.{row, rest}
 use Rattle.calculus.specs.Variables.{bound}
 use Rattle.rho_term.specs.Parts.{bind_tree}
-use Rattle.term_code.specs.Scopes.{senses_of}
-use Rattle.term_code.proofs.Exit.{exit}
-use Rattle.term_code.proofs.Rows.{row-done}
-use Rattle.term_code.proofs.Parts.{bind-form, bind-bound}
-use Rattle.term_code.proofs.Pushing.{row-start, row-push, count-push, bound-start, bound-push}
-use Rattle.term_code.proofs.PatExits.{bind-channel, bind-patterns, bind-rest}
+use Rattle.code_faults.specs.Scopes.{senses_of}
+use Rattle.code_faults.proofs.Exit.{exit}
+use Rattle.code_faults.proofs.Rows.{row-done}
+use Rattle.code_faults.proofs.Parts.{bind-form, bind-bound}
+use Rattle.code_faults.proofs.Pushing.{row-start, row-push, count-push, bound-start, bound-push}
+use Rattle.code_faults.proofs.PatExits.{bind-channel, bind-patterns, bind-rest}
 use Rattle.row_reader.proofs.Joins.{join-start, join-push, join-codes, number-join, join-low, join-refused, join-lower, memory-join, cut-where, cut-here, cut-told, number-join_begun, join-channel_begun, join-patterns_begun, join-rest_begun}
 use Rattle.row_reader.proofs.front.join.Goals as goal
 

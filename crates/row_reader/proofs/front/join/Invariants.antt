@@ -3,9 +3,9 @@ use Rattle.calculus.specs.Form.{a_bind}
 use Rattle.calculus.specs.Tree.{trees}
 use Rattle.calculus.specs.Variables.{bound_all}
 use Rattle.rho_term.specs.Parts.{bind_tree}
-use Rattle.term_code.specs.Scopes.{scope_of, senses_of}
+use Rattle.code_faults.specs.Scopes.{scope_of, senses_of}
 use Rattle.row_reader.proofs.Joins.{Join}
-use Rattle.term_code.proofs.Rows.{Row}
+use Rattle.code_faults.proofs.Rows.{Row}
 use Rattle.row_reader.proofs.front.join.Given as goal
 
 abbrev pub invariant-loop-i : goal.invariant-loop-i

@@ -2,10 +2,10 @@ use Rattle.std.proofs.Common.{map, sym, subst}
 use Rattle.calculus.specs.Order.{IsAscending}
 use Rattle.rho_term.specs.Parts.{bind_tree}
 use Rattle.term_encoder.proofs.Codes.{length-map}
-use Rattle.term_code.proofs.Exit.{exit}
+use Rattle.code_faults.proofs.Exit.{exit}
 use Rattle.row_reader.proofs.Joins.{cut-where, cut-here, cut-on, join-codes}
 use Rattle.row_reader.proofs.JoinRows.{id-refused, kind-refused, binds-refused, body-refused, id-cut, kind-cut, binds-cut, body-cut, receive-read}
-use Rattle.term_code.proofs.Scoped.{reads-unscoped}
+use Rattle.code_faults.proofs.Scoped.{reads-unscoped}
 use Rattle.row_reader.proofs.SentRows.{join-unscoped, begun-join_unscoped, join-scope}
 use Rattle.row_reader.proofs.front.receive_row.Goals as goal
 

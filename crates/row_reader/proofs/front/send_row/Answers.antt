@@ -1,7 +1,7 @@
-use Rattle.term_code.proofs.BegunMore.{begun-unscoped}
-use Rattle.term_code.proofs.Exit.{exit}
+use Rattle.code_faults.proofs.BegunMore.{begun-unscoped}
+use Rattle.code_faults.proofs.Exit.{exit}
 use Rattle.row_reader.proofs.Joins.{cut-where, cut-here}
-use Rattle.term_code.proofs.Scoped.{reads-unscoped, refuses-unscoped}
+use Rattle.code_faults.proofs.Scoped.{reads-unscoped, refuses-unscoped}
 use Rattle.row_reader.proofs.SentRows.{row-unscoped, begun-row_unscoped, id-refused, channel-refused, flag-refused, args-refused, id-cut, channel-cut, flag-cut, args-cut, send-read}
 use Rattle.row_reader.proofs.front.send_row.Goals as goal
 

@@ -6,7 +6,8 @@ use Rattle.calculus.specs.Root.{root}
 use Rattle.calculus.specs.Steps.{differ}
 use Rattle.replays.specs.Replays.{Refusal, header_refusal, deploy_under}
 use Rattle.replay_answers.specs.Answers.{Clashes, IsAnswered}
-use Rattle.replay_answers.specs.Bases.{asked, ids_of, AreQuiet}
+use Rattle.replay_answers.specs.Bases.{asked, ids_of}
+use Rattle.states.specs.Quiet.{AreQuiet}
 use Rattle.replay_faults.specs.Refusals.{refusal_of}
 use Rattle.run_replays.specs.ReplayPlans.{header_in, steps_in, IsPlanned}
 use Rattle.run_deploys.proofs.Running.{numberable}

@@ -8,9 +8,10 @@ use Rattle.scope.specs.Binding.{variables, inside, uses_more}
 use Rattle.scope.specs.Rules.{outside, after, where_so, how_many, pattern_wide, pattern_binder, breaks, all_breaks}
 use Rattle.scope_check.specs.Faults.{IsRefusal}
 use Rattle.scope_check.specs.Walks.{Judges}
-use Rattle.scope_check.proofs.Insides.{refusal-left, refusal-right, judges-right, judges-end, bound-two, loop-refusal, many-members, inside-two, on-ok}
-use Rattle.scope_check.specs.Pairs.{proc_pair, pat_pair}
-use Rattle.scope_check.proofs.Meanings.{proc-pairs, pat-pairs, rest-breaks}
+use Rattle.scope_variables.proofs.Insides.{bound-two, inside-two}
+use Rattle.scope_check.proofs.Refusals.{refusal-left, refusal-right, judges-right, judges-end, loop-refusal, many-members, on-ok}
+use Rattle.open_processes.specs.Pairs.{proc_pair, pat_pair}
+use Rattle.open_processes.proofs.Meanings.{proc-pairs, pat-pairs, rest-breaks}
 use Rattle.scope_check.proofs.Narrow.{breaks-narrow}
 use Rattle.scope_check.proofs.check.+check.Goals as goal
 

@@ -3,7 +3,7 @@ use Rattle.calculus.specs.Written.{writtens}
 use Rattle.calculus.specs.Meaning.{proc_written, pat_written, name_pat_written, bind_written, case_written}
 use Rattle.scope.specs.Binding.{all_variables, inside}
 use Rattle.scope.specs.Rules.{outside, after, all_breaks}
-use Rattle.scope_check.specs.Pairs.{proc_pair, pat_pair}
+use Rattle.open_processes.specs.Pairs.{proc_pair, pat_pair}
 use Rattle.scope_check.proofs.check.+check.Given as goal
 
 abbrev pub invariant-check_processes-loop-p : goal.invariant-check_processes-loop-p

@@ -1,10 +1,10 @@
 use Rattle.std.proofs.Common.{⊎_elim, sym, ◌∙◌, arith}
-use Rattle.term_code.proofs.Decoding.{only-memory_at_end, cut-answer, cut-unread, none-past, begun-only, begun-until, deep-begun, further, err-same, err-either, told-same}
-use Rattle.term_code.proofs.BegunMore.{begun-unscoped}
-use Rattle.term_code.proofs.Places.{goes-on}
-use Rattle.term_code.proofs.Scoped.{refuses-unscoped, reads-unscoped}
-use Rattle.term_code.proofs.BlamedParts.{wrong-unscoped}
-use Rattle.term_code.proofs.BlamedWhole.{place-told, deep-told, further-byte}
+use Rattle.code_faults.proofs.Decoding.{only-memory_at_end, cut-answer, cut-unread, none-past, begun-only, begun-until, deep-begun, further, err-same, err-either, told-same}
+use Rattle.code_faults.proofs.BegunMore.{begun-unscoped}
+use Rattle.code_faults.proofs.Places.{goes-on}
+use Rattle.code_faults.proofs.Scoped.{refuses-unscoped, reads-unscoped}
+use Rattle.code_faults.proofs.BlamedParts.{wrong-unscoped}
+use Rattle.code_faults.proofs.BlamedWhole.{place-told, deep-told, further-byte}
 use Rattle.term_code.proofs.decode.decode_term.Goals as goal
 
 pub returns-in-Err-clause-all : goal.returns-in-Err-clause-all

@@ -1,5 +1,5 @@
 use Rattle.std.proofs.Common.{◌≡◌, ◌++◌, replicate}
-use Rattle.term_code.specs.declared.reader.Sense.TheVariants.{Name}
+use Rattle.code_faults.specs.declared.sort.Sense.TheVariants.{Name}
 use Rattle.term_code.proofs.decode.under_names.Given as goal
 
 abbrev pub invariant-loop-i : goal.invariant-loop-i

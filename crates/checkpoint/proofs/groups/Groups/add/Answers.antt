@@ -9,5 +9,5 @@ returns-clause-holds c = λ rows h p.
     let e = sym c.requires ∙ sym c.in_ok-turn.ensures.key in
     record {
       codes = codes-added (λ v. v.items) c.turn.new.self.codes.items c.push.new.self.items c.in_ok-code.code rows (row_of c.args.keyed.now) c.turn.new.self.key.0 c.in_ok-push.ensures.items c.in_ok-code.ensures t.codes e;
-      tree = open-push c.turn.new.self.tree c.turn.new.self.key.0 rows (row_of c.args.keyed.now) e t.tree;
+      closed = open-push c.turn.new.self.closed.items c.turn.new.self.key.0 rows (row_of c.args.keyed.now) e t.closed;
     }

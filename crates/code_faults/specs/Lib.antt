@@ -1,0 +1,12 @@
+pub mod Scopes
+pub mod Tags
+pub mod Places
+pub mod Blaming
+pub mod Texts
+pub mod Reading
+pub mod Wide
+pub mod Refusing
+pub mod Beginning
+pub mod Readable
+pub mod Laws
+pub mod ExamplesPlaces

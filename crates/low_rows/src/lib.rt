@@ -1,9 +1,0 @@
-//! Names, made terms and the edge of the system, by calls that no text spells. The crate has tests alone.
-#![tactic(auto)]
-
-#[cfg(test)]
-mod made_terms;
-#[cfg(test)]
-mod names;
-#[cfg(test)]
-mod outside;

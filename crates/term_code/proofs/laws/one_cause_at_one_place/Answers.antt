@@ -1,5 +1,0 @@
-use Rattle.term_code.proofs.OneCause.{one_cause_at_one_place}
-use Rattle.term_code.proofs.laws.one_cause_at_one_place.Goals as goal
-
-pub returns : goal.returns
-returns c = record { law = one_cause_at_one_place }

@@ -1,5 +1,0 @@
-use Rattle.term_code.proofs.Refuting.{wrong_bytes_are_no_code}
-use Rattle.term_code.proofs.laws.wrong_bytes_are_no_code.Goals as goal
-
-pub returns : goal.returns
-returns c = record { law = wrong_bytes_are_no_code }

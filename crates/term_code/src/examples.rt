@@ -1,8 +1,0 @@
-// Worked examples stand in the contract of a function that does nothing.
-
-ghost use Rattle.term_code.specs.ExamplesPlaces.{PlaceExamples};
-
-/// Worked examples of places where bytes are wrong.
-pub fn place_examples()
-    ensures examples { PlaceExamples }
-{}
