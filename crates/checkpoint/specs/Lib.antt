@@ -1,3 +1,4 @@
 pub mod Kept
 pub mod Groups
 pub mod Texts
+pub mod Marks

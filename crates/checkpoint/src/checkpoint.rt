@@ -2,8 +2,10 @@ ghost use Rattle.std.specs.Prelude.{◌≡◌, [], IfOk};
 ghost use Rattle.calculus.specs.Root.{root};
 ghost use Rattle.radix_root.specs.Leaves.{groups_of, Keeps};
 ghost use Rattle.checkpoint.specs.Kept.{AreKept};
+ghost use Rattle.checkpoint.specs.Marks.{AreMarks};
 
-use crate::groups::tree_of;
+use crate::groups::marked_tree;
+use crate::marks::Mark;
 use calculus::Digest;
 use radix_root::RadixTree;
 use space_row::Row;
@@ -13,11 +15,21 @@ use std::marker::Model;
 /// The rows that a run starts from or leaves, seen as their list, ascending in their codes.
 ///
 /// Each row may be stored, no two have one id, and where no id is that of a built-in receiver the rows and the
-/// built-in receivers allow no step. The tree of their groups is kept beside them.
+/// built-in receivers allow no step. The tree of their groups and a mark of
+/// each row are kept beside them.
 #[derive(Drop)]
 pub struct Checkpoint {
     rows: Vec<Row>,
     tree: RadixTree,
+    marks: Vec<Mark>,
+}
+
+/// All that a checkpoint keeps.
+#[derive(Drop)]
+pub struct Parts {
+    pub rows: Vec<Row>,
+    pub tree: RadixTree,
+    pub marks: Vec<Mark>,
 }
 
 impl Model for Checkpoint {
@@ -25,6 +37,7 @@ impl Model for Checkpoint {
     ghost use Rattle.calculus.specs.Rows.{Row as CalculusRow};
     ghost use Rattle.radix_root.specs.Leaves.{Keeps, groups_of};
     ghost use Rattle.checkpoint.specs.Kept.{AreKept};
+    ghost use Rattle.checkpoint.specs.Marks.{AreMarks};
 
     ghost Value = { List CalculusRow };
 
@@ -35,7 +48,7 @@ impl Model for Checkpoint {
 
     ghost view = { λ a. a.rows.items };
 
-    ghost invariant = { λ a. AreKept a.rows.items × Keeps a.tree (groups_of a.rows.items) };
+    ghost invariant = { λ a. AreKept a.rows.items × Keeps a.tree (groups_of a.rows.items) × AreMarks a.marks.items a.rows.items };
 }
 
 impl Checkpoint {
@@ -46,6 +59,7 @@ impl Checkpoint {
         Checkpoint {
             rows: Vec::new(alloc),
             tree: RadixTree::new(alloc),
+            marks: Vec::new(alloc),
         }
     }
 
@@ -54,17 +68,18 @@ impl Checkpoint {
         requires { AreKept rows.items }
         ensures { IfOk result (λ c. c ≡ rows.items) }
     {
-        let tree = tree_of(alloc, rows.as_slice())?;
-        Ok(Checkpoint { rows, tree })
+        let (tree, marks) = marked_tree(alloc, rows.as_slice())?;
+        Ok(Checkpoint { rows, tree, marks })
     }
 
-    /// The checkpoint of these rows, whose groups the tree has.
-    pub fn with_tree(rows: Vec<Row>, tree: RadixTree) -> Checkpoint
+    /// The checkpoint of these rows, whose groups the tree has, and whose marks these are.
+    pub fn with_tree(rows: Vec<Row>, tree: RadixTree, marks: Vec<Mark>) -> Checkpoint
         requires kept { AreKept rows.items }
         requires tree { Keeps tree (groups_of rows.items) }
+        requires marks { AreMarks marks.items rows.items }
         ensures { result ≡ rows.items }
     {
-        Checkpoint { rows, tree }
+        Checkpoint { rows, tree, marks }
     }
 
     /// Its rows.
@@ -81,6 +96,17 @@ impl Checkpoint {
         ensures kept { AreKept self }
     {
         self.rows
+    }
+
+    /// All that it keeps, given away.
+    pub fn into_parts(self) -> Parts
+        ensures is { result.rows.items ≡ self }
+        ensures kept { AreKept self }
+        ensures tree { Keeps result.tree (groups_of self) }
+        ensures marks { AreMarks result.marks.items self }
+    {
+        let Checkpoint { rows, tree, marks } = self;
+        Parts { rows, tree, marks }
     }
 
     /// The root of its rows. No digest is made.

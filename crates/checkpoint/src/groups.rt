@@ -4,7 +4,9 @@ ghost use Rattle.std.specs.Str.{bytes_eq};
 ghost use Rattle.calculus.specs.Rows.{Row as AnyRow};
 ghost use Rattle.radix_root.specs.Leaves.{codes_at, groups_of, Keeps};
 ghost use Rattle.checkpoint.specs.Groups.{row_of, AreByKey, Give, Holds, IsKeyed};
+ghost use Rattle.checkpoint.specs.Marks.{AreMarks};
 
+use crate::marks::{Mark, marks_of};
 use calculus::Digest;
 use radix_root::{Group, RadixTree};
 use space_row::{Row, row_code, row_key};
@@ -85,11 +87,11 @@ fn keyed_rows<'a>(alloc: Global, rows: &'a [Row]) -> Result<Vec<KeyedRow<'a>>, A
 }
 
 // These rows in the order of the keys of their groups.
-fn rows_by_key<'a>(alloc: Global, rows: &'a [Row]) -> Result<Vec<KeyedRow<'a>>, AllocError>
-    ensures rows { IfOk result (λ v. IsPermutation rows.now (map row_of v.items)) }
+fn sorted_by_key<'a>(mut keyed: Vec<KeyedRow<'a>>) -> Result<Vec<KeyedRow<'a>>, AllocError>
+    requires { All IsKeyed keyed.items }
+    ensures rows { IfOk result (λ v. IsPermutation (map row_of keyed.entry.items) (map row_of v.items)) }
     ensures order { IfOk result (λ v. AreByKey v.items) }
 {
-    let mut keyed = keyed_rows(alloc, rows)?;
     keyed.sort_by(|a, b| a.key.0.cmp(&b.key.0))?;
     Ok(keyed)
 }
@@ -98,17 +100,39 @@ fn rows_by_key<'a>(alloc: Global, rows: &'a [Row]) -> Result<Vec<KeyedRow<'a>>, 
 pub fn tree_of(alloc: Global, rows: &[Row]) -> Result<RadixTree, AllocError>
     ensures { IfOk result (λ t. Keeps t (groups_of rows.now)) }
 {
-    let groups = groups_by_key(alloc, rows)?;
+    let keyed = keyed_rows(alloc, rows)?;
+    let tree = tree_by_keys(alloc, keyed)?;
+    Ok(tree)
+}
+
+/// The tree of the groups of these rows, and the marks of these. Want of memory is the one error.
+pub fn marked_tree(alloc: Global, rows: &[Row]) -> Result<(RadixTree, Vec<Mark>), AllocError>
+    ensures tree { IfOk result (λ p. Keeps p.0 (groups_of rows.now)) }
+    ensures marks { IfOk result (λ p. AreMarks p.1.items rows.now) }
+{
+    let keyed = keyed_rows(alloc, rows)?;
+    let marks = marks_of(alloc, keyed.as_slice())?;
+    let tree = tree_by_keys(alloc, keyed)?;
+    Ok((tree, marks))
+}
+
+// The tree of the groups of these rows.
+fn tree_by_keys(alloc: Global, keyed: Vec<KeyedRow<'_>>) -> Result<RadixTree, AllocError>
+    requires { All IsKeyed keyed.items }
+    ensures { IfOk result (λ t. Keeps t (groups_of (map row_of keyed.entry.items))) }
+{
+    let groups = groups_by_key(alloc, keyed)?;
     let tree = RadixTree::new(alloc).with_groups(alloc, groups.as_slice())?;
     Ok(tree)
 }
 
 // The groups of these rows, in the order of their keys.
-fn groups_by_key(alloc: Global, rows: &[Row]) -> Result<Vec<Group>, AllocError>
-    ensures { IfOk result (λ v. Give v.items (groups_of rows.now)) }
+fn groups_by_key(alloc: Global, keyed: Vec<KeyedRow<'_>>) -> Result<Vec<Group>, AllocError>
+    requires { All IsKeyed keyed.items }
+    ensures { IfOk result (λ v. Give v.items (groups_of (map row_of keyed.entry.items))) }
 {
-    let keyed = rows_by_key(alloc, rows)?;
-    let groups = grouped(alloc, keyed.as_slice())?;
+    let sorted = sorted_by_key(keyed)?;
+    let groups = grouped(alloc, sorted.as_slice())?;
     Ok(groups)
 }
 

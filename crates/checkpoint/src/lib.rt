@@ -3,11 +3,13 @@
 
 mod checkpoint;
 mod groups;
+mod marks;
 mod outcome;
 mod text;
 
-pub use checkpoint::Checkpoint;
-pub use groups::tree_of;
+pub use checkpoint::{Checkpoint, Parts};
+pub use groups::{marked_tree, tree_of};
+pub use marks::Mark;
 pub use outcome::Outcome;
 pub use run_verdict::Verdict;
-pub use text::{state_of, write_state};
+pub use text::{state_of, text_of_codes, write_state};

@@ -95,8 +95,12 @@ fn codes_of_rows(alloc: Global, rows: Vec<Row>) -> Result<Vec<Vec<u8>>, AllocErr
     Ok(codes)
 }
 
-// The text of a state with this root and these codes, as they stand.
-fn text_of_codes(alloc: Global, root: &Digest, codes: Vec<Vec<u8>>) -> Result<Vec<u8>, AllocError>
+/// The text of a state with this root and these codes, as they stand. Want of memory is the one error.
+pub fn text_of_codes(
+    alloc: Global,
+    root: &Digest,
+    codes: Vec<Vec<u8>>,
+) -> Result<Vec<u8>, AllocError>
     ensures { IfOk result (λ v. v.items ≡ text_with root.now.0 (map (λ c. c.items) codes.items)) }
 {
     let mut text = head_text(alloc, root, codes.len())?;

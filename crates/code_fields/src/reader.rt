@@ -11,8 +11,12 @@ ghost use Rattle.code_faults.specs.Blaming.{IsShallow, TellsNone, Wrong, InByte,
 ghost use Rattle.code_faults.specs.declared.fault.ReadFault.TheVariants.{NotCanonical};
 
 use code_faults::ReadFault;
+use rho_term::with_room;
 use std::alloc::Global;
 use std::cmp::Ordering;
+
+/// For how many items a list has room before the first is read: a code may tell any number, and then end.
+const FIRST_ROOM: u32 = 16;
 
 /// A reader of codes: the bytes that are left, and how many there were. A wrong byte's place is told by how
 /// many bytes stand from there on.
@@ -26,6 +30,13 @@ pub struct Reader<'a> {
 }
 
 impl<'a> Reader<'a> {
+    /// A list without items, with room for so many, but for 16 at most.
+    pub fn list<T>(&self, count: u32) -> Vec<T>
+        ensures { result.items ≡ [] }
+    {
+        with_room(self.alloc, count.min(FIRST_ROOM) as usize)
+    }
+
     /// The place of the next byte.
     pub fn place(&self) -> usize
         ensures { result ≡ length self.now.input.now }

@@ -8,7 +8,7 @@ ghost use Rattle.rho_term.specs.Parts.{part_tree, pair_tree};
 ghost use Rattle.term_order.specs.Orders.{Suits};
 
 use crate::suited::{SuitedPair, SuitedPart, SuitedTerm, pair_suits, part_suits, term_suits};
-use rho_term::{Part, Term};
+use rho_term::{Part, Term, with_room};
 use std::alloc::{AllocError, Global};
 
 /// Whether all of these parts are seen to suit.
@@ -39,7 +39,7 @@ fn suited_parts(alloc: Global, parts: Vec<Part>) -> Result<Vec<SuitedPart>, Allo
     requires { All (λ p. Suits of_part (part_tree p)) parts.items }
     ensures { IfOk result (λ v. v.items ≡ map part_tree parts.items) }
 {
-    let mut suited = Vec::new(alloc);
+    let mut suited = with_room(alloc, parts.len());
     for part in parts {
         suited.push(SuitedPart::new(part))?;
     }
@@ -50,7 +50,7 @@ fn plain_parts(alloc: Global, suited: Vec<SuitedPart>) -> Result<Vec<Part>, Allo
     ensures trees { IfOk result (λ v. map part_tree v.items ≡ suited.items) }
     ensures members { IfOk result (λ v. All (λ p. IsOrdered (part_tree p)) v.items) }
 {
-    let mut parts = Vec::new(alloc);
+    let mut parts = with_room(alloc, suited.len());
     for part in suited {
         parts.push(part.into_part())?;
     }
@@ -83,7 +83,7 @@ fn suited_terms(alloc: Global, terms: Vec<Term>) -> Result<Vec<SuitedTerm>, Allo
     requires { All (λ t. Suits process t) terms.items }
     ensures { IfOk result (λ v. v.items ≡ terms.items) }
 {
-    let mut suited = Vec::new(alloc);
+    let mut suited = with_room(alloc, terms.len());
     for term in terms {
         suited.push(SuitedTerm::new(term))?;
     }
@@ -93,7 +93,7 @@ fn suited_terms(alloc: Global, terms: Vec<Term>) -> Result<Vec<SuitedTerm>, Allo
 fn plain_terms(alloc: Global, suited: Vec<SuitedTerm>) -> Result<Vec<Term>, AllocError>
     ensures { IfOk result (λ v. v.items ≡ suited.items) }
 {
-    let mut terms = Vec::new(alloc);
+    let mut terms = with_room(alloc, suited.len());
     for term in suited {
         terms.push(term.into_term())?;
     }
@@ -129,7 +129,7 @@ fn suited_pairs(alloc: Global, pairs: Vec<(Term, Term)>) -> Result<Vec<SuitedPai
     requires { All (λ p. Suits (pair_of process) (pair_tree p)) pairs.items }
     ensures { IfOk result (λ v. v.items ≡ map pair_tree pairs.items) }
 {
-    let mut suited = Vec::new(alloc);
+    let mut suited = with_room(alloc, pairs.len());
     for pair in pairs {
         suited.push(SuitedPair::new(pair))?;
     }
@@ -139,7 +139,7 @@ fn suited_pairs(alloc: Global, pairs: Vec<(Term, Term)>) -> Result<Vec<SuitedPai
 fn plain_pairs(alloc: Global, suited: Vec<SuitedPair>) -> Result<Vec<(Term, Term)>, AllocError>
     ensures { IfOk result (λ v. map pair_tree v.items ≡ suited.items) }
 {
-    let mut pairs = Vec::new(alloc);
+    let mut pairs = with_room(alloc, suited.len());
     for pair in suited {
         pairs.push(pair.into_pair())?;
     }

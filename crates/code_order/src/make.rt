@@ -3,7 +3,7 @@ ghost use Rattle.rho_term.specs.Parts.{part_tree};
 ghost use Rattle.code_order.specs.Made.{reordered, made_process};
 
 use crate::order::{sorted_pairs, sorted_parts, sorted_terms};
-use rho_term::{Part, Term};
+use rho_term::{Part, Term, with_room};
 use std::alloc::{AllocError, Global};
 
 /// The process of these parts, in normal order: they ascend in their codes, and so do the members of a
@@ -22,7 +22,7 @@ pub fn make_par(alloc: Global, parts: Vec<Part>) -> Result<Term, AllocError>
 fn with_orders(alloc: Global, parts: Vec<Part>) -> Result<Vec<Part>, AllocError>
     ensures { IfOk result (λ v. map part_tree v.items ≡ map (λ p. reordered (part_tree p)) parts.items) }
 {
-    let mut ordered = Vec::new(alloc);
+    let mut ordered = with_room(alloc, parts.len());
     for part in parts {
         ordered.push(with_order(alloc, part)?)?;
     }

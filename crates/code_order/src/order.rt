@@ -10,7 +10,7 @@ ghost use Rattle.code_order.specs.Made.{beside, with_code, part_with_code, pair_
 use crate::compared::{
     all_pairs_suit, all_parts_suit, all_terms_suit, compared_pairs, compared_parts, compared_terms,
 };
-use rho_term::{Part, Term};
+use rho_term::{Part, Term, with_room};
 use std::alloc::{AllocError, Global};
 use term_encoder::{encode_part, encode_term};
 
@@ -66,7 +66,7 @@ fn with_part_codes(alloc: Global, parts: Vec<Part>) -> Result<Vec<(Vec<u8>, Part
     requires { All (λ p. IsOrdered (part_tree p)) parts.items }
     ensures { IfOk result (λ v. map beside v.items ≡ map part_with_code parts.items) }
 {
-    let mut keyed = Vec::new(alloc);
+    let mut keyed = with_room(alloc, parts.len());
     for part in parts {
         let code = encode_part(alloc, &part)?;
         keyed.push((code, part))?;
@@ -78,7 +78,7 @@ fn with_part_codes(alloc: Global, parts: Vec<Part>) -> Result<Vec<(Vec<u8>, Part
 fn with_codes(alloc: Global, terms: Vec<Term>) -> Result<Vec<(Vec<u8>, Term)>, AllocError>
     ensures { IfOk result (λ v. map beside v.items ≡ map with_code terms.items) }
 {
-    let mut keyed = Vec::new(alloc);
+    let mut keyed = with_room(alloc, terms.len());
     for term in terms {
         let code = encode_term(alloc, &term)?;
         keyed.push((code, term))?;
@@ -93,7 +93,7 @@ fn with_pair_codes(
 ) -> Result<Vec<(Vec<u8>, (Term, Term))>, AllocError>
     ensures { IfOk result (λ v. map beside v.items ≡ map pair_with_code pairs.items) }
 {
-    let mut keyed = Vec::new(alloc);
+    let mut keyed = with_room(alloc, pairs.len());
     for pair in pairs {
         let mut code = encode_term(alloc, &pair.0)?;
         let value = encode_term(alloc, &pair.1)?;
@@ -117,7 +117,7 @@ pub fn in_order<T: Drop>(alloc: Global, keyed: Vec<(Vec<u8>, T)>) -> Result<Vec<
 fn without_keys<T: Drop>(alloc: Global, keyed: Vec<(Vec<u8>, T)>) -> Result<Vec<T>, AllocError>
     ensures { IfOk result (λ v. v.items ≡ map (λ p. p.1) keyed.items) }
 {
-    let mut items = Vec::new(alloc);
+    let mut items = with_room(alloc, keyed.len());
     for (_code, item) in keyed {
         items.push(item)?;
     }

@@ -142,7 +142,7 @@ fn take_ids<'a>(
 ) -> Result<(Vec<Digest>, &'a [u8]), LogFault>
     ensures { MatchResult result (λ r. data_ids whole many bytes.now ≡ Ok (map (λ id. id.0) r.0.items, r.1.now)) (λ e. (e ≡ LogFault.NoMemory) ⊎ (data_ids whole many bytes.now ≡ Err e)) }
 {
-    let mut ids = Vec::new(alloc);
+    let mut ids = Vec::with_capacity(alloc, many as usize)?;
     let mut rest = bytes;
     for _i in 0..many {
         let (id, after) = take_digest(whole, rest)?;

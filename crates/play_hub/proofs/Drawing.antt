@@ -18,7 +18,7 @@ use Rattle.play_scene.specs.Plays.{entries_of}
 use Rattle.play_scene.specs.Scene.{IsShownHere}
 use Rattle.play_scene.specs.Pulled.{seen_at}
 use Rattle.play_scene.proofs.Apart.{hand-more, tell-fewer}
-use Rattle.play_scene.proofs.Carrying.{Now, now_of, carried}
+use Rattle.scene_laws.proofs.Carrying.{Now, now_of, carried}
 use Rattle.play_hub.specs.Values.{entry_of, hub_meaning}
 use Rattle.play_hub.specs.Endings.{play_of}
 use Rattle.group_locks.specs.Rule.{Carries}

@@ -16,7 +16,7 @@ use Rattle.group_locks.proofs.Offers.{offered_more}
 use Rattle.run_entries.specs.Entries.{Space, Making, rows_before, rows_after, space_after, offers_in}
 use Rattle.play_scene.specs.Plays.{TouchingEntry, ends_work}
 use Rattle.play_scene.specs.Scene.{Opens, play_meaning}
-use Rattle.play_scene.proofs.Logs.{ended_snoc, still_offered, along}
+use Rattle.scene_laws.proofs.Logs.{ended_snoc, still_offered, along}
 use Rattle.play_scene.proofs.Reaching.{space, log-plays, pending-once}
 use Rattle.play_scene.proofs.Waiting.{now-more, fresh-then, all-wait}
 

@@ -1,4 +1,3 @@
-pub mod Logs
 pub mod Apart
 pub mod Drawing
 pub mod Reaching
@@ -9,6 +8,4 @@ pub mod Telling
 pub mod Emptied
 pub mod Ending
 pub mod Pulled
-pub mod Carrying
-pub mod Sums
 pub mod ClosedRows

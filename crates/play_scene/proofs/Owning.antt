@@ -12,7 +12,7 @@ use Rattle.group_locks.proofs.Sums.{each_to, each_more}
 use Rattle.run_entries.specs.Entries.{entries_on}
 use Rattle.play_scene.specs.Plays.{TouchingEntry, entries_of}
 use Rattle.play_scene.specs.Scene.{Opens, play_meaning}
-use Rattle.play_scene.proofs.Logs.{still_offered, along}
+use Rattle.scene_laws.proofs.Logs.{still_offered, along}
 use Rattle.play_scene.proofs.Reaching.{one_index, space}
 use Rattle.play_scene.proofs.Waiting.{offers-differ}
 

@@ -17,7 +17,7 @@ use Rattle.run_entries.proofs.Holding.{held}
 use Rattle.run_entries.proofs.Queued.{allowed_entries_reach, offered_ids_differ}
 use Rattle.play_scene.specs.Plays.{TouchingEntry, entries_of, MayBeDrawn, space_after_all, IsPlay}
 use Rattle.play_scene.specs.Scene.{Opens, play_meaning}
-use Rattle.play_scene.proofs.Logs.{along}
+use Rattle.scene_laws.proofs.Logs.{along}
 use Rattle.play_scene.proofs.Drawing.{plays_are_allowed, play-more}
 
 -- what stands at a place is a member

@@ -15,7 +15,7 @@ use Rattle.group_locks.proofs.Offers.{offered_more}
 use Rattle.run_entries.specs.Entries.{Space, Making, rows_before, rows_after, space_after, after, offers_in, left_in}
 use Rattle.play_scene.specs.Plays.{TouchingEntry, ends_work, space_after_all}
 use Rattle.play_scene.specs.Scene.{Opens, play_meaning}
-use Rattle.play_scene.proofs.Logs.{get_either, ended_snoc, along}
+use Rattle.scene_laws.proofs.Logs.{get_either, ended_snoc, along}
 use Rattle.play_scene.proofs.Drawing.{space-more, fresh-less}
 use Rattle.play_scene.proofs.Reaching.{one_index, get_member, space, offered-now, log-plays, offered-once}
 

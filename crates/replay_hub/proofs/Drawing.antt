@@ -12,7 +12,7 @@ use Rattle.replay_scene.specs.Spaces.{SeenRow, Part, IsIn}
 use Rattle.replay_scene.specs.Showing.{HasShard, TellsDeed, shown}
 use Rattle.replay_scene.specs.Pulled.{seen_at}
 use Rattle.replay_scene.proofs.Basics.{has, hold}
-use Rattle.replay_scene.proofs.Carrying.{Now, now_of, carried}
+use Rattle.scene_laws.proofs.Carrying.{Now, now_of, carried}
 use Rattle.replay_hub.specs.declared.deed.Did.{Did}
 use Rattle.replay_hub.specs.declared.deed.Did.TheVariants.{Arrived, Done, Idle}
 use Rattle.replay_hub.specs.Values.{has_bit, deed_of, values}

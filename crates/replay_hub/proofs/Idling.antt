@@ -12,7 +12,7 @@ use Rattle.group_locks.specs.Rule.{Carries}
 use Rattle.replay_scene.specs.Spaces.{Part}
 use Rattle.replay_scene.specs.Showing.{IsIdle}
 use Rattle.replay_scene.specs.Pulled.{seen_at}
-use Rattle.replay_scene.proofs.Carrying.{now_of, carried}
+use Rattle.scene_laws.proofs.Carrying.{now_of, carried}
 use Rattle.replay_hub.specs.declared.deed.Entry.{Entry}
 use Rattle.replay_hub.specs.declared.deed.Try.{Try}
 use Rattle.replay_hub.specs.declared.deed.Did.{Did}

@@ -68,17 +68,18 @@ fn side_by_side<J: ReplayTables + Sync, R: Threads + Wait + Sync, G: Gate + Sync
 
 /// Replays a log by 1 to 32 workers, over these shards and with these jobs, with which a replay of the log may open. Once it
 /// has ended, what its entries did and its shards decide the log, or the digests of some replay of the log clash. Want of
-/// memory is the one error. Workers are numbered from 0, and pass the gate around each entry.
-pub fn replay_side_by_side<J: ReplayTables + Sync, R: Threads + Wait + Sync, G: Gate + Sync>(
+/// memory is the one error. Workers are numbered from 0, and pass the gate around each entry. What they asked goes before the
+/// hub is closed.
+pub fn replay_side_by_side<J: ReplayTables + Sync + Drop, R: Threads + Wait + Sync, G: Gate + Sync>(
     rt: &R,
     alloc: Global,
     gate: &G,
-    tables: &J,
+    tables: J,
     shards: Vec<J::Shard>,
     tasks: Vec<Task<J::Row, J::Channel>>,
     workers: u32,
 ) -> Result<Closed<ReplayScene<J>>, AllocError>
-    requires knows { J.knows tables.now }
+    requires knows { J.knows tables }
     requires workers { (1 ≤ workers) × (workers ≤ 32) }
     requires sizes { (length shards.items ≡ 64) × (length tasks.items ≤ 2 ^ 58) }
     requires opens { (store : Space) × Projected (values J.deploy J.steps J.row_of J.channel_of J.part_of).projects store shards.items × (values J.deploy J.steps J.row_of J.channel_of J.part_of).opens store tasks.items }
@@ -87,7 +88,8 @@ pub fn replay_side_by_side<J: ReplayTables + Sync, R: Threads + Wait + Sync, G: 
 {
     let scene = ReplayScene::new();
     let Pool { hub, seats } = Hub::start(alloc, scene, shards, tasks, workers, 0, MOST_CHARGED)?;
-    let seats = side_by_side(rt, alloc, gate, tables, &hub, seats)?;
+    let seats = side_by_side(rt, alloc, gate, &tables, &hub, seats)?;
+    drop(tables);
     let Ok(closed) = close_replay(hub, seats) else {
         return Err(AllocError);
     };

@@ -87,7 +87,7 @@ pub(crate) fn race<N: ReplayNames + Sync, R: Threads + Wait + Sync, G: Gate + Sy
     let tasks = first_tasks(alloc, offers)?;
     let rig = Rig::from_log(alloc, &log)?;
     let tables: LogReplay<N> = LogReplay::new(log, rig, *prices, limit);
-    let closed = replay_side_by_side(rt, alloc, gate, &tables, shards, tasks, workers)?;
+    let closed = replay_side_by_side(rt, alloc, gate, tables, shards, tasks, workers)?;
     let Closed {
         entries,
         shards,

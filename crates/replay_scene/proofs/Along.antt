@@ -21,7 +21,7 @@ use Rattle.replay_scene.specs.Scene.{IsReached, IsEvent, IsFreshSpace, Opens, re
 use Rattle.replay_scene.proofs.Basics.{each-both, each-id, image-of}
 use Rattle.replay_scene.proofs.Good.{ComesBy, Good, GoodTry}
 use Rattle.replay_scene.proofs.Fresh.{fewer-fresh, fresh-reached}
-use Rattle.replay_scene.proofs.Logs.{get_either, now, now_more, along}
+use Rattle.scene_laws.proofs.Logs.{get_either, now, now_more, along}
 use Rattle.replay_scene.proofs.Pending.{pending-first, Taken, pending-more, its-split}
 use Rattle.replay_scene.proofs.Steps.{arrivals_of, tries_of, arrivals-arrive, tries-arrive, work-stays, reached-after, good-after, new-tries, tries-stay}
 use Rattle.replay_scene.proofs.Jobs.{arrivals-after, tries-after}

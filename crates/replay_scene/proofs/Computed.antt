@@ -33,7 +33,7 @@ use Rattle.replay_scene.specs.Scene.{Opens, replay}
 use Rattle.replay_scene.specs.Examples.{from_receiver, try_at, making_of, first_arrival, first_done, too_early, second_arrival, second_done, the_jobs, the_entries, SceneExamples}
 use Rattle.replay_scene.proofs.Basics.{has, hold}
 use Rattle.replay_scene.proofs.Hands.{shown-there, in-hand}
-use Rattle.replay_scene.proofs.Logs.{now}
+use Rattle.scene_laws.proofs.Logs.{now}
 use Rattle.replay_scene.proofs.Lawful.{lawful}
 
 -- what holds of one or of two holds of each of these

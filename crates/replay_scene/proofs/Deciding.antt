@@ -33,7 +33,7 @@ use Rattle.replay_scene.specs.Entries.{Deed, arrives, does, idles, Entry, space_
 use Rattle.replay_scene.specs.Scene.{did_step, IsEvent, IsFreshSpace, Opens, IsProjected, replay}
 use Rattle.replay_scene.specs.Closing.{IsLegalLog, DecideLog}
 use Rattle.replay_scene.specs.Laws.{HubsDecideOrClash}
-use Rattle.replay_scene.proofs.Logs.{now, now_more, along}
+use Rattle.scene_laws.proofs.Logs.{now, now_more, along}
 use Rattle.replay_scene.proofs.Fresh.{DoneBy, none-done, next-done, fresh-reached}
 use Rattle.replay_scene.proofs.Here.{steps-alike, once}
 use Rattle.replay_scene.proofs.Bounded.{made-length, few-done}

@@ -20,7 +20,7 @@ use Rattle.replay_scene.specs.Showing.{shown, Makes, TellsDeed, TellsEntry}
 use Rattle.replay_scene.specs.Scene.{IsEvent, IsFreshSpace, Opens, IsProjected, replay}
 use Rattle.replay_scene.specs.Laws.{ReplayIsLawful}
 use Rattle.replay_scene.proofs.Basics.{has, hold}
-use Rattle.replay_scene.proofs.Logs.{now}
+use Rattle.scene_laws.proofs.Logs.{now}
 use Rattle.replay_scene.proofs.Fresh.{fresh-reached}
 use Rattle.replay_scene.proofs.Here.{once}
 use Rattle.replay_scene.proofs.Hands.{shown-there}

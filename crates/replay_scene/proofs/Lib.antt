@@ -11,7 +11,6 @@ pub mod Told
 pub mod Keeps
 pub mod Steps
 pub mod Outs
-pub mod Logs
 pub mod Pending
 pub mod Jobs
 pub mod Along
@@ -22,5 +21,4 @@ pub mod Totals
 pub mod Deciding
 pub mod Telling
 pub mod Pulled
-pub mod Carrying
 pub mod Computed

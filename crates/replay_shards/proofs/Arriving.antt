@@ -1,5 +1,5 @@
 -- What an arrival makes of the shards in hand.
-use Rattle.std.proofs.Common.{◌≡◌, ◌<◌, ◌≤◌, ℕ, zero, suc, Bool, true, false, cond, List, [], ◌∷◌, ◌++◌, length, refl, sym, ap, subst, ◌∙◌, inl, inr, arith, get_or, nat_lt, IsPermutation}
+use Rattle.std.proofs.Common.{◌≡◌, ◌<◌, ◌≤◌, ℕ, zero, suc, Bool, true, false, cond, List, [], ◌∷◌, ◌++◌, length, refl, sym, ap, subst, ◌∙◌, inl, inr, arith, eqb-true, eq-eqb, get_or, nat_lt, IsPermutation}
 use Rattle.std.specs.Prelude.{◌⊎◌, ◌&&◌, eqb, Option, Some, None, IsSome, option_map}
 use Rattle.std.specs.Int.{bit_at}
 use Rattle.std.proofs.lemmas.Bool.Decides.{nat_tests}
@@ -10,7 +10,7 @@ use Rattle.replay_scene.specs.Entries.{arrives, PartBecomes}
 use Rattle.replay_space.specs.declared.seen.Seen.{Seen}
 use Rattle.replay_shards.specs.declared.kept.Kept.{Kept}
 use Rattle.replay_shards.specs.Rows.{part_of, arrived_seen, filed_rows}
-use Rattle.replay_shards.specs.Hands.{InHand, Slot, has_bit, parts_of, shard_at, GainsRow, HasRoomAt, TouchedBecome, IsSlotFiled, AreSlotsFiled}
+use Rattle.replay_shards.specs.Hands.{InHand, Slot, has_bit, parts_of, shard_at, GainsRow, GainsSeen, HasRoomAt, TouchedBecome, IsSlotFiled, AreSlotsFiled}
 use Rattle.replay_shards.proofs.Placing.{part-at, split, all-filed, filed-at}
 
 past : {A : Type 0} (l : List A) (k : ℕ) (d : A) → length l ≤ k → get_or l k d ≡ d
@@ -35,11 +35,11 @@ pub kept-of : (slot : Slot) (x : Part) → option_map part_of slot ≡ Some x �
 kept-of None x e = absurd (nothing x e)
 kept-of (Some a) x e = (a, (refl, cc e))
 
-no-kept : (slot : Slot) → option_map part_of slot ≡ None → slot ≡ None
+pub no-kept : (slot : Slot) → option_map part_of slot ≡ None → slot ≡ None
 no-kept None e = refl
 no-kept (Some a) e = absurd (nothing (part_of a) (sym e))
 
-is-there : (slot : Slot) → IsSome (option_map part_of slot) → IsSome slot
+pub is-there : (slot : Slot) → IsSome (option_map part_of slot) → IsSome slot
 is-there None h = h
 is-there (Some a) h = refl
 
@@ -114,3 +114,37 @@ gains-filed (Some s) (Some a) y g f = subst IsSlotFiled (sym g.1) (g.2.filed f)
 
 pub all-gained-filed : (copies : List (Option Seen)) (mid new : List Slot) → ((k : ℕ) → GainsRow (get_or copies k None) (get_or mid k None) (get_or new k None)) → AreSlotsFiled mid → AreSlotsFiled new
 all-gained-filed copies mid new put f = all-filed new (λ k lt. gains-filed (get_or copies k None) (get_or mid k None) (get_or new k None) (put k) (filed-at mid k f))
+
+-- a row that arrives in one shard
+module _ (row : Row) (from : Option ℕ) (shards n : ℕ) (only : (k : ℕ) → has_bit shards k ≡ eqb k n) (agrees : (k : ℕ) → has_bit shards k ≡ stands_in k row) (next : List IndexTry) where
+  its-gain : (k : ℕ) (x : Part) (a : Kept) → part_of a ≡ x → has_bit shards k ≡ true → (y : Slot) → GainsRow (Some (arrived_seen row from)) (Some a) y → (z : Part) × (option_map part_of y ≡ Some z) × PartBecomes (arrives (new_row from row) next) k x z
+  its-gain k x a e f y g = (
+    part_of g.0,
+    ap (option_map part_of) g.1,
+    subst (λ (w : Part). PartBecomes (arrives (new_row from row) next) k w (part_of g.0)) e (record {
+      number = g.2.number;
+      rows = subst (λ (l : List SeenRow). IsPermutation (filed_rows a.rows.entries ++ l) (filed_rows g.0.rows.entries)) (sym (ap (λ b. cond b (arrived (new_row from row) ∷ []) []) (sym (agrees k) ∙ f))) g.2.rows;
+      built = g.2.built;
+    }),
+  )
+
+  pub one-arrived : (old new : List Slot) → IsSome (get_or old n None) → GainsSeen (arrived_seen row from) (get_or old n None) (get_or new n None) → ((k : ℕ) → (k ≡ n → ⊥) → get_or new k None ≡ get_or old k None) → TouchedBecome (has_bit shards) (arrives (new_row from row) next) (parts_of old) (parts_of new)
+  one-arrived old new here gains others = record {
+    there = there;
+    others = λ k f. stays k (λ d. differs (sym (only k ∙ eq-eqb k n d) ∙ f));
+    absent = λ k e. stays k (λ d. gone (get_or old n None) (no-kept (get_or old n None) (sym (part-at old n) ∙ ap (λ j. shard_at (parts_of old) j) (sym d) ∙ e)) here) ∙ e;
+  }
+    where
+      gone : (o : Slot) → o ≡ None → IsSome o → ⊥
+      gone None e h = cc h
+      gone (Some a) e h = cc e
+
+      stays : (k : ℕ) → (k ≡ n → ⊥) → shard_at (parts_of new) k ≡ shard_at (parts_of old) k
+      stays k d = part-at new k ∙ ap (option_map part_of) (others k d) ∙ sym (part-at old k)
+
+      there : (k : ℕ) (x : Part) → shard_at (parts_of old) k ≡ Some x → has_bit shards k ≡ true → (y : Part) × (shard_at (parts_of new) k ≡ Some y) × PartBecomes (arrives (new_row from row) next) k x y
+      there k x e f =
+          let at = eqb-true k n (sym (only k) ∙ f) in
+          let a = kept-of gains.0 x (gains.1 ∙ sym (part-at old n) ∙ ap (λ j. shard_at (parts_of old) j) (sym at) ∙ e) in
+          let g = its-gain k x a.0 a.1.1 f (get_or new n None) (subst (λ (s : Slot). GainsRow (Some (arrived_seen row from)) s (get_or new n None)) a.1.0 gains.2) in
+          (g.0, ap (λ j. shard_at (parts_of new) j) at ∙ part-at new n ∙ g.1, g.2)

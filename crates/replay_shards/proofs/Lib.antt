@@ -14,3 +14,4 @@ pub mod Calling
 pub mod Drawing
 pub mod Receiving
 pub mod Moving
+pub mod Within

@@ -1,7 +1,6 @@
 -- The built-in receivers of a shard.
 use Rattle.std.proofs.Common.{◌≡◌, ◌<◌, ◌+◌, ℕ, Bool, true, false, cond, List, [], ◌∷◌, ◌++◌, map as each, take, get_or, length, refl, sym, ap, ◌∙◌, append-nil, All}
 use Rattle.std.specs.Prelude.{filter}
-use Rattle.std.proofs.lemmas.List.{map-append}
 use Rattle.std.proofs.lemmas.List.Elements.{All-nil, All-cons, All-head, All-tail}
 use Rattle.calculus.specs.Rows.{Row}
 use Rattle.calculus.specs.Storing.{IsStorable}

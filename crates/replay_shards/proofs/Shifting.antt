@@ -52,6 +52,16 @@ one-bit-more n i h m e k = go (nat_lt k 64) refl
     go true f = bits
     go false f = sym (high f)
 
+pub one-bit-only : (n i : ℕ) → i < 64 → n ≡ 2 ^ i → (k : ℕ) → has_bit n k ≡ eqb k i
+one-bit-only n i h e k = go (nat_lt k 64) refl
+  where
+    high : nat_lt k 64 ≡ false → eqb k i ≡ false
+    high f = grind (arith, nat_tests, f, h)
+
+    go : (b : Bool) → nat_lt k 64 ≡ b → b && eqb (bit_at n k) 1 ≡ eqb k i
+    go true f = ap (λ x. eqb (bit_at x k) 1) e ∙ its-bit k i
+    go false f = sym (high f)
+
 pub one-shifted : (n : ℕ) → n < 64 → 1 * 2 ^ n % 18446744073709551616 ≡ 2 ^ n
 one-shifted n h = omega (arith, pow_below n 64 h)
 

@@ -1,5 +1,5 @@
 -- The shards that a worker has in hand.
-use Rattle.std.specs.Prelude.{◌≡◌, ⊤, ℕ, Bool, true, false, ◌&&◌, eqb, nat_lt, List, [], ◌∷◌, ◌++◌, map as each, filter, Option, Some, None, option_map, slice_index_or, IsPermutation}
+use Rattle.std.specs.Prelude.{◌≡◌, ◌≤◌, ◌<◌, ⊤, ℕ, Bool, true, false, ◌&&◌, eqb, nat_lt, List, [], ◌∷◌, ◌++◌, map as each, filter, Option, Some, None, option_map, slice_index_or, IsPermutation}
 use Rattle.std.specs.Int.{bit_at}
 use Rattle.calculus.specs.Rows.{Row}
 use Rattle.replay_scene.specs.Spaces.{SeenRow, Part, standing_row, seen_in}
@@ -83,3 +83,11 @@ abbrev pub GainsRow : Option Seen → Slot → Slot → Type 0
 GainsRow None x y = y ≡ x
 GainsRow (Some s) None y = ⊥
 GainsRow (Some s) (Some a) y = (b : Kept) × (y ≡ Some b) × Gains (seen_row s) a b
+
+-- a shard that is there, with room made in it, gains this row
+abbrev pub GainsSeen : Seen → Slot → Slot → Type 0
+GainsSeen s x y = (mid : Slot) × (option_map part_of mid ≡ option_map part_of x) × GainsRow (Some s) mid y
+
+-- no shard in hand has a number outside these
+abbrev pub LieWithin : ℕ → ℕ → InHand → Type 0
+LieWithin low high hand = (k : ℕ) → (low ≤ k → k < high → ⊥) → shard_at hand k ≡ None

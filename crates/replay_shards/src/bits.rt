@@ -1,5 +1,5 @@
 // Bits of shards.
-ghost use Rattle.std.specs.Prelude.{◌≡◌, ◌<◌, ℕ, ◌||◌, eqb, map as each, IfOk};
+ghost use Rattle.std.specs.Prelude.{◌≡◌, ◌<◌, ℕ, ◌||◌, eqb, map as each, IfOk, IfSome};
 ghost use Rattle.std.specs.List.{list_any};
 ghost use Rattle.calculus.specs.Storing.{shard};
 ghost use Rattle.shard_rows.specs.Shards.{stands_in};
@@ -45,4 +45,15 @@ pub fn row_shards(alloc: Global, row: &Row) -> Result<u64, AllocError>
         Op::Produce { channel, .. } => Ok(with_bit(0, shard_of(alloc, channel)?)),
         Op::Consume { binds, .. } => bind_shards(alloc, binds),
     }
+}
+
+/// The number of the shard whose bit alone is set; None where none or several are.
+pub(crate) fn only_shard(shards: u64) -> Option<u32>
+    ensures { IfSome result (λ n. (n < 64) × ((k : ℕ) → has_bit shards k ≡ eqb k n)) }
+{
+    let number = shards.trailing_zeros();
+    if number < 64 && shards == 1 << number {
+        return Some(number);
+    }
+    None
 }

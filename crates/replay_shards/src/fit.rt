@@ -104,14 +104,14 @@ pub(crate) fn fit(
     ensures { (before : List Step) (s : Step) (after : List Step) → IsRigOf (before ++ s ∷ after) rig.now → length (before ++ s ∷ after) < 2 ^ 32 - 1 → length before ≡ step → s ≡ step_of wanted.now
         → IfOk result (λ o. MatchOption o (FitsNothing (before ++ s ∷ after) (all_shown (parts_of slots.now)) before s step) (IsReady (before ++ s ∷ after) (all_shown (parts_of slots.now)) before s step)) }
 {
-    if !may_fit(slots, rig, wanted, step) {
-        return Ok(None);
-    }
     let Some(receiver) = lend_row(slots, rig, step, 0, &wanted.cont) else {
         return Ok(None);
     };
     let Some(sends) = take_rows(alloc, slots, rig, step, wanted.taken.as_slice())? else {
         return Ok(None);
     };
+    if !may_fit(slots, rig, wanted, step) {
+        return Ok(None);
+    }
     meet_taken(alloc, slots, rig, wanted, step, receiver, sends.as_slice())
 }

@@ -7,18 +7,19 @@ ghost use Rattle.replay_space.specs.Rigs.{IsRigOf};
 ghost use Rattle.replay_scene.specs.Spaces.{IndexTry, SeenRow, new_row};
 ghost use Rattle.replay_scene.specs.Entries.{arrives, does};
 ghost use Rattle.shard_rows.specs.Shards.{stands_in};
-ghost use Rattle.replay_shards.specs.Hands.{all_shown, has_bit, shard_at, AllBecome, TouchedBecome};
+ghost use Rattle.replay_shards.specs.Hands.{all_shown, has_bit, parts_of, shard_at, AllBecome, AreSlotsFiled, TouchedBecome};
 ghost use Rattle.replay_shards.specs.Ready.{IsReady};
 ghost use Rattle.replay_shards.specs.Rows.{find_seen, AreLow};
 ghost use Rattle.replay_shards.specs.Taken.{bytes_of, FitsNothing};
 
-use crate::bits::row_shards;
+use crate::bits::{only_shard, row_shards};
 use crate::finding::find_in;
 use crate::fit::fit;
 use crate::kept::Kept;
+use crate::places::{first_from, widened};
 use crate::ready::Ready;
 use crate::shard::ReplayShard;
-use crate::slots::{make_copies, make_room_all, put_all, settle_all};
+use crate::slots::{Slot, arrive_at, arrive_in, settle_all};
 use calculus::Digest;
 use event_log::Log;
 use replay_space::Rig;
@@ -30,6 +31,9 @@ use std::marker::Model;
 #[derive(Drop)]
 pub struct ReplayHeld {
     pub(crate) slots: Vec<Option<Kept>>,
+    // Shards lie only at places from the first of these on, and below the second.
+    low: usize,
+    high: usize,
 }
 
 impl Model for ReplayHeld {
@@ -42,11 +46,11 @@ impl Model for ReplayHeld {
 
     ghost coded = { coded_list (coded_option part_code) };
 
-    ghost use Rattle.replay_shards.specs.Hands.{parts_of, AreSlotsFiled};
+    ghost use Rattle.replay_shards.specs.Hands.{parts_of, AreSlotsFiled, LieWithin};
 
     ghost view = { λ a. parts_of a.slots.items };
 
-    ghost invariant = { λ a. (length a.slots.items ≡ 64) × AreSlotsFiled a.slots.items };
+    ghost invariant = { λ a. (length a.slots.items ≡ 64) × AreSlotsFiled a.slots.items × LieWithin a.low a.high (parts_of a.slots.items) };
 }
 
 impl ReplayHeld {
@@ -58,7 +62,11 @@ impl ReplayHeld {
         for _ in 0..64u32 {
             slots.push(None)?;
         }
-        Ok(ReplayHeld { slots })
+        Ok(ReplayHeld {
+            slots,
+            low: 0,
+            high: 0,
+        })
     }
 
     /// Puts a shard in hand at this number, where none is. It takes no memory.
@@ -68,7 +76,10 @@ impl ReplayHeld {
         ensures here { shard_at self.new number ≡ Some shard }
         ensures others { (k : ℕ) → k ≢ number → shard_at self.new k ≡ shard_at self.old k }
     {
+        let (low, high) = widened(self.low, self.high, number as usize);
         self.slots[number as usize] = Some(shard.kept);
+        self.low = low;
+        self.high = high;
     }
 
     /// Takes the shard of this number out of hand, if it is there. It takes no memory.
@@ -78,9 +89,22 @@ impl ReplayHeld {
         ensures here { shard_at self.new number ≡ None }
         ensures others { (k : ℕ) → k ≢ number → shard_at self.new k ≡ shard_at self.old k }
     {
-        match self.slots[number as usize].take() {
+        let slot = self.slots[number as usize].take();
+        self.low = first_from(self.slots.as_slice(), self.low, self.high);
+        match slot {
             None => None,
             Some(kept) => Some(ReplayShard { kept }),
+        }
+    }
+
+    // The places at which shards lie, with all these.
+    fn taken(&self) -> &[Slot]
+        ensures filed { AreSlotsFiled result.now }
+        ensures shown { all_shown (parts_of result.now) ≡ all_shown self.now }
+    {
+        match self.slots.get(self.low..self.high) {
+            Some(slots) => slots,
+            None => self.slots.as_slice(),
         }
     }
 
@@ -89,19 +113,19 @@ impl ReplayHeld {
     pub fn arrive(
         &mut self,
         alloc: Global,
-        row: &Row,
+        row: Row,
         from: Option<u32>,
         shards: u64,
     ) -> Result<(), AllocError>
-        requires shards { (k : ℕ) → has_bit shards k ≡ stands_in k row.now }
+        requires shards { (k : ℕ) → has_bit shards k ≡ stands_in k row }
         requires held { (k : ℕ) → has_bit shards k ≡ true → IsSome (shard_at self.old k) }
         ensures back { OnErr result (self.new ≡ self.old) }
-        ensures arrived { OnOk result ((next : List IndexTry) → TouchedBecome (has_bit shards) (arrives (new_row from row.now) next) self.old self.new) }
+        ensures arrived { OnOk result ((next : List IndexTry) → TouchedBecome (has_bit shards) (arrives (new_row from row) next) self.old self.new) }
     {
-        let copies = make_copies(alloc, row, from, shards)?;
-        make_room_all(alloc, &mut self.slots, shards, &row.id())?;
-        put_all(&mut self.slots, copies);
-        Ok(())
+        match only_shard(shards) {
+            Some(number) => arrive_at(alloc, &mut self.slots, row, from, number),
+            None => arrive_in(alloc, &mut self.slots, &row, from, shards),
+        }
     }
 
     /// The bits of the shards of all channels of a step's receiver, which is the first row in hand with its id; None
@@ -116,7 +140,7 @@ impl ReplayHeld {
         ensures { (before : List Step) (s : Step) (after : List Step) → steps_of log.now.steps.items ≡ before ++ s ∷ after → length before ≡ step
             → IfOk result (λ o. MatchOption o (find_seen s.receiver (all_shown self.now) ≡ None) (λ n. (r : SeenRow) × (find_seen s.receiver (all_shown self.now) ≡ Some r) × ((k : ℕ) → has_bit n k ≡ stands_in k r.row))) }
     {
-        match find_in(self.slots.as_slice(), &log.steps[step as usize].cont) {
+        match find_in(self.taken(), &log.steps[step as usize].cont) {
             None => Ok(None),
             Some(seen) => Ok(Some(row_shards(alloc, &seen.row)?)),
         }
@@ -137,13 +161,7 @@ impl ReplayHeld {
         ensures { (before : List Step) (s : Step) (after : List Step) → steps_of log.now.steps.items ≡ before ++ s ∷ after → length before ≡ step
             → IfOk result (λ o. MatchOption o (FitsNothing (steps_of log.now.steps.items) (all_shown self.now) before s step) (IsReady (steps_of log.now.steps.items) (all_shown self.now) before s step)) }
     {
-        fit(
-            alloc,
-            self.slots.as_slice(),
-            rig,
-            &log.steps[step as usize],
-            step,
-        )
+        fit(alloc, self.taken(), rig, &log.steps[step as usize], step)
     }
 
     /// A step is done, and the rows with these ids leave: each shard in hand becomes what the step makes of it. It takes no

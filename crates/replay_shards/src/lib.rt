@@ -8,6 +8,7 @@ mod full;
 mod held;
 mod kept;
 mod next;
+mod places;
 pub mod ready;
 mod rows;
 mod shard;

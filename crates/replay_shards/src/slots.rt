@@ -1,7 +1,10 @@
 // The shards in hand, in 64 places.
-ghost use Rattle.std.specs.Prelude.{◌≡◌, ◌<◌, ℕ, true, ◌++◌, length, map as each, Some, None, IsSome, IfOk, OnOk, cond, option_map, option_copied, slice_index_or};
+ghost use Rattle.std.specs.Prelude.{◌≡◌, ◌≢◌, ◌<◌, ℕ, List, true, ◌++◌, length, map as each, Some, None, IsSome, IfOk, OnOk, OnErr, cond, option_map, option_copied, slice_index_or};
 ghost use Rattle.event_log.specs.View.{step_of};
-ghost use Rattle.replay_shards.specs.Hands.{all_shown, has_bit, parts_of, shown_at, AreSlotsFiled, GainsRow, HasRoomAt, IsSlotFiled};
+ghost use Rattle.replay_scene.specs.Spaces.{IndexTry, new_row};
+ghost use Rattle.replay_scene.specs.Entries.{arrives};
+ghost use Rattle.shard_rows.specs.Shards.{stands_in};
+ghost use Rattle.replay_shards.specs.Hands.{all_shown, has_bit, parts_of, shard_at, shown_at, AreSlotsFiled, GainsRow, GainsSeen, HasRoomAt, IsSlotFiled, TouchedBecome};
 ghost use Rattle.replay_shards.specs.Rows.{arrived_seen, part_of, settled_part, AreLow};
 
 use crate::bits::is_set;
@@ -96,6 +99,37 @@ fn put_at(slot: &mut Slot, copy: Option<Seen>)
     }
 }
 
+// A row arrives in a shard that is there. Where memory is wanted, the shard shows what it did.
+fn arrive_one(alloc: Global, slot: &mut Slot, row: Row, from: Option<u32>) -> Result<(), AllocError>
+    requires { IsSome slot.old }
+    ensures back { OnErr result (option_map part_of slot.new ≡ option_map part_of slot.old) }
+    ensures filed { IsSlotFiled slot.old → IsSlotFiled slot.new }
+    ensures arrived { OnOk result (GainsSeen (arrived_seen row from) slot.old slot.new) }
+{
+    make_room_if(alloc, slot, &row.id(), true)?;
+    put_at(slot, Some(Seen { row, from, done: 0 }));
+    Ok(())
+}
+
+/// A row arrives in the shard of this number, which is there. Where memory is wanted, all shards show what they did.
+pub(crate) fn arrive_at(
+    alloc: Global,
+    slots: &mut Vec<Slot>,
+    row: Row,
+    from: Option<u32>,
+    number: u32,
+) -> Result<(), AllocError>
+    requires low { (length slots.old.items ≡ 64) × (number < 64) }
+    requires there { IsSome (slice_index_or slots.old.items number None) }
+    ensures long { length slots.new.items ≡ 64 }
+    ensures back { OnErr result (parts_of slots.new.items ≡ parts_of slots.old.items) }
+    ensures filed { AreSlotsFiled slots.old.items → AreSlotsFiled slots.new.items }
+    ensures arrived { OnOk result (GainsSeen (arrived_seen row from) (slice_index_or slots.old.items number None) (slice_index_or slots.new.items number None)) }
+    ensures others { (k : ℕ) → k ≢ number → slice_index_or slots.new.items k None ≡ slice_index_or slots.old.items k None }
+{
+    arrive_one(alloc, &mut slots[number as usize], row, from)
+}
+
 /// Puts copies of a row into the shards at their places, which have room for them.
 pub(crate) fn put_all(slots: &mut Vec<Slot>, copies: Vec<Option<Seen>>)
     requires long { length slots.old.items ≡ 64 }
@@ -109,6 +143,29 @@ pub(crate) fn put_all(slots: &mut Vec<Slot>, copies: Vec<Option<Seen>>)
         let copy = rest[k].take();
         put_at(&mut slots[k], copy);
     }
+}
+
+/// A row arrives in each of these shards, which are there. Where memory is wanted, all shards show what they did.
+pub(crate) fn arrive_in(
+    alloc: Global,
+    slots: &mut Vec<Slot>,
+    row: &Row,
+    from: Option<u32>,
+    shards: u64,
+) -> Result<(), AllocError>
+    requires shards { (k : ℕ) → has_bit shards k ≡ stands_in k row.now }
+    requires long { length slots.old.items ≡ 64 }
+    requires held { (k : ℕ) → has_bit shards k ≡ true → IsSome (shard_at (parts_of slots.old.items) k) }
+    ensures long { length slots.new.items ≡ 64 }
+    ensures back { OnErr result (parts_of slots.new.items ≡ parts_of slots.old.items) }
+    ensures filed { AreSlotsFiled slots.old.items → AreSlotsFiled slots.new.items }
+    ensures absent { (k : ℕ) → shard_at (parts_of slots.old.items) k ≡ None → shard_at (parts_of slots.new.items) k ≡ None }
+    ensures arrived { OnOk result ((next : List IndexTry) → TouchedBecome (has_bit shards) (arrives (new_row from row.now) next) (parts_of slots.old.items) (parts_of slots.new.items)) }
+{
+    let copies = make_copies(alloc, row, from, shards)?;
+    make_room_all(alloc, slots, shards, &row.id())?;
+    put_all(slots, copies);
+    Ok(())
 }
 
 // What a step makes of a shard that is there, where the rows with these ids leave.

@@ -29,7 +29,7 @@ fn bring_in(alloc: Global, held: &mut ReplayHeld, row: &Row) -> Result<(), Alloc
 {
     let _operation = row.op();
     let shards = row_shards(alloc, row)?;
-    held.arrive(alloc, row, None, shards)
+    held.arrive(alloc, row.copy(alloc)?, None, shards)
 }
 
 // The shards in hand, in the order of their numbers. Want of memory is the one error.

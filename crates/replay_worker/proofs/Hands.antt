@@ -15,7 +15,7 @@ use Rattle.shard_rows.specs.Shards.{stands_in, Covers}
 use Rattle.replay_scene.specs.Spaces.{IndexTry, Part}
 use Rattle.replay_scene.specs.Entries.{Deed, arrives}
 use Rattle.replay_scene.specs.Showing.{IsFirstUse}
-use Rattle.replay_scene.proofs.Carrying.{now_of}
+use Rattle.scene_laws.proofs.Carrying.{now_of}
 use Rattle.replay_hub.specs.declared.deed.Arrived.{Arrived as Arrival}
 use Rattle.replay_hub.specs.declared.deed.Coming.{Coming}
 use Rattle.replay_hub.specs.declared.deed.Did.TheVariants.{Arrived}

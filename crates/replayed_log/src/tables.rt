@@ -91,7 +91,7 @@ impl<N: ReplayNames> ReplayTables for LogReplay<N> {
         ensures back { OnErr result ((k : ℕ) → shard_at held.new k ≡ shard_at held.old k) }
         ensures arrived { OnOk result ((next : List IndexTry) → AllBecome (λ x. x) (has_bit shards) (arrives (new_row_of (λ r. r) (λ t. t) coming) next) (shard_at held.old) (shard_at held.new)) }
     {
-        held.arrive(alloc, &coming.row, coming.from, shards)
+        held.arrive(alloc, coming.row, coming.from, shards)
     }
 
     fn look(

@@ -1,5 +1,6 @@
 mod Cycle
 mod Ends
+mod Lengths
 mod Patterns
 mod Processes
 mod Wholes

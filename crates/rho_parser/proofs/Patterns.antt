@@ -8,24 +8,19 @@ use Rattle.grammar.specs.declared.fault.Fault.{Fault}
 use Rattle.grammar.specs.declared.fault.Fault.TheVariants.{NoMemory}
 use Rattle.grammar.specs.declared.mark.Mark.TheVariants as marks
 use Rattle.grammar.specs.Choice.{choose}
-use Rattle.grammar.specs.Descent.{Outcome, fault, Runs, no_memory}
+use Rattle.grammar.specs.Descent.{Outcome, fault, Runs, no_memory, runs_last}
 use Rattle.grammar.specs.Grammar.{rule}
 use Rattle.grammar.specs.Productions.{Prod}
 use Rattle.grammar.specs.Rules.{Sort, Rule, last}
 use Rattle.grammar.specs.Terminals.{Terminal, sees}
 use Rattle.grammar.specs.Values.{Spelt, patterns}
-use Rattle.token_cursor.specs.Reading.{Makes, Turns, pat_pairs_written}
-use Rattle.token_cursor.proofs.Steps.{exit, leave, rows}
+use Rattle.token_cursor.specs.Reading.{Makes, pat_pairs_written}
+use Rattle.token_cursor.proofs.Steps.{exit, rows}
 
 -- at the exit of a `?` where memory ran out
 pub short : {T : Type 0} (free : ℕ) (r : Rule) (ts us : List Terminal) (of : T → Spelt) (res : Result T Fault) (e : Fault) → IsErrAnd res (λ y. y ≡ e) → e ≡ NoMemory
     → Makes free r of ts res us
 short free r ts us of res e g m = exit of res e g (subst (λ (x : Fault). Runs Tutorial free r ts (fault x us)) (sym m) no_memory)
-
--- and where the rule goes on
-pub short_turn : {T : Type 0} (free : ℕ) (r : Rule) (ts us : List Terminal) (after : T → Rule) (res : Result T Fault) (e : Fault) → IsErrAnd res (λ y. y ≡ e) → e ≡ NoMemory
-    → Turns free r after ts res us
-short_turn free r ts us after res e g m = leave after res e g (subst (λ (x : Fault). Runs Tutorial free r ts (fault x us)) (sym m) no_memory)
 
 -- a send, by whether it is persistent
 pub sent_by : {free : ℕ} {ts : List Terminal} {out : Outcome} (n : Spelt) (b : Bool) → b ≡ sees marks.DoubleBang ts
@@ -45,3 +40,12 @@ pub first_pat_pair : {free : ℕ} {us : List Terminal} {out : Outcome} {ps : Lis
 first_pat_pair {free} {us} {out} {ps} {p} {k} {n} h m a b e i f g r =
     rows (λ qs l. last (Sort.PPairs qs l)) (pair_of (pat_written a, pat_written b) ∷ []) (pat_pairs_written ps) (max h m) n
     (ap pat_pairs_written (f ∙ ap (λ q. q ∷ []) e)) (g ∙ i) r
+
+-- what follows the first pattern of a block or a map
+pub pattern_closes : {free : ℕ} {ts : List Terminal} {out : Outcome} (p : Spelt) → sees marks.Colon ts ≡ false
+    → Runs Tutorial free (rule Tutorial (Prod.pbrace_close p)) ts out → Runs Tutorial free (last (Sort.PBraceTail p)) ts out
+pattern_closes p e h = runs_last (rw e h)
+
+pub pat_pair_follows : {free : ℕ} {ts : List Terminal} {out : Outcome} (p : Spelt) → sees marks.Colon ts ≡ true
+    → Runs Tutorial free (rule Tutorial (Prod.pbrace_pair p)) ts out → Runs Tutorial free (last (Sort.PBraceTail p)) ts out
+pat_pair_follows p e h = runs_last (rw e h)

@@ -27,7 +27,10 @@ use Rattle.token_cursor.specs.Reading.{of_name, pairs_written}
 use Rattle.token_cursor.specs.declared.level.Level.{Level}
 use Rattle.syntax_forms.specs.declared.part.Part.{Part}
 use Rattle.rho_parser.proofs.Cycle.{as_rule, tails}
+use Rattle.rho_lexer.specs.declared.token.Token.{Token}
+use Rattle.token_cursor.proofs.Fronts.{no_fresh}
 use Rattle.token_cursor.proofs.Steps.{rows}
+use Rattle.token_cursor.specs.Meaning.{view}
 
 -- memory ran out
 pub forgets : {free : ℕ} {r : Rule} {ts us : List Terminal} (e : Fault) → e ≡ NoMemory → Runs Tutorial free r ts (fault e us)
@@ -94,3 +97,21 @@ fits (Err d) e l = e
 -- no operator of the level is next
 pub stops : {free : ℕ} {ts : List Terminal} (l : Level) (a : Spelt) (o : Option (Mark × BinaryOp)) → GoesOn l ts o → o ≡ None → Runs Tutorial free (last (tail_of l a)) ts (read a ts)
 stops {free} {ts} l a o g e = runs_last (as_rule _ _ ((subst (GoesOn l ts) e g) a) runs_done)
+
+-- what follows the first process of a block or a map
+pub block_closes : {free : ℕ} {ts : List Terminal} {out : Outcome} (p : Spelt) → sees marks.Colon ts ≡ false
+    → Runs Tutorial free (rule Tutorial (Prod.brace_close p)) ts out → Runs Tutorial free (last (Sort.BraceTail p)) ts out
+block_closes p e h = runs_last (rw e h)
+
+pub pair_follows : {free : ℕ} {ts : List Terminal} {out : Outcome} (p : Spelt) → sees marks.Colon ts ≡ true
+    → Runs Tutorial free (rule Tutorial (Prod.brace_pair p)) ts out → Runs Tutorial free (last (Sort.BraceTail p)) ts out
+pair_follows p e h = runs_last (rw e h)
+
+-- what follows a `*`: a quoted process, or a word
+pub drops_quote : {free : ℕ} {ts : List Terminal} {out : Outcome} → sees marks.At ts ≡ true
+    → Runs Tutorial free (rule Tutorial Prod.dropped_quote) ts out → Runs Tutorial free (last Sort.Dropped) ts out
+drops_quote e h = runs_last (rw e h)
+
+pub drops_word : {free : ℕ} {out : Outcome} (xs : List Token) → sees marks.At (view xs) ≡ false
+    → Runs Tutorial free (rule Tutorial Prod.dropped_word) (view xs) out → Runs Tutorial free (last Sort.Dropped) (view xs) out
+drops_word xs e h = let n = no_fresh xs in runs_last (rw (e, n) h)

@@ -1,5 +1,5 @@
 -- What a parser answers for the tokens of a text.
-use Rattle.std.proofs.Common.{◌≡◌, ◌∙◌, ℕ, ◌-◌, ◌≤◌, max, List, [], ◌∷◌, true, false, map, length, sym, ap, subst, arith}
+use Rattle.std.proofs.Common.{◌≡◌, ◌∙◌, ℕ, ◌-◌, ◌≤◌, max, List, [], ◌∷◌, true, false, length, sym, ap, subst, arith}
 use Rattle.std.proofs.lemmas.List.{length-map}
 use Rattle.calculus.specs.Written.{Written}
 use Rattle.tokens.specs.Token.{source}

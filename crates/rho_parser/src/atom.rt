@@ -23,45 +23,13 @@ impl<'a> Parser<'a> {
         ensures room { IfOk result (λ p. p.height ≤ free) }
         ensures shorter { length self.new.cursor.rest.now ≤ length self.old.cursor.rest.now }
     {
-        if self.cursor.sees(Mark::Star) {
-            self.drop_star(free)
-        } else {
-            self.atom(free)
+        if !self.cursor.sees(Mark::Star) {
+            return self.atom(free);
         }
-    }
-
-    /// A `*` and a name.
-    #[cycle(parse)]
-    pub fn drop_star(&mut self, free: u32) -> Result<Part<Proc>, Fault>
-        ensures reads { Makes free (rule Tutorial Prod.drop_star) of_proc (view self.old.cursor.rest.now) result (view self.new.cursor.rest.now) }
-        ensures room { IfOk result (λ p. p.height ≤ free) }
-        ensures shorter { length self.new.cursor.rest.now ≤ length self.old.cursor.rest.now }
-    {
         self.cursor.expect(Mark::Star)?;
-        self.dropped(free)
-    }
-
-    /// Dropped ::= Word | "@" Drop
-    #[cycle(parse)]
-    pub fn dropped(&mut self, free: u32) -> Result<Part<Proc>, Fault>
-        ensures reads { Gives free Sort.Dropped of_proc (view self.old.cursor.rest.now) result (view self.new.cursor.rest.now) }
-        ensures room { IfOk result (λ p. p.height ≤ free) }
-        ensures shorter { length self.new.cursor.rest.now ≤ length self.old.cursor.rest.now }
-    {
-        if self.cursor.sees(Mark::At) {
-            self.dropped_quote(free)
-        } else {
-            self.cursor.dropped_word()
+        if !self.cursor.sees(Mark::At) {
+            return self.cursor.dropped_word();
         }
-    }
-
-    /// The process that a quoted process quotes.
-    #[cycle(parse)]
-    pub fn dropped_quote(&mut self, free: u32) -> Result<Part<Proc>, Fault>
-        ensures reads { Makes free (rule Tutorial Prod.dropped_quote) of_proc (view self.old.cursor.rest.now) result (view self.new.cursor.rest.now) }
-        ensures room { IfOk result (λ p. p.height ≤ free) }
-        ensures shorter { length self.new.cursor.rest.now ≤ length self.old.cursor.rest.now }
-    {
         self.cursor.opens(Mark::At, 0, free)?;
         let quoted = self.drop_form(free - 1)?;
         let name = process_forms::quote(self.cursor.alloc, quoted)?;
@@ -75,20 +43,9 @@ impl<'a> Parser<'a> {
         ensures room { IfOk result (λ p. p.height ≤ free) }
         ensures shorter { length self.new.cursor.rest.now ≤ length self.old.cursor.rest.now }
     {
-        if self.cursor.sees(Mark::At) {
-            self.name_quote(free)
-        } else {
-            self.cursor.name_word()
+        if !self.cursor.sees(Mark::At) {
+            return self.cursor.name_word();
         }
-    }
-
-    /// A quoted process.
-    #[cycle(parse)]
-    pub fn name_quote(&mut self, free: u32) -> Result<Part<Name>, Fault>
-        ensures reads { Makes free (rule Tutorial Prod.name_quote) of_name (view self.old.cursor.rest.now) result (view self.new.cursor.rest.now) }
-        ensures room { IfOk result (λ p. p.height ≤ free) }
-        ensures shorter { length self.new.cursor.rest.now ≤ length self.old.cursor.rest.now }
-    {
         self.cursor.expect(Mark::At)?;
         let quoted = self.drop_form(free)?;
         process_forms::quote(self.cursor.alloc, quoted)
@@ -118,7 +75,7 @@ impl<'a> Parser<'a> {
         }
     }
 
-    /// Parentheses or a tuple.
+    /// Parentheses around a process, or a tuple.
     #[cycle(parse)]
     pub fn atom_open(&mut self, free: u32) -> Result<Part<Proc>, Fault>
         ensures reads { Makes free (rule Tutorial Prod.atom_open) of_proc (view self.old.cursor.rest.now) result (view self.new.cursor.rest.now) }
@@ -127,32 +84,9 @@ impl<'a> Parser<'a> {
     {
         self.cursor.opens(Mark::Open, 0, free)?;
         let inner = self.par(free - 1)?;
-        self.group(inner, free)
-    }
-
-    /// Group ::= ")" | "," Row ")", after "(" Par
-    #[cycle(parse)]
-    pub fn group(&mut self, inner: Part<Proc>, free: u32) -> Result<Part<Proc>, Fault>
-        requires { inner.height < free }
-        ensures reads { Gives free (Sort.Group processes (of_proc inner)) of_proc (view self.old.cursor.rest.now) result (view self.new.cursor.rest.now) }
-        ensures room { IfOk result (λ p. p.height ≤ free) }
-        ensures shorter { length self.new.cursor.rest.now ≤ length self.old.cursor.rest.now }
-    {
-        if self.cursor.sees(Mark::Comma) {
-            self.group_tuple(inner, free)
-        } else {
-            self.cursor.group_close(inner)
+        if !self.cursor.sees(Mark::Comma) {
+            return self.cursor.group_close(inner);
         }
-    }
-
-    /// The further members of a tuple.
-    #[cycle(parse)]
-    pub fn group_tuple(&mut self, inner: Part<Proc>, free: u32) -> Result<Part<Proc>, Fault>
-        requires { inner.height < free }
-        ensures reads { Makes free (rule Tutorial (Prod.group_tuple processes (of_proc inner))) of_proc (view self.old.cursor.rest.now) result (view self.new.cursor.rest.now) }
-        ensures room { IfOk result (λ p. p.height ≤ free) }
-        ensures shorter { length self.new.cursor.rest.now ≤ length self.old.cursor.rest.now }
-    {
         match self.cursor.expect(Mark::Comma) {
             Ok(()) => {}
             Err(fault) => return parts::give_up(inner, fault),
@@ -171,44 +105,10 @@ impl<'a> Parser<'a> {
         ensures shorter { length self.new.cursor.rest.now ≤ length self.old.cursor.rest.now }
     {
         self.cursor.opens(Mark::OpenBrace, 0, free)?;
-        self.brace(free)
-    }
-
-    /// Brace ::= "}" | Par "}" | Par ":" Par { "," Par ":" Par } "}", after "{"
-    #[cycle(parse)]
-    pub fn brace(&mut self, free: u32) -> Result<Part<Proc>, Fault>
-        requires { 0 < free }
-        ensures reads { Gives free Sort.Brace of_proc (view self.old.cursor.rest.now) result (view self.new.cursor.rest.now) }
-        ensures room { IfOk result (λ p. p.height ≤ free) }
-        ensures shorter { length self.new.cursor.rest.now ≤ length self.old.cursor.rest.now }
-    {
         if self.cursor.sees(Mark::CloseBrace) {
-            self.cursor.empty_map()
-        } else {
-            self.brace_some(free)
+            return self.cursor.empty_map();
         }
-    }
-
-    /// A block, or a map that has pairs.
-    #[cycle(parse)]
-    pub fn brace_some(&mut self, free: u32) -> Result<Part<Proc>, Fault>
-        requires { 0 < free }
-        ensures reads { Makes free (rule Tutorial Prod.brace_some) of_proc (view self.old.cursor.rest.now) result (view self.new.cursor.rest.now) }
-        ensures room { IfOk result (λ p. p.height ≤ free) }
-        ensures shorter { length self.new.cursor.rest.now ≤ length self.old.cursor.rest.now }
-    {
         let inner = self.par(free - 1)?;
-        self.brace_tail(inner, free)
-    }
-
-    /// What follows the first process of a block or a map.
-    #[cycle(parse)]
-    pub fn brace_tail(&mut self, inner: Part<Proc>, free: u32) -> Result<Part<Proc>, Fault>
-        requires { inner.height < free }
-        ensures reads { Gives free (Sort.BraceTail (of_proc inner)) of_proc (view self.old.cursor.rest.now) result (view self.new.cursor.rest.now) }
-        ensures room { IfOk result (λ p. p.height ≤ free) }
-        ensures shorter { length self.new.cursor.rest.now ≤ length self.old.cursor.rest.now }
-    {
         if self.cursor.sees(Mark::Colon) {
             self.brace_pair(inner, free)
         } else {
@@ -216,7 +116,7 @@ impl<'a> Parser<'a> {
         }
     }
 
-    /// The value of the first key of a map, and what follows it.
+    /// The pairs of a map, whose first key was read.
     #[cycle(parse)]
     pub fn brace_pair(&mut self, inner: Part<Proc>, free: u32) -> Result<Part<Proc>, Fault>
         requires { inner.height < free }
@@ -232,23 +132,11 @@ impl<'a> Parser<'a> {
             Ok(value) => value,
             Err(fault) => return parts::give_up(inner, fault),
         };
-        let first = parts::start(self.cursor.alloc, parts::pair(inner, value))?;
-        self.pairs(first, free)
-    }
-
-    /// The further pairs of a map, and its end.
-    #[cycle(parse)]
-    pub fn pairs(&mut self, pairs: Part<Vec<(Proc, Proc)>>, free: u32) -> Result<Part<Proc>, Fault>
-        requires { pairs.height < free }
-        ensures reads { Gives free (Sort.Pairs (pairs_written pairs.value.items) pairs.height) of_proc (view self.old.cursor.rest.now) result (view self.new.cursor.rest.now) }
-        ensures room { IfOk result (λ p. p.height ≤ free) }
-        ensures shorter { length self.new.cursor.rest.now ≤ length self.old.cursor.rest.now }
-    {
-        let mut all = pairs;
+        let mut pairs = parts::start(self.cursor.alloc, parts::pair(inner, value))?;
         while self.cursor.sees(Mark::Comma) {
-            all = self.next_pair(all, free)?;
+            pairs = self.next_pair(pairs, free)?;
         }
-        self.cursor.map_close(all)
+        self.cursor.map_close(pairs)
     }
 
     /// A comma and one more pair.
@@ -308,43 +196,16 @@ impl<'a> Parser<'a> {
         ensures shorter { length self.new.cursor.rest.now ≤ length self.old.cursor.rest.now }
     {
         if self.cursor.sees_closing(bracket) {
-            self.cursor.row_none(bracket)
-        } else {
-            self.row_some(bracket, free)
+            return self.cursor.row_none(bracket);
         }
-    }
-
-    /// Members.
-    #[cycle(parse)]
-    pub fn row_some(&mut self, bracket: Bracket, free: u32) -> Result<Part<Vec<Proc>>, Fault>
-        ensures reads { Makes free (rule Tutorial (Prod.row_some processes (bracket_of bracket))) of_row (view self.old.cursor.rest.now) result (view self.new.cursor.rest.now) }
-        ensures room { IfOk result (λ p. p.height ≤ free) }
-        ensures shorter { length self.new.cursor.rest.now ≤ length self.old.cursor.rest.now }
-    {
         let first = self.par(free)?;
         let mut members = parts::start(self.cursor.alloc, first)?;
         while self.cursor.sees(Mark::Comma) {
-            members = self.next_member(bracket, members, free)?;
+            self.cursor.expect(Mark::Comma)?;
+            let next = self.par(free)?;
+            members = parts::push(members, next)?;
         }
         self.cursor.expect_closing(bracket)?;
         Ok(members)
-    }
-
-    /// A comma and one more member.
-    #[cycle(parse)]
-    pub fn next_member(
-        &mut self,
-        bracket: Bracket,
-        members: Part<Vec<Proc>>,
-        free: u32,
-    ) -> Result<Part<Vec<Proc>>, Fault>
-        requires { members.height ≤ free }
-        ensures reads { Turns free (rule Tutorial (Prod.row_more processes (bracket_of bracket) (map proc_written members.value.items) members.height)) (λ p. last (Sort.RowTail processes (bracket_of bracket) (map proc_written p.value.items) p.height)) (view self.old.cursor.rest.now) result (view self.new.cursor.rest.now) }
-        ensures room { IfOk result (λ p. p.height ≤ free) }
-        ensures shorter { MatchResult result (λ _. length self.new.cursor.rest.now < length self.old.cursor.rest.now) (λ _. length self.new.cursor.rest.now ≤ length self.old.cursor.rest.now) }
-    {
-        self.cursor.expect(Mark::Comma)?;
-        let next = self.par(free)?;
-        parts::push(members, next)
     }
 }

@@ -23,43 +23,16 @@ impl<'a> Parser<'a> {
         ensures room { IfOk result (λ p. p.height ≤ free) }
         ensures shorter { length self.new.cursor.rest.now ≤ length self.old.cursor.rest.now }
     {
-        if self.cursor.sees_name_pattern() {
-            self.left_some(free)
-        } else {
-            self.cursor.left_alone()
+        if !self.cursor.sees_name_pattern() {
+            return self.cursor.left_alone();
         }
-    }
-
-    /// One pattern or more.
-    #[cycle(parse)]
-    fn left_some(&mut self, free: u32) -> Result<Part<Left>, Fault>
-        ensures reads { Makes free (rule Tutorial Prod.left_some) of_left (view self.old.cursor.rest.now) result (view self.new.cursor.rest.now) }
-        ensures room { IfOk result (λ p. p.height ≤ free) }
-        ensures shorter { length self.new.cursor.rest.now ≤ length self.old.cursor.rest.now }
-    {
         let first = self.pattern_name(free)?;
         let mut pats = parts::start(self.cursor.alloc, first)?;
         while self.cursor.sees_member() {
-            pats = self.left_more(pats, free)?;
+            self.cursor.expect(Mark::Comma)?;
+            let next = self.pattern_name(free)?;
+            pats = parts::push(pats, next)?;
         }
         self.cursor.left_end(pats)
-    }
-
-    /// A comma and one more pattern.
-    #[cycle(parse)]
-    fn left_more(
-        &mut self,
-        pats: Part<Vec<NamePat>>,
-        free: u32,
-    ) -> Result<Part<Vec<NamePat>>, Fault>
-        requires member { sees_member (view self.old.cursor.rest.now) ≡ true }
-        requires room { pats.height ≤ free }
-        ensures reads { Turns free (rule Tutorial (choose (Sort.LeftTail (map name_pat_written pats.value.items) pats.height) (view self.old.cursor.rest.now))) (λ p. last (Sort.LeftTail (map name_pat_written p.value.items) p.height)) (view self.old.cursor.rest.now) result (view self.new.cursor.rest.now) }
-        ensures room { IfOk result (λ p. p.height ≤ free) }
-        ensures shorter { MatchResult result (λ _. length self.new.cursor.rest.now < length self.old.cursor.rest.now) (λ _. length self.new.cursor.rest.now ≤ length self.old.cursor.rest.now) }
-    {
-        self.cursor.expect(Mark::Comma)?;
-        let next = self.pattern_name(free)?;
-        parts::push(pats, next)
     }
 }

@@ -3,6 +3,7 @@
 #![tactic(auto)]
 
 mod atom;
+mod closed_form;
 mod left;
 mod operation;
 pub mod parse_fault;

@@ -118,34 +118,24 @@ impl<'a> Parser<'a> {
     {
         let mut target = self.drop_form(free)?;
         while self.cursor.sees(Mark::Dot) {
-            target = self.meth_call(target, free)?;
+            match self.cursor.opens(Mark::Dot, target.height, free) {
+                Ok(()) => {}
+                Err(fault) => return parts::give_up(target, fault),
+            }
+            let name = match self.cursor.word() {
+                Ok(name) => name,
+                Err(fault) => return parts::give_up(target, fault),
+            };
+            match self.cursor.expect(Mark::Open) {
+                Ok(()) => {}
+                Err(fault) => return parts::give_up(target, fault),
+            }
+            let args = match self.row(Bracket::Round, free - 1) {
+                Ok(args) => args,
+                Err(fault) => return parts::give_up(target, fault),
+            };
+            target = process_forms::method(self.cursor.alloc, name, target, args)?;
         }
         Ok(target)
-    }
-
-    /// A dot, a method and its arguments.
-    #[cycle(parse)]
-    pub fn meth_call(&mut self, target: Part<Proc>, free: u32) -> Result<Part<Proc>, Fault>
-        requires { target.height ≤ free }
-        ensures reads { Turns free (rule Tutorial (Prod.meth_call (of_proc target))) (λ p. last (Sort.MethTail (of_proc p))) (view self.old.cursor.rest.now) result (view self.new.cursor.rest.now) }
-        ensures room { IfOk result (λ p. p.height ≤ free) }
-        ensures shorter { MatchResult result (λ _. length self.new.cursor.rest.now < length self.old.cursor.rest.now) (λ _. length self.new.cursor.rest.now ≤ length self.old.cursor.rest.now) }
-    {
-        match self.cursor.opens(Mark::Dot, target.height, free) {
-            Ok(()) => {}
-            Err(fault) => return parts::give_up(target, fault),
-        }
-        let name = match self.cursor.word() {
-            Ok(name) => name,
-            Err(fault) => return parts::give_up(target, fault),
-        };
-        match self.cursor.expect(Mark::Open) {
-            Ok(()) => {}
-            Err(fault) => return parts::give_up(target, fault),
-        }
-        match self.row(Bracket::Round, free - 1) {
-            Ok(args) => process_forms::method(self.cursor.alloc, name, target, args),
-            Err(fault) => parts::give_up(target, fault),
-        }
     }
 }

@@ -64,34 +64,12 @@ impl<'a> Parser<'a> {
         ensures shorter { length self.new.cursor.rest.now ≤ length self.old.cursor.rest.now }
     {
         self.cursor.opens(Mark::Assign, 0, free)?;
-        self.same(free)
-    }
-
-    /// Same ::= Word | "*" Word | "{" Par "}", after "="
-    #[cycle(parse)]
-    fn same(&mut self, free: u32) -> Result<Part<Pat>, Fault>
-        requires { 0 < free }
-        ensures reads { Gives free Sort.Same of_pat (view self.old.cursor.rest.now) result (view self.new.cursor.rest.now) }
-        ensures room { IfOk result (λ p. p.height ≤ free) }
-        ensures shorter { length self.new.cursor.rest.now ≤ length self.old.cursor.rest.now }
-    {
         if self.cursor.sees(Mark::Star) {
-            self.cursor.same_drop()
-        } else if self.cursor.sees(Mark::OpenBrace) {
-            self.same_block(free)
-        } else {
-            self.cursor.same_word()
+            return self.cursor.same_drop();
         }
-    }
-
-    /// `={P}`
-    #[cycle(parse)]
-    fn same_block(&mut self, free: u32) -> Result<Part<Pat>, Fault>
-        requires { 0 < free }
-        ensures reads { Makes free (rule Tutorial Prod.same_block) of_pat (view self.old.cursor.rest.now) result (view self.new.cursor.rest.now) }
-        ensures room { IfOk result (λ p. p.height ≤ free) }
-        ensures shorter { length self.new.cursor.rest.now ≤ length self.old.cursor.rest.now }
-    {
+        if !self.cursor.sees(Mark::OpenBrace) {
+            return self.cursor.same_word();
+        }
         self.cursor.expect(Mark::OpenBrace)?;
         let body = self.par(free - 1)?;
         match self.cursor.expect(Mark::CloseBrace) {
@@ -100,7 +78,7 @@ impl<'a> Parser<'a> {
         }
     }
 
-    /// A pattern in parentheses, or a tuple.
+    /// Parentheses around a pattern, or a tuple of patterns.
     #[cycle(parse)]
     fn pattern_open(&mut self, free: u32) -> Result<Part<Pat>, Fault>
         ensures reads { Makes free (rule Tutorial Prod.patom_open) of_pat (view self.old.cursor.rest.now) result (view self.new.cursor.rest.now) }
@@ -109,32 +87,9 @@ impl<'a> Parser<'a> {
     {
         self.cursor.opens(Mark::Open, 0, free)?;
         let first = self.pattern_par(free - 1)?;
-        self.pattern_group(first, free)
-    }
-
-    /// Group ::= ")" | "," Row ")", after "(" PPar
-    #[cycle(parse)]
-    fn pattern_group(&mut self, first: Part<Pat>, free: u32) -> Result<Part<Pat>, Fault>
-        requires { first.height < free }
-        ensures reads { Gives free (Sort.Group patterns (of_pat first)) of_pat (view self.old.cursor.rest.now) result (view self.new.cursor.rest.now) }
-        ensures room { IfOk result (λ p. p.height ≤ free) }
-        ensures shorter { length self.new.cursor.rest.now ≤ length self.old.cursor.rest.now }
-    {
-        if self.cursor.sees(Mark::Comma) {
-            self.pattern_tuple(first, free)
-        } else {
-            self.cursor.pattern_close(first)
+        if !self.cursor.sees(Mark::Comma) {
+            return self.cursor.pattern_close(first);
         }
-    }
-
-    /// The other members of a tuple.
-    #[cycle(parse)]
-    fn pattern_tuple(&mut self, first: Part<Pat>, free: u32) -> Result<Part<Pat>, Fault>
-        requires { first.height < free }
-        ensures reads { Makes free (rule Tutorial (Prod.group_tuple patterns (of_pat first))) of_pat (view self.old.cursor.rest.now) result (view self.new.cursor.rest.now) }
-        ensures room { IfOk result (λ p. p.height ≤ free) }
-        ensures shorter { length self.new.cursor.rest.now ≤ length self.old.cursor.rest.now }
-    {
         match self.cursor.expect(Mark::Comma) {
             Ok(()) => {}
             Err(fault) => return parts::give_up(first, fault),
@@ -153,44 +108,17 @@ impl<'a> Parser<'a> {
         ensures shorter { length self.new.cursor.rest.now ≤ length self.old.cursor.rest.now }
     {
         if self.cursor.sees_closing(bracket) {
-            self.cursor.pattern_row_none(bracket)
-        } else {
-            self.pattern_row_some(bracket, free)
+            return self.cursor.pattern_row_none(bracket);
         }
-    }
-
-    /// One member or more.
-    #[cycle(parse)]
-    fn pattern_row_some(&mut self, bracket: Bracket, free: u32) -> Result<Part<Vec<Pat>>, Fault>
-        ensures reads { Makes free (rule Tutorial (Prod.row_some patterns (bracket_of bracket))) of_pat_row (view self.old.cursor.rest.now) result (view self.new.cursor.rest.now) }
-        ensures room { IfOk result (λ p. p.height ≤ free) }
-        ensures shorter { length self.new.cursor.rest.now ≤ length self.old.cursor.rest.now }
-    {
         let first = self.pattern_par(free)?;
         let mut members = parts::start(self.cursor.alloc, first)?;
         while self.cursor.sees(Mark::Comma) {
-            members = self.pattern_row_more(bracket, members, free)?;
+            self.cursor.expect(Mark::Comma)?;
+            let next = self.pattern_par(free)?;
+            members = parts::push(members, next)?;
         }
         self.cursor.expect_closing(bracket)?;
         Ok(members)
-    }
-
-    /// A comma and one more member.
-    #[cycle(parse)]
-    fn pattern_row_more(
-        &mut self,
-        bracket: Bracket,
-        members: Part<Vec<Pat>>,
-        free: u32,
-    ) -> Result<Part<Vec<Pat>>, Fault>
-        requires { members.height ≤ free }
-        ensures reads { Turns free (rule Tutorial (Prod.row_more patterns (bracket_of bracket) (map pat_written members.value.items) members.height)) (λ p. last (Sort.RowTail patterns (bracket_of bracket) (map pat_written p.value.items) p.height)) (view self.old.cursor.rest.now) result (view self.new.cursor.rest.now) }
-        ensures room { IfOk result (λ p. p.height ≤ free) }
-        ensures shorter { MatchResult result (λ _. length self.new.cursor.rest.now < length self.old.cursor.rest.now) (λ _. length self.new.cursor.rest.now ≤ length self.old.cursor.rest.now) }
-    {
-        self.cursor.expect(Mark::Comma)?;
-        let next = self.pattern_par(free)?;
-        parts::push(members, next)
     }
 
     /// A list.
@@ -227,46 +155,19 @@ impl<'a> Parser<'a> {
         ensures shorter { length self.new.cursor.rest.now ≤ length self.old.cursor.rest.now }
     {
         if self.cursor.sees_closing(bracket) {
-            self.cursor.sequence_none(bracket)
-        } else if self.cursor.sees(Mark::Ellipsis) {
-            self.cursor.sequence_only_rest(bracket)
-        } else {
-            self.sequence_some(bracket, free)
+            return self.cursor.sequence_none(bracket);
         }
-    }
-
-    /// One member or more.
-    #[cycle(parse)]
-    fn sequence_some(&mut self, bracket: Bracket, free: u32) -> Result<Part<Sequence>, Fault>
-        ensures reads { Makes free (rule Tutorial (Prod.seq_some (bracket_of bracket))) of_sequence (view self.old.cursor.rest.now) result (view self.new.cursor.rest.now) }
-        ensures room { IfOk result (λ p. p.height ≤ free) }
-        ensures shorter { length self.new.cursor.rest.now ≤ length self.old.cursor.rest.now }
-    {
+        if self.cursor.sees(Mark::Ellipsis) {
+            return self.cursor.sequence_only_rest(bracket);
+        }
         let first = self.pattern_par(free)?;
         let mut pats = parts::start(self.cursor.alloc, first)?;
         while self.cursor.sees_member() {
-            pats = self.sequence_more(bracket, pats, free)?;
+            self.cursor.expect(Mark::Comma)?;
+            let next = self.pattern_par(free)?;
+            pats = parts::push(pats, next)?;
         }
         self.cursor.sequence_end(bracket, pats)
-    }
-
-    /// A comma and one more member.
-    #[cycle(parse)]
-    fn sequence_more(
-        &mut self,
-        bracket: Bracket,
-        pats: Part<Vec<Pat>>,
-        free: u32,
-    ) -> Result<Part<Vec<Pat>>, Fault>
-        requires member { sees_member (view self.old.cursor.rest.now) ≡ true }
-        requires room { pats.height ≤ free }
-        ensures reads { Turns free (rule Tutorial (choose (Sort.SeqTail (bracket_of bracket) (map pat_written pats.value.items) pats.height) (view self.old.cursor.rest.now))) (λ p. last (Sort.SeqTail (bracket_of bracket) (map pat_written p.value.items) p.height)) (view self.old.cursor.rest.now) result (view self.new.cursor.rest.now) }
-        ensures room { IfOk result (λ p. p.height ≤ free) }
-        ensures shorter { MatchResult result (λ _. length self.new.cursor.rest.now < length self.old.cursor.rest.now) (λ _. length self.new.cursor.rest.now ≤ length self.old.cursor.rest.now) }
-    {
-        self.cursor.expect(Mark::Comma)?;
-        let next = self.pattern_par(free)?;
-        parts::push(pats, next)
     }
 
     /// A map, or a pattern in braces.
@@ -277,46 +178,13 @@ impl<'a> Parser<'a> {
         ensures shorter { length self.new.cursor.rest.now ≤ length self.old.cursor.rest.now }
     {
         self.cursor.opens(Mark::OpenBrace, 0, free)?;
-        self.pattern_braced(free)
-    }
-
-    /// PBrace ::= PMap "}" | PPar "}", after "{"
-    #[cycle(parse)]
-    fn pattern_braced(&mut self, free: u32) -> Result<Part<Pat>, Fault>
-        requires { 0 < free }
-        ensures reads { Gives free Sort.PBrace of_pat (view self.old.cursor.rest.now) result (view self.new.cursor.rest.now) }
-        ensures room { IfOk result (λ p. p.height ≤ free) }
-        ensures shorter { length self.new.cursor.rest.now ≤ length self.old.cursor.rest.now }
-    {
         if self.cursor.sees(Mark::CloseBrace) {
-            self.cursor.empty_map_pat()
-        } else if self.cursor.sees(Mark::Ellipsis) {
-            self.cursor.rest_map_pat()
-        } else {
-            self.pattern_brace_some(free)
+            return self.cursor.empty_map_pat();
         }
-    }
-
-    /// A pattern and what follows it in braces.
-    #[cycle(parse)]
-    fn pattern_brace_some(&mut self, free: u32) -> Result<Part<Pat>, Fault>
-        requires { 0 < free }
-        ensures reads { Makes free (rule Tutorial Prod.pbrace_some) of_pat (view self.old.cursor.rest.now) result (view self.new.cursor.rest.now) }
-        ensures room { IfOk result (λ p. p.height ≤ free) }
-        ensures shorter { length self.new.cursor.rest.now ≤ length self.old.cursor.rest.now }
-    {
+        if self.cursor.sees(Mark::Ellipsis) {
+            return self.cursor.rest_map_pat();
+        }
         let first = self.pattern_par(free - 1)?;
-        self.pattern_brace_tail(first, free)
-    }
-
-    /// A `}`, or the value of a first key and the other pairs.
-    #[cycle(parse)]
-    fn pattern_brace_tail(&mut self, first: Part<Pat>, free: u32) -> Result<Part<Pat>, Fault>
-        requires { first.height < free }
-        ensures reads { Gives free (Sort.PBraceTail (of_pat first)) of_pat (view self.old.cursor.rest.now) result (view self.new.cursor.rest.now) }
-        ensures room { IfOk result (λ p. p.height ≤ free) }
-        ensures shorter { length self.new.cursor.rest.now ≤ length self.old.cursor.rest.now }
-    {
         if self.cursor.sees(Mark::Colon) {
             self.pattern_pairs(first, free)
         } else {

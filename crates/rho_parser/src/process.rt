@@ -26,22 +26,11 @@ impl<'a> Parser<'a> {
         let first = self.one(free)?;
         let mut parts = parts::start(self.cursor.alloc, first)?;
         while self.cursor.sees(Mark::Bar) {
-            parts = self.next_part(parts, free)?;
+            self.cursor.expect(Mark::Bar)?;
+            let next = self.one(free)?;
+            parts = parts::push(parts, next)?;
         }
         Ok(process_forms::composed(parts))
-    }
-
-    /// A bar and one more part.
-    #[cycle(parse)]
-    pub fn next_part(&mut self, parts: Part<Vec<Proc>>, free: u32) -> Result<Part<Vec<Proc>>, Fault>
-        requires { parts.height ≤ free }
-        ensures reads { Turns free (rule Tutorial (Prod.par_more processes (map proc_written parts.value.items) parts.height)) (λ p. last (Sort.ParTail processes (map proc_written p.value.items) p.height)) (view self.old.cursor.rest.now) result (view self.new.cursor.rest.now) }
-        ensures room { IfOk result (λ p. p.height ≤ free) }
-        ensures shorter { MatchResult result (λ _. length self.new.cursor.rest.now < length self.old.cursor.rest.now) (λ _. length self.new.cursor.rest.now ≤ length self.old.cursor.rest.now) }
-    {
-        self.cursor.expect(Mark::Bar)?;
-        let next = self.one(free)?;
-        parts::push(parts, next)
     }
 
     /// One ::= New | If | Contract | Two
@@ -90,47 +79,13 @@ impl<'a> Parser<'a> {
             Ok(()) => {}
             Err(fault) => return parts::give_up(condition, fault),
         }
-        match self.two(free - 1) {
-            Ok(yes) => self.if_tail(condition, yes, free),
-            Err(fault) => parts::give_up(condition, fault),
+        let yes = match self.two(free - 1) {
+            Ok(yes) => yes,
+            Err(fault) => return parts::give_up(condition, fault),
+        };
+        if !self.cursor.sees(Mark::Else) {
+            return process_forms::if_only(self.cursor.alloc, condition, yes);
         }
-    }
-
-    /// What follows the first branch of an `if`.
-    #[cycle(parse)]
-    pub fn if_tail(
-        &mut self,
-        condition: Part<Proc>,
-        yes: Part<Proc>,
-        free: u32,
-    ) -> Result<Part<Proc>, Fault>
-        requires condition { condition.height < free }
-        requires yes { yes.height < free }
-        ensures reads { Gives free (Sort.IfTail (of_proc condition) (of_proc yes)) of_proc (view self.old.cursor.rest.now) result (view self.new.cursor.rest.now) }
-        ensures room { IfOk result (λ p. p.height ≤ free) }
-        ensures shorter { length self.new.cursor.rest.now ≤ length self.old.cursor.rest.now }
-    {
-        if self.cursor.sees(Mark::Else) {
-            self.if_else(condition, yes, free)
-        } else {
-            process_forms::if_only(self.cursor.alloc, condition, yes)
-        }
-    }
-
-    /// The second branch of an `if`.
-    #[cycle(parse)]
-    pub fn if_else(
-        &mut self,
-        condition: Part<Proc>,
-        yes: Part<Proc>,
-        free: u32,
-    ) -> Result<Part<Proc>, Fault>
-        requires condition { condition.height < free }
-        requires yes { yes.height < free }
-        ensures reads { Makes free (rule Tutorial (Prod.if_else (of_proc condition) (of_proc yes))) of_proc (view self.old.cursor.rest.now) result (view self.new.cursor.rest.now) }
-        ensures room { IfOk result (λ p. p.height ≤ free) }
-        ensures shorter { length self.new.cursor.rest.now ≤ length self.old.cursor.rest.now }
-    {
         match self.cursor.expect(Mark::Else) {
             Ok(()) => {}
             Err(fault) => return parts::give_up((condition, yes), fault),
@@ -188,38 +143,20 @@ impl<'a> Parser<'a> {
         ensures shorter { length self.new.cursor.rest.now ≤ length self.old.cursor.rest.now }
     {
         let name = self.cursor.word()?;
-        self.sent(process_forms::channel(name), free)
-    }
-
-    /// What follows the variable of a send, which is opened here.
-    #[cycle(parse)]
-    pub fn sent(&mut self, channel: Part<Name>, free: u32) -> Result<Part<Proc>, Fault>
-        requires { channel.height ≡ 0 }
-        ensures reads { Gives free (Sort.Sent processes (of_name channel)) of_proc (view self.old.cursor.rest.now) result (view self.new.cursor.rest.now) }
-        ensures room { IfOk result (λ p. p.height ≤ free) }
-        ensures shorter { length self.new.cursor.rest.now ≤ length self.old.cursor.rest.now }
-    {
+        let channel = process_forms::channel(name);
         let persistent = self.cursor.sees(Mark::DoubleBang);
-        self.send(channel, persistent, free)
-    }
-
-    /// A mark of a send and its row.
-    #[cycle(parse)]
-    pub fn send(
-        &mut self,
-        channel: Part<Name>,
-        persistent: bool,
-        free: u32,
-    ) -> Result<Part<Proc>, Fault>
-        requires { channel.height ≡ 0 }
-        ensures reads { Makes free (rule Tutorial (Prod.sent processes (of_name channel) persistent)) of_proc (view self.old.cursor.rest.now) result (view self.new.cursor.rest.now) }
-        ensures room { IfOk result (λ p. p.height ≤ free) }
-        ensures shorter { length self.new.cursor.rest.now ≤ length self.old.cursor.rest.now }
-    {
-        self.cursor.opens_bang(persistent, free)?;
-        self.cursor.expect(Mark::Open)?;
-        let args = self.row(Bracket::Round, free - 1)?;
-        Ok(process_forms::send(channel, args, persistent))
+        match self.cursor.opens_bang(persistent, free) {
+            Ok(()) => {}
+            Err(fault) => return parts::give_up(channel, fault),
+        }
+        match self.cursor.expect(Mark::Open) {
+            Ok(()) => {}
+            Err(fault) => return parts::give_up(channel, fault),
+        }
+        match self.row(Bracket::Round, free - 1) {
+            Ok(args) => Ok(process_forms::send(channel, args, persistent)),
+            Err(fault) => parts::give_up(channel, fault),
+        }
     }
 
     /// A send on a quoted process, which is opened at the `@`.
@@ -232,38 +169,19 @@ impl<'a> Parser<'a> {
         self.cursor.opens(Mark::At, 0, free)?;
         let quoted = self.drop_form(free - 1)?;
         let channel = process_forms::quote(self.cursor.alloc, quoted)?;
-        self.sent_tail(channel, free)
-    }
-
-    /// What follows the quoted process of a send.
-    #[cycle(parse)]
-    pub fn sent_tail(&mut self, channel: Part<Name>, free: u32) -> Result<Part<Proc>, Fault>
-        requires { channel.height < free }
-        ensures reads { Gives free (Sort.SentTail processes (of_name channel)) of_proc (view self.old.cursor.rest.now) result (view self.new.cursor.rest.now) }
-        ensures room { IfOk result (λ p. p.height ≤ free) }
-        ensures shorter { length self.new.cursor.rest.now ≤ length self.old.cursor.rest.now }
-    {
         let persistent = self.cursor.sees(Mark::DoubleBang);
-        self.send_on(channel, persistent, free)
-    }
-
-    /// A mark of a send, and its row.
-    #[cycle(parse)]
-    pub fn send_on(
-        &mut self,
-        channel: Part<Name>,
-        persistent: bool,
-        free: u32,
-    ) -> Result<Part<Proc>, Fault>
-        requires { channel.height < free }
-        ensures reads { Makes free (rule Tutorial (Prod.sent_tail processes (of_name channel) persistent)) of_proc (view self.old.cursor.rest.now) result (view self.new.cursor.rest.now) }
-        ensures room { IfOk result (λ p. p.height ≤ free) }
-        ensures shorter { length self.new.cursor.rest.now ≤ length self.old.cursor.rest.now }
-    {
-        self.cursor.expect_bang(persistent)?;
-        self.cursor.expect(Mark::Open)?;
-        let args = self.row(Bracket::Round, free - 1)?;
-        Ok(process_forms::send(channel, args, persistent))
+        match self.cursor.expect_bang(persistent) {
+            Ok(()) => {}
+            Err(fault) => return parts::give_up(channel, fault),
+        }
+        match self.cursor.expect(Mark::Open) {
+            Ok(()) => {}
+            Err(fault) => return parts::give_up(channel, fault),
+        }
+        match self.row(Bracket::Round, free - 1) {
+            Ok(args) => Ok(process_forms::send(channel, args, persistent)),
+            Err(fault) => parts::give_up(channel, fault),
+        }
     }
 
     /// Bundle ::= ( "bundle" | "bundle+" | "bundle-" | "bundle0" ) "{" Par "}"

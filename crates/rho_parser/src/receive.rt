@@ -2,10 +2,10 @@
 ghost use Rattle.calculus.specs.Meaning.{bind_written};
 ghost use Rattle.grammar.specs.Grammar.{rule};
 ghost use Rattle.grammar.specs.Productions.{Prod};
-ghost use Rattle.grammar.specs.Rules.{Sort, last};
+ghost use Rattle.grammar.specs.Rules.{Sort, last, separator_mark, sign};
 ghost use Rattle.grammar.specs.declared.dialect.Dialect.TheVariants.{Tutorial};
 ghost use Rattle.token_cursor.specs.Meaning.{view};
-ghost use Rattle.rho_parser.specs.Reading.{MoreBinds, ReadsCase, ReadsCases};
+ghost use Rattle.rho_parser.specs.Reading.{ReadsCase, ReadsCases};
 ghost use Rattle.token_cursor.specs.Reading.{Gives, Makes, Turns, of_bind, of_left, of_proc, separator_of};
 ghost use Rattle.grammar.specs.Rules as separators;
 ghost use Rattle.std.specs.Prelude.{◌<◌, ◌≤◌, IfOk, MatchResult, ℕ, length, map};
@@ -26,29 +26,7 @@ impl<'a> Parser<'a> {
     {
         self.cursor.opens(Mark::For, 0, free)?;
         self.cursor.expect(Mark::Open)?;
-        self.bind(free)
-    }
-
-    /// A first bind, and what follows it in a receive.
-    #[cycle(parse)]
-    pub fn bind(&mut self, free: u32) -> Result<Part<Proc>, Fault>
-        requires { 0 < free }
-        ensures reads { Gives free Sort.Bind of_proc (view self.old.cursor.rest.now) result (view self.new.cursor.rest.now) }
-        ensures room { IfOk result (λ p. p.height ≤ free) }
-        ensures shorter { length self.new.cursor.rest.now ≤ length self.old.cursor.rest.now }
-    {
         let left = self.left(free - 1)?;
-        self.arrow_form(left, free)
-    }
-
-    /// What follows the patterns of a first bind.
-    #[cycle(parse)]
-    pub fn arrow_form(&mut self, left: Part<Left>, free: u32) -> Result<Part<Proc>, Fault>
-        requires { left.height < free }
-        ensures reads { Gives free (Sort.Arrow (of_left left)) of_proc (view self.old.cursor.rest.now) result (view self.new.cursor.rest.now) }
-        ensures room { IfOk result (λ p. p.height ≤ free) }
-        ensures shorter { length self.new.cursor.rest.now ≤ length self.old.cursor.rest.now }
-    {
         let kind = self.cursor.arrow();
         self.cursor.expect_arrow(kind)?;
         let channel = self.name(free - 1)?;
@@ -68,48 +46,31 @@ impl<'a> Parser<'a> {
         ensures room { IfOk result (λ p. p.height ≤ free) }
         ensures shorter { length self.new.cursor.rest.now ≤ length self.old.cursor.rest.now }
     {
+        let first = parts::start(self.cursor.alloc, bind)?;
         if self.cursor.sees(Mark::Semicolon) {
-            self.first_more(kind, Separator::Semicolon, bind, free)
+            self.more_binds(kind, Separator::Semicolon, first, free)
         } else if self.cursor.sees(Mark::Ampersand) {
-            self.first_more(kind, Separator::Ampersand, bind, free)
+            self.more_binds(kind, Separator::Ampersand, first, free)
         } else {
-            self.first_end(kind, bind, free)
+            self.body(kind, first, free)
         }
     }
 
-    /// The body of a receive of one bind.
+    /// A separator, a second bind, and what follows it.
     #[cycle(parse)]
-    pub fn first_end(
-        &mut self,
-        kind: Kind,
-        bind: Part<Bind>,
-        free: u32,
-    ) -> Result<Part<Proc>, Fault>
-        requires { bind.height < free }
-        ensures reads { Makes free (rule Tutorial (Prod.first_end kind (of_bind bind))) of_proc (view self.old.cursor.rest.now) result (view self.new.cursor.rest.now) }
-        ensures room { IfOk result (λ p. p.height ≤ free) }
-        ensures shorter { length self.new.cursor.rest.now ≤ length self.old.cursor.rest.now }
-    {
-        let binds = parts::start(self.cursor.alloc, bind)?;
-        self.body(kind, binds, free)
-    }
-
-    /// A separator and further binds.
-    #[cycle(parse)]
-    pub fn first_more(
+    pub fn more_binds(
         &mut self,
         kind: Kind,
         separator: Separator,
-        bind: Part<Bind>,
+        first: Part<Vec<Bind>>,
         free: u32,
     ) -> Result<Part<Proc>, Fault>
-        requires { bind.height < free }
-        ensures reads { Makes free (rule Tutorial (Prod.first_more kind (of_bind bind) (separator_of separator))) of_proc (view self.old.cursor.rest.now) result (view self.new.cursor.rest.now) }
+        requires { first.height < free }
+        ensures reads { Makes free (sign (separator_mark (separator_of separator)) (last (Sort.Binds kind (separator_of separator) 14 (map bind_written first.value.items) first.height))) of_proc (view self.old.cursor.rest.now) result (view self.new.cursor.rest.now) }
         ensures room { IfOk result (λ p. p.height ≤ free) }
         ensures shorter { length self.new.cursor.rest.now ≤ length self.old.cursor.rest.now }
     {
         self.cursor.expect_separator(separator)?;
-        let first = parts::start(self.cursor.alloc, bind)?;
         let binds = self.next_bind(kind, first, free)?;
         self.binds_tail(kind, separator, 14, binds, free)
     }
@@ -130,28 +91,11 @@ impl<'a> Parser<'a> {
         ensures shorter { length self.new.cursor.rest.now ≤ length self.old.cursor.rest.now }
     {
         if self.cursor.sees_bind(separator, more) {
-            let all = self.more_binds(kind, separator, binds, free)?;
+            self.cursor.expect_separator(separator)?;
+            let all = self.next_bind(kind, binds, free)?;
             return self.binds_tail(kind, separator, more - 1, all, free);
         }
         self.body(kind, binds, free)
-    }
-
-    /// A separator and one more bind.
-    #[cycle(parse)]
-    pub fn more_binds(
-        &mut self,
-        kind: Kind,
-        separator: Separator,
-        binds: Part<Vec<Bind>>,
-        free: u32,
-    ) -> Result<Part<Vec<Bind>>, Fault>
-        requires { binds.height < free }
-        ensures reads { MoreBinds free kind (separator_of separator) binds (view self.old.cursor.rest.now) result (view self.new.cursor.rest.now) }
-        ensures room { IfOk result (λ p. p.height < free) }
-        ensures shorter { MatchResult result (λ _. length self.new.cursor.rest.now < length self.old.cursor.rest.now) (λ _. length self.new.cursor.rest.now ≤ length self.old.cursor.rest.now) }
-    {
-        self.cursor.expect_separator(separator)?;
-        self.next_bind(kind, binds, free)
     }
 
     /// One more bind, of the kind of the first.

@@ -4,6 +4,7 @@ ghost use Rattle.std.specs.Prelude.{◌≡◌, map, IfOk};
 ghost use Rattle.calculus.specs.Meaning.{ground_label};
 ghost use Rattle.rho_term.specs.Parts.{part_tree, pat_part_tree, pair_tree, bind_tree, case_tree};
 
+use crate::room::with_room;
 use crate::term::{Part, PatPart, Term, TermBind, TermCase, TermPat};
 use calculus::Ground;
 use std::alloc::{AllocError, Global};
@@ -12,7 +13,7 @@ use std::alloc::{AllocError, Global};
 pub(crate) fn copy_term(alloc: Global, term: &Term) -> Result<Term, AllocError>
     ensures { IfOk result (λ t. t ≡ term.now) }
 {
-    let mut parts = Vec::new(alloc);
+    let mut parts = with_room(alloc, term.parts().len());
     for part in term.parts() {
         parts.push(copy_part(alloc, part)?)?;
     }
@@ -91,7 +92,7 @@ pub(crate) fn copy_part(alloc: Global, part: &Part) -> Result<Part, AllocError>
 pub(crate) fn copy_pat(alloc: Global, pat: &TermPat) -> Result<TermPat, AllocError>
     ensures { IfOk result (λ t. t ≡ pat.now) }
 {
-    let mut parts = Vec::new(alloc);
+    let mut parts = with_room(alloc, pat.parts().len());
     for part in pat.parts() {
         parts.push(copy_pat_part(alloc, part)?)?;
     }
@@ -151,7 +152,7 @@ fn copy_pat_part(alloc: Global, part: &PatPart) -> Result<PatPart, AllocError>
 fn copy_terms(alloc: Global, terms: &Vec<Term>) -> Result<Vec<Term>, AllocError>
     ensures { IfOk result (λ v. v.items ≡ terms.now.items) }
 {
-    let mut copies = Vec::new(alloc);
+    let mut copies = with_room(alloc, terms.len());
     for term in terms {
         copies.push(copy_term(alloc, term)?)?;
     }
@@ -162,7 +163,7 @@ fn copy_terms(alloc: Global, terms: &Vec<Term>) -> Result<Vec<Term>, AllocError>
 fn copy_pairs(alloc: Global, pairs: &Vec<(Term, Term)>) -> Result<Vec<(Term, Term)>, AllocError>
     ensures { IfOk result (λ v. map pair_tree v.items ≡ map pair_tree pairs.now.items) }
 {
-    let mut copies = Vec::new(alloc);
+    let mut copies = with_room(alloc, pairs.len());
     for pair in pairs {
         let key = copy_term(alloc, &pair.0)?;
         let value = copy_term(alloc, &pair.1)?;
@@ -175,7 +176,7 @@ fn copy_pairs(alloc: Global, pairs: &Vec<(Term, Term)>) -> Result<Vec<(Term, Ter
 fn copy_binds(alloc: Global, binds: &Vec<TermBind>) -> Result<Vec<TermBind>, AllocError>
     ensures { IfOk result (λ v. map bind_tree v.items ≡ map bind_tree binds.now.items) }
 {
-    let mut copies = Vec::new(alloc);
+    let mut copies = with_room(alloc, binds.len());
     for bind in binds {
         copies.push(copy_bind(alloc, bind)?)?;
     }
@@ -200,7 +201,7 @@ pub(crate) fn copy_bind(alloc: Global, bind: &TermBind) -> Result<TermBind, Allo
 fn copy_cases(alloc: Global, cases: &Vec<TermCase>) -> Result<Vec<TermCase>, AllocError>
     ensures { IfOk result (λ v. map case_tree v.items ≡ map case_tree cases.now.items) }
 {
-    let mut copies = Vec::new(alloc);
+    let mut copies = with_room(alloc, cases.len());
     for case in cases {
         let pat = copy_pat(alloc, &case.pat)?;
         let body = copy_term(alloc, &case.body)?;
@@ -213,7 +214,7 @@ fn copy_cases(alloc: Global, cases: &Vec<TermCase>) -> Result<Vec<TermCase>, All
 fn copy_pats(alloc: Global, pats: &Vec<TermPat>) -> Result<Vec<TermPat>, AllocError>
     ensures { IfOk result (λ v. v.items ≡ pats.now.items) }
 {
-    let mut copies = Vec::new(alloc);
+    let mut copies = with_room(alloc, pats.len());
     for pat in pats {
         copies.push(copy_pat(alloc, pat)?)?;
     }
@@ -227,7 +228,7 @@ fn copy_pat_pairs(
 ) -> Result<Vec<(TermPat, TermPat)>, AllocError>
     ensures { IfOk result (λ v. map pair_tree v.items ≡ map pair_tree pairs.now.items) }
 {
-    let mut copies = Vec::new(alloc);
+    let mut copies = with_room(alloc, pairs.len());
     for pair in pairs {
         let key = copy_pat(alloc, &pair.0)?;
         let value = copy_pat(alloc, &pair.1)?;

@@ -9,10 +9,12 @@ mod faults;
 mod lengths;
 mod measure;
 pub mod op;
+mod room;
 pub mod term;
 
 pub use calculus::{Origin, TermRest};
 pub use op::Op;
+pub use room::with_room;
 pub use term::{Part, PatPart, Term, TermBind, TermCase, TermPat};
 
 /// The greatest height of a value, of a stored send or receive, and of a body with its values.

@@ -13,6 +13,7 @@ use crate::copy::{copy_bind, copy_part, copy_pat, copy_term};
 use crate::faults::{part_faults, parts_faults};
 use crate::lengths::{part_len, parts_len};
 use crate::measure::{parts_height, pat_parts_height};
+use crate::room::with_room;
 use calculus::{BinaryOp, Digest, Ground, Kind, Origin, Rights, Simple, TermRest, UnaryOp};
 use std::alloc::{AllocError, Global};
 use std::marker::Model;
@@ -235,7 +236,7 @@ impl Term {
         requires { IsOrdered (part_tree part) }
         ensures { IfOk result (λ t. t ≡ only (part_tree part)) }
     {
-        let mut parts = Vec::new(alloc);
+        let mut parts = with_room(alloc, 1);
         parts.push(part)?;
         Ok(Term::from_sorted(parts))
     }

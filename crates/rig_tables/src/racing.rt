@@ -127,7 +127,7 @@ fn bring_one(
     let shards = row_shards(alloc, &coming.row)?;
     let tries = first_tries(alloc, rig, &coming.row)?;
     add_tries(&mut jobs.tries, tries)?;
-    held.arrive(alloc, &coming.row, coming.from, shards)?;
+    held.arrive(alloc, coming.row, coming.from, shards)?;
     Ok(())
 }
 

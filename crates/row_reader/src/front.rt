@@ -134,7 +134,7 @@ fn join<'a>(
     ensures begun { IfErr result (λ e. WhereCut e (BegunJoin (scope_of scope.now.items) room reader.old.input.now)) }
 {
     let count = reader.number(1, 16)?;
-    let mut binds = Vec::new(reader.alloc);
+    let mut binds = reader.list(count);
     let mut last: &'a [u8] = &[];
     for _i in 0..count {
         let start = reader.input;

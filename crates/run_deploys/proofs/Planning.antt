@@ -1,5 +1,5 @@
 -- The plan of a deploy, from what was played.
-use Rattle.std.proofs.Common.{◌≡◌, ◌≤◌, ◌⊎◌, ℕ, List, length, refl, sym, ◌∙◌, ap, arith}
+use Rattle.std.proofs.Common.{◌≡◌, ◌≤◌, ◌⊎◌, ℕ, List, length, refl, sym, ◌∙◌, ap, subst, arith}
 use Rattle.std.proofs.lemmas.List.{length-map}
 use Rattle.sha2.specs.Sha256.{sha256}
 use Rattle.calculus.specs.Limits.{price_digest}
@@ -44,6 +44,10 @@ same-header i limit h x =
 -- what was played is a run of this deploy, or digests are shown to clash
 abbrev pub Plays : Deploy → Played → Type 0
 Plays deploy o = IsRunOf deploy (logged.steps_of o.steps.items) (verdict_of o.verdict) o.cost o.rows.items o.output.items ⊎ ShowsAClash deploy (logged.steps_of o.steps.items)
+
+-- what is made from a state is made from its text
+pub made_from : {s t : List ℕ} {h : LogHeader} {o : Played} {p : Plan} → s ≡ t → IsMade s h o p → IsMade t h o p
+made_from {s} {t} {h} {o} {p} e m = subst (λ u. IsMade u h o p) e m
 
 -- the bytes that are made of it are a plan
 pub is_plan : (i : Inputs) (limit : ℕ) (h : LogHeader) (o : Played) (p : Plan) → IsBase i.base → IsSourceOf i.source.items i.term → IsHeaderOf i limit h

@@ -20,6 +20,7 @@ use crate::next::{next_state, printed};
 use command_words::Run;
 use event_log::{Log, LogHeader, write_log};
 use name_seed::bytes_digest;
+use next_states::KnownState;
 use play_outcome::Played;
 use play_pool::play;
 use readable_logs::steps_are_readable;
@@ -43,16 +44,16 @@ pub struct Plan {
     pub verdict: Verdict,
 }
 
-/// Makes all bytes that are to be written of what was played from a state with this text, with this header of the log.
+/// Makes all bytes that are to be written of what was played from a state, with this header of the log.
 fn plan_of(
     alloc: Global,
-    text: Vec<u8>,
+    state: KnownState,
     header: LogHeader,
     played: Played,
 ) -> Result<Plan, AllocError>
     requires few { length played.steps.items ≤ 1048608 }
     requires taken { All TakesInRange played.steps.items }
-    ensures { IfOk result (IsMade text.items header played) }
+    ensures { IfOk result (IsMade state header played) }
 {
     let Played {
         verdict,
@@ -61,7 +62,7 @@ fn plan_of(
         rows,
         output,
     } = played;
-    let (root, next) = next_state(alloc, verdict, rows, &header.base, text)?;
+    let (root, next) = next_state(alloc, verdict, rows, &header.base, state)?;
     let count = steps.len() as u32;
     let line = report(alloc, verdict, cost, &root, count)?;
     let mut bytes = printed(verdict, output);
@@ -102,7 +103,7 @@ pub fn make_plan<R: Threads + Wait + Sync, G: Gate + Sync>(
     let Base { text, checkpoint } = base;
     let source = bytes_digest(source.as_slice());
     let root = checkpoint.root();
-    let rows = checkpoint.into_rows();
+    let (rows, state) = KnownState::of(text, checkpoint);
     let played = play::<R, G, SpaceTables>(
         rt, alloc, gate, workers, rows, &root, &term, &source, &prices, limit,
     )?;
@@ -112,7 +113,7 @@ pub fn make_plan<R: Threads + Wait + Sync, G: Gate + Sync>(
         prices: prices.digest(),
         limit,
     };
-    plan_of(alloc, text, header, played)
+    plan_of(alloc, state, header, played)
 }
 
 /// Keeps the log and then the next state, and then puts what is printed and the report.

@@ -6,7 +6,7 @@ ghost use Rattle.run_verdict.specs.View.{verdict_of};
 ghost use Rattle.states.specs.States.{state_text};
 
 use calculus::Digest;
-use checkpoint::state_of;
+use next_states::KnownState;
 use run_verdict::Verdict;
 use space_row::Row;
 use std::alloc::{AllocError, Global};
@@ -28,13 +28,13 @@ pub fn next_state(
     verdict: Verdict,
     rows: Vec<Row>,
     base: &Digest,
-    state: Vec<u8>,
+    state: KnownState,
 ) -> Result<(Digest, Vec<u8>), AllocError>
     ensures done { verdict ≡ Verdict.Done → IfOk result (λ next. (next.0.0 ≡ root rows.items) × (next.1.items ≡ state_text rows.items)) }
-    ensures old { verdict ≢ Verdict.Done → IfOk result (λ next. (next.0.0 ≡ base.now.0) × (next.1.items ≡ state.items)) }
+    ensures old { verdict ≢ Verdict.Done → IfOk result (λ next. (next.0.0 ≡ base.now.0) × (next.1.items ≡ state)) }
 {
     match verdict {
-        Verdict::Done => state_of(alloc, rows),
-        _ => Ok((*base, state)),
+        Verdict::Done => state.next_state(alloc, rows),
+        _ => Ok((*base, state.into_text())),
     }
 }

@@ -19,6 +19,7 @@ ghost use Rattle.run_reports.specs.World.{world};
 use calculus::Digest;
 use command_words::Run;
 use name_seed::bytes_digest;
+use next_states::KnownState;
 use replay_answers::Replayed;
 use replay_faults::ReplayFault;
 use replay_runs::replay as replay_log;
@@ -43,16 +44,16 @@ pub struct ReplayPlan {
     pub verdict: Verdict,
 }
 
-/// Makes all bytes that are to be written of what the replay of a log of so many steps came to, from a state with this
-/// text and this root.
+/// Makes all bytes that are to be written of what the replay of a log of so many steps came to, from a state with
+/// this root.
 fn plan_of(
     alloc: Global,
-    text: Vec<u8>,
+    state: KnownState,
     base: &Digest,
     count: u32,
     replayed: Replayed,
 ) -> Result<ReplayPlan, AllocError>
-    ensures { IfOk result (IsPlanned text.items base.now.0 count replayed) }
+    ensures { IfOk result (IsPlanned state base.now.0 count replayed) }
 {
     let Replayed {
         verdict,
@@ -60,7 +61,7 @@ fn plan_of(
         rows,
         output,
     } = replayed;
-    let (root, next) = next_state(alloc, verdict, rows, base, text)?;
+    let (root, next) = next_state(alloc, verdict, rows, base, state)?;
     let line = report(alloc, verdict, cost, &root, count)?;
     let mut bytes = printed(verdict, output);
     bytes.extend_from_slice(line.as_slice())?;
@@ -117,7 +118,8 @@ pub fn make_replay_plan<R: Threads + Wait + Sync, G: Gate + Sync>(
         Ok(replayed) => replayed,
         Err(fault) => return Err(status_of_fault(fault)),
     };
-    match plan_of(alloc, text, &root, count, replayed) {
+    let state = KnownState::without_rows(text, checkpoint);
+    match plan_of(alloc, state, &root, count, replayed) {
         Ok(plan) => Ok(plan),
         Err(_) => Err(Status::NoMemory),
     }

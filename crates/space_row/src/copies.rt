@@ -3,7 +3,7 @@ ghost use Rattle.std.specs.Prelude.{◌≡◌, map, IfOk};
 ghost use Rattle.rho_term.specs.Parts.{bind_tree};
 ghost use Rattle.rho_term.specs.Rows.{row_of_op};
 
-use rho_term::{Op, Term, TermBind};
+use rho_term::{Op, Term, TermBind, with_room};
 use std::alloc::{AllocError, Global};
 
 // An operation with the same row.
@@ -40,7 +40,7 @@ pub(crate) fn copy_op(alloc: Global, op: &Op) -> Result<Op, AllocError>
 pub(crate) fn copy_terms(alloc: Global, terms: &Vec<Term>) -> Result<Vec<Term>, AllocError>
     ensures { IfOk result (λ v. v.items ≡ terms.now.items) }
 {
-    let mut copies = Vec::new(alloc);
+    let mut copies = with_room(alloc, terms.len());
     for term in terms {
         copies.push(term.copy(alloc)?)?;
     }
@@ -51,7 +51,7 @@ pub(crate) fn copy_terms(alloc: Global, terms: &Vec<Term>) -> Result<Vec<Term>, 
 pub(crate) fn copy_binds(alloc: Global, binds: &Vec<TermBind>) -> Result<Vec<TermBind>, AllocError>
     ensures { IfOk result (λ v. map bind_tree v.items ≡ map bind_tree binds.now.items) }
 {
-    let mut copies = Vec::new(alloc);
+    let mut copies = with_room(alloc, binds.len());
     for bind in binds {
         copies.push(bind.copy(alloc)?)?;
     }

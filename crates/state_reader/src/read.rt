@@ -13,11 +13,15 @@ ghost use Rattle.state_reader.specs.declared.fault.StateFault.TheVariants.{Short
 use crate::fault::StateFault;
 use crate::front::read_front;
 use calculus::Digest;
+use rho_term::with_room;
 use row_reader::RowFault;
 use space_row::Row;
 use std::alloc::{AllocError, Global};
 use std::cmp::Ordering;
 use std::collections::BTreeSet;
+
+/// No row's code has fewer bytes: a first byte, an id, a channel without parts, a flag and the number of arguments.
+const LEAST_LENGTH: usize = 42;
 
 // Rows that were read, their ids, and the code of the last one.
 #[derive(Drop)]
@@ -127,6 +131,14 @@ fn add_id(ids: &mut BTreeSet<[u8; 32]>, id: &Digest) -> Result<bool, AllocError>
     Ok(new)
 }
 
+// A list for so many rows, with room for those that these bytes may have.
+fn list_of_rows(alloc: Global, number: u64, bytes: &[u8]) -> Vec<Row>
+    ensures { result.items ≡ [] }
+{
+    let most = bytes.len() / LEAST_LENGTH;
+    with_room(alloc, number.min(most as u64) as usize)
+}
+
 // So many rows at the front of what follows the header in a text of `whole` bytes, and what is left.
 pub(crate) fn take_rows<'a>(
     alloc: Global,
@@ -142,7 +154,7 @@ pub(crate) fn take_rows<'a>(
     ensures wrong { (at : ℕ) → result ≡ Err (NotCanonical at) → length bytes.now < 2 ^ 32 → length bytes.now ≤ whole → AreWrong whole at number bytes.now }
 {
     let mut read = RowsRead {
-        rows: Vec::new(alloc),
+        rows: list_of_rows(alloc, number, bytes),
         ids: BTreeSet::new(alloc),
         last: &[],
     };

@@ -14,7 +14,7 @@ use crate::fault::StateFault;
 use crate::header::take_header;
 use crate::read::take_rows;
 use calculus::Digest;
-use checkpoint::{Checkpoint, tree_of};
+use checkpoint::{Checkpoint, marked_tree};
 use least_step::{LeastStep, first_reducible};
 use space_row::Row;
 use std::alloc::{AllocError, Global};
@@ -68,7 +68,7 @@ pub fn read_state(alloc: Global, bytes: &[u8]) -> Result<Checkpoint, StateFault>
         Ok(read) => read,
         Err(fault) => return Err(fault),
     };
-    let tree = tree_of(alloc, rows.as_slice())?;
+    let (tree, marks) = marked_tree(alloc, rows.as_slice())?;
     let found = tree.root();
     if !are_equal(&found, &stored) {
         return Err(StateFault::WrongRoot { stored, found });
@@ -78,6 +78,6 @@ pub fn read_state(alloc: Global, bytes: &[u8]) -> Result<Checkpoint, StateFault>
             cont: step.cont,
             taken: step.taken,
         }),
-        None => Ok(Checkpoint::with_tree(rows, tree)),
+        None => Ok(Checkpoint::with_tree(rows, tree, marks)),
     }
 }

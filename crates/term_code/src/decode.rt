@@ -102,7 +102,7 @@ pub fn read_term<'a>(
     ensures begun { IfErr result (λ e. HasPlace e → Goes e (Begun true term (scope_of scope.now.items) room reader.old.input.now)) }
 {
     let count = reader.number(0, u32::MAX)?;
-    let mut parts = Vec::new(reader.alloc);
+    let mut parts = reader.list(count);
     let mut last: &'a [u8] = &[];
     for _i in 0..count {
         let start = reader.input;
@@ -237,7 +237,7 @@ pub fn read_terms(
     ensures begun { IfErr result (λ e. HasPlace e → Goes e (BegunRow true term (scope_of scope.now.items) room least 0xFFFFFFFF reader.old.input.now)) }
 {
     let count = reader.number(least, u32::MAX)?;
-    let mut terms = Vec::new(reader.alloc);
+    let mut terms = reader.list(count);
     for _i in 0..count {
         let term = read_term(reader, scope, room)?;
         terms.push(term)?;
@@ -258,7 +258,7 @@ fn read_members<'a>(
     ensures begun { IfErr result (λ e. HasPlace e → Goes e (BegunBag term (scope_of scope.now.items) room reader.old.input.now)) }
 {
     let count = reader.number(0, u32::MAX)?;
-    let mut terms = Vec::new(reader.alloc);
+    let mut terms = reader.list(count);
     let mut last: &'a [u8] = &[];
     for _i in 0..count {
         let start = reader.input;
@@ -283,7 +283,7 @@ fn read_pairs<'a>(
     ensures begun { IfErr result (λ e. HasPlace e → Goes e (BegunBag (pair_of term) (scope_of scope.now.items) room reader.old.input.now)) }
 {
     let count = reader.number(0, u32::MAX)?;
-    let mut pairs = Vec::new(reader.alloc);
+    let mut pairs = reader.list(count);
     let mut last: &'a [u8] = &[];
     for _i in 0..count {
         let start = reader.input;
@@ -313,7 +313,7 @@ fn read_binds(
     ensures begun { IfErr result (λ e. HasPlace e → Goes e (BegunRow true a_bind (scope_of scope.now.items) room 1 16 reader.old.input.now)) }
 {
     let count = reader.number(1, 16)?;
-    let mut binds = Vec::new(reader.alloc);
+    let mut binds = reader.list(count);
     for _i in 0..count {
         let channel = read_term(reader, scope, room)?;
         let pats = read_name_pats(reader, scope, found, room)?;
@@ -341,7 +341,7 @@ fn read_cases(
     ensures begun { IfErr result (λ e. HasPlace e → Goes e (BegunRow true a_case (scope_of scope.now.items) room 1 0xFFFFFFFF reader.old.input.now)) }
 {
     let count = reader.number(1, u32::MAX)?;
-    let mut cases = Vec::new(reader.alloc);
+    let mut cases = reader.list(count);
     for _i in 0..count {
         let mut inner = copy_of(reader.alloc, scope)?;
         let pat = read_pat(reader, true, scope, &mut inner, room)?;

@@ -89,7 +89,7 @@ pub(crate) fn read_pat(
     ensures begun { IfErr result (λ e. HasPlace e → Goes e (Begun binds pat (scope_of scope.now.items) room reader.old.input.now)) }
 {
     let count = reader.number(0, 9)?;
-    let mut parts = Vec::new(reader.alloc);
+    let mut parts = reader.list(count);
     let mut wide: u32 = 0;
     for i in 0..count {
         let at = reader.place();
@@ -124,7 +124,7 @@ pub(crate) fn read_name_pat(
         Some(others) => {
             reader.input = others;
             found.push(Sense::Name)?;
-            let mut parts = Vec::new(reader.alloc);
+            let mut parts = reader.list(1);
             parts.push(PatPart::NameVar)?;
             Ok(TermPat::new(parts))
         }
@@ -284,7 +284,7 @@ fn read_pats(
     ensures begun { IfErr result (λ e. HasPlace e → least ≤ most → Goes e (BegunRow binds pat (scope_of scope.now.items) room least most reader.old.input.now)) }
 {
     let count = reader.number(least, most)?;
-    let mut pats = Vec::new(reader.alloc);
+    let mut pats = reader.list(count);
     for _i in 0..count {
         let pat = read_pat(reader, binds, scope, found, room)?;
         pats.push(pat)?;
@@ -307,7 +307,7 @@ pub fn read_name_pats(
     ensures begun { IfErr result (λ e. HasPlace e → Goes e (BegunRow true name_pat (scope_of scope.now.items) room 0 0xFFFFFFFF reader.old.input.now)) }
 {
     let count = reader.number(0, u32::MAX)?;
-    let mut pats = Vec::new(reader.alloc);
+    let mut pats = reader.list(count);
     for _i in 0..count {
         let pat = read_name_pat(reader, true, scope, found, room)?;
         pats.push(pat)?;
@@ -333,7 +333,7 @@ fn read_pat_pairs(
     ensures begun { IfErr result (λ e. HasPlace e → Goes e (BegunRow binds (pair_of pat) (scope_of scope.now.items) room 0 8 reader.old.input.now)) }
 {
     let count = reader.number(0, 8)?;
-    let mut pairs = Vec::new(reader.alloc);
+    let mut pairs = reader.list(count);
     for _i in 0..count {
         let key = read_pat(reader, binds, scope, found, room)?;
         let value = read_pat(reader, binds, scope, found, room)?;

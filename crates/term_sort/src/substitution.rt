@@ -10,7 +10,7 @@ use crate::bound::{binds_bound, pat_bound, plus, term_bound};
 use crate::variable::{Replacement, Sense, put_variable};
 use calculus::Ground;
 use code_order::{sorted_pairs, sorted_parts, sorted_terms};
-use rho_term::{Part, PatPart, Term, TermBind, TermCase, TermPat};
+use rho_term::{Part, PatPart, Term, TermBind, TermCase, TermPat, with_room};
 use std::alloc::{AllocError, Global};
 
 /// The process with these values in place of the variables that are bound around it, the first value
@@ -37,7 +37,7 @@ pub(crate) fn put_term(
 ) -> Result<Term, AllocError>
     ensures { IfOk result (λ t. Becomes (change_of replacement.now) depth term.now t) }
 {
-    let mut parts = Vec::new(alloc);
+    let mut parts = with_room(alloc, term.parts().len());
     for part in term.parts() {
         put_part(alloc, &mut parts, part, replacement, depth)?;
     }
@@ -167,7 +167,7 @@ fn put_terms(
 ) -> Result<Vec<Term>, AllocError>
     ensures { IfOk result (λ v. AllBecome (change_of replacement.now) depth terms.now.items v.items) }
 {
-    let mut filled = Vec::new(alloc);
+    let mut filled = with_room(alloc, terms.len());
     for term in terms {
         filled.push(put_term(alloc, term, replacement, depth)?)?;
     }
@@ -184,7 +184,7 @@ fn put_pairs(
 ) -> Result<Vec<(Term, Term)>, AllocError>
     ensures { IfOk result (λ v. AllBecome (change_of replacement.now) depth (map pair_tree pairs.now.items) (map pair_tree v.items)) }
 {
-    let mut filled = Vec::new(alloc);
+    let mut filled = with_room(alloc, pairs.len());
     for pair in pairs {
         let key = put_term(alloc, &pair.0, replacement, depth)?;
         let value = put_term(alloc, &pair.1, replacement, depth)?;
@@ -203,7 +203,7 @@ fn put_binds(
 ) -> Result<Vec<TermBind>, AllocError>
     ensures { IfOk result (λ v. AllBecome (change_of replacement.now) depth (map bind_tree binds.now.items) (map bind_tree v.items)) }
 {
-    let mut filled = Vec::new(alloc);
+    let mut filled = with_room(alloc, binds.len());
     for bind in binds {
         let channel = put_term(alloc, &bind.channel, replacement, depth)?;
         let pats = put_pats(alloc, &bind.pats, replacement, depth)?;
@@ -227,7 +227,7 @@ fn put_cases(
 ) -> Result<Vec<TermCase>, AllocError>
     ensures { IfOk result (λ v. AllBecome (change_of replacement.now) depth (map case_tree cases.now.items) (map case_tree v.items)) }
 {
-    let mut filled = Vec::new(alloc);
+    let mut filled = with_room(alloc, cases.len());
     for case in cases {
         let bound = plus(pat_bound(&case.pat), term_bound(&case.body));
         let inner = plus(depth, bound);
@@ -248,7 +248,7 @@ fn put_pat(
 ) -> Result<TermPat, AllocError>
     ensures { IfOk result (λ t. Becomes (change_of replacement.now) depth pat.now t) }
 {
-    let mut parts = Vec::new(alloc);
+    let mut parts = with_room(alloc, pat.parts().len());
     for part in pat.parts() {
         put_pat_part(alloc, &mut parts, part, replacement, depth)?;
     }
@@ -374,7 +374,7 @@ fn put_pats(
 ) -> Result<Vec<TermPat>, AllocError>
     ensures { IfOk result (λ v. AllBecome (change_of replacement.now) depth pats.now.items v.items) }
 {
-    let mut filled = Vec::new(alloc);
+    let mut filled = with_room(alloc, pats.len());
     for pat in pats {
         filled.push(put_pat(alloc, pat, replacement, depth)?)?;
     }
@@ -391,7 +391,7 @@ fn put_pat_pairs(
 ) -> Result<Vec<(TermPat, TermPat)>, AllocError>
     ensures { IfOk result (λ v. AllBecome (change_of replacement.now) depth (map pair_tree pairs.now.items) (map pair_tree v.items)) }
 {
-    let mut filled = Vec::new(alloc);
+    let mut filled = with_room(alloc, pairs.len());
     for pair in pairs {
         let key = put_pat(alloc, &pair.0, replacement, depth)?;
         let value = put_pat(alloc, &pair.1, replacement, depth)?;

@@ -50,7 +50,7 @@ use Rattle.term_code.proofs.Formed.{list-form, set-form, map-form, send-form, bu
 use Rattle.term_code.proofs.+read.Goals as goal
 
 pub decode::read_terms-loop-i-init : goal.decode::read_terms-loop-i-init
-decode::read_terms-loop-i-init t c = record { read = row-start c.new-terms.ensures.items; count = ap length c.new-terms.ensures.items }
+decode::read_terms-loop-i-init t c = record { read = row-start c.list-terms.ensures; count = ap length c.list-terms.ensures }
 
 pub decode::read_terms-loop-i-preserved : goal.decode::read_terms-loop-i-preserved
 decode::read_terms-loop-i-preserved t c = record { read = row-push c.in_ok-push.ensures.items c.loop-i.invariant.read c.in_ok-term.ensures.reads; count = count-push _ _ c.in_ok-push.ensures.items c.loop-i.invariant.count }
@@ -62,7 +62,7 @@ pub decode::read_terms-returns-clause-least : goal.decode::read_terms-returns-cl
 decode::read_terms-returns-clause-least t c = omega (arith, c.in_ok-count.ensures.least, c.loop-i.invariant.count, c.loop-i.auto._i-end)
 
 pub decode::read_members-loop-i-init : goal.decode::read_members-loop-i-init
-decode::read_members-loop-i-init t c = record { read = bag-start c.new-terms.ensures.items; count = ap length c.new-terms.ensures.items }
+decode::read_members-loop-i-init t c = record { read = bag-start c.list-terms.ensures; count = ap length c.list-terms.ensures }
 
 pub decode::read_members-loop-i-preserved : goal.decode::read_members-loop-i-preserved
 decode::read_members-loop-i-preserved t c = record { read = bag-push c.in_ok-push.ensures.items c.loop-i.invariant.read c.in_ok-term.ensures.reads c.in_ok-last.ensures.code c.in_ok-last.ensures.up; count = count-push _ _ c.in_ok-push.ensures.items c.loop-i.invariant.count }
@@ -71,7 +71,7 @@ pub decode::read_members-returns-clause-reads : goal.decode::read_members-return
 decode::read_members-returns-clause-reads t c = bag-done_trees c.in_ok-count.count c.args.reader.now.input.now c.loop-i.invariant.read (omega (arith, c.loop-i.invariant.count, c.loop-i.auto._i-end)) c.in_ok-count.ensures.is
 
 pub decode::read_pairs-loop-i-init : goal.decode::read_pairs-loop-i-init
-decode::read_pairs-loop-i-init t c = record { read = bag-start c.new-pairs.ensures.items; count = ap length c.new-pairs.ensures.items }
+decode::read_pairs-loop-i-init t c = record { read = bag-start c.list-pairs.ensures; count = ap length c.list-pairs.ensures }
 
 pub decode::read_pairs-loop-i-preserved : goal.decode::read_pairs-loop-i-preserved
 decode::read_pairs-loop-i-preserved t c = record { read = bag-push c.in_ok-push.ensures.items c.loop-i.invariant.read (pair-form c.in_ok-key.ensures.reads c.in_ok-value.ensures.reads) c.in_ok-last.ensures.code c.in_ok-last.ensures.up; count = count-push _ _ c.in_ok-push.ensures.items c.loop-i.invariant.count }
@@ -80,7 +80,7 @@ pub decode::read_pairs-returns-clause-reads : goal.decode::read_pairs-returns-cl
 decode::read_pairs-returns-clause-reads t c = bag-done c.in_ok-count.count c.args.reader.now.input.now c.loop-i.invariant.read (omega (arith, c.loop-i.invariant.count, c.loop-i.auto._i-end)) c.in_ok-count.ensures.is
 
 pub decode::read_term-loop-i-init : goal.decode::read_term-loop-i-init
-decode::read_term-loop-i-init t c = record { read = bag-start c.new-parts.ensures.items; count = ap length c.new-parts.ensures.items; ordered = subst (λ ps. All (λ p. IsOrdered (part_tree p)) ps) (sym c.new-parts.ensures.items) (λ k d h. absurd (omega arith)) }
+decode::read_term-loop-i-init t c = record { read = bag-start c.list-parts.ensures; count = ap length c.list-parts.ensures; ordered = subst (λ ps. All (λ p. IsOrdered (part_tree p)) ps) (sym c.list-parts.ensures) (λ k d h. absurd (omega arith)) }
 
 pub decode::read_term-loop-i-preserved : goal.decode::read_term-loop-i-preserved
 decode::read_term-loop-i-preserved t c = record { read = bag-push c.in_ok-push.ensures.items c.loop-i.invariant.read (reads-at _ c.in_ok-tag.ensures.is c.in_ok-part.ensures.reads) c.in_ok-last.ensures.code c.in_ok-last.ensures.up; count = count-push _ _ c.in_ok-push.ensures.items c.loop-i.invariant.count; ordered = all-push (λ p. IsOrdered (part_tree p)) _ _ c.in_ok-push.ensures.items c.loop-i.invariant.ordered c.in_ok-part.ensures.ordered }
@@ -95,7 +95,7 @@ pub decode::read_term-returns-clause-reads : goal.decode::read_term-returns-clau
 decode::read_term-returns-clause-reads t c = rw c.from_sorted.ensures (process-done (bag-done c.in_ok-count.count c.args.reader.now.input.now c.loop-i.invariant.read (omega (arith, c.loop-i.invariant.count, c.loop-i.auto._i-end)) c.in_ok-count.ensures.is))
 
 pub decode::read_cases-loop-i-init : goal.decode::read_cases-loop-i-init
-decode::read_cases-loop-i-init t c = record { read = row-start c.new-cases.ensures.items; count = ap length c.new-cases.ensures.items }
+decode::read_cases-loop-i-init t c = record { read = row-start c.list-cases.ensures; count = ap length c.list-cases.ensures }
 
 pub decode::read_cases-loop-i-preserved : goal.decode::read_cases-loop-i-preserved
 decode::read_cases-loop-i-preserved t c = record { read = row-push c.in_ok-push.ensures.items c.loop-i.invariant.read (case-form c.in_ok-pat.ensures.reads c.in_ok-body.ensures.reads (scope-more c.args.scope.now.items c.read_pat.new.found.items (bound c.in_ok-pat.pat) (c.in_ok-pat.ensures.bound ∙ ap (λ xs. senses_of xs ++ bound c.in_ok-pat.pat) c.in_ok-inner.ensures))); count = count-push _ _ c.in_ok-push.ensures.items c.loop-i.invariant.count }
@@ -107,7 +107,7 @@ pub decode::read_cases-returns-clause-some : goal.decode::read_cases-returns-cla
 decode::read_cases-returns-clause-some t c = omega (arith, c.in_ok-count.ensures.least, c.loop-i.invariant.count, c.loop-i.auto._i-end)
 
 pub decode::read_binds-loop-i-init : goal.decode::read_binds-loop-i-init
-decode::read_binds-loop-i-init t c = record { read = row-start c.new-binds.ensures.items; count = ap length c.new-binds.ensures.items; binding = bound-start bind_tree c.new-binds.result.items c.new-binds.ensures.items }
+decode::read_binds-loop-i-init t c = record { read = row-start c.list-binds.ensures; count = ap length c.list-binds.ensures; binding = bound-start bind_tree c.list-binds.result.items c.list-binds.ensures }
 
 pub decode::read_binds-loop-i-preserved : goal.decode::read_binds-loop-i-preserved
 decode::read_binds-loop-i-preserved t c = record {
@@ -132,7 +132,7 @@ pub decode::read_binds-returns-clause-few : goal.decode::read_binds-returns-clau
 decode::read_binds-returns-clause-few t c = omega (arith, c.in_ok-count.ensures.most, c.loop-i.invariant.count, c.loop-i.auto._i-end)
 
 pub patterns::read_pats-loop-i-init : goal.patterns::read_pats-loop-i-init
-patterns::read_pats-loop-i-init t c = record { quiet = λ q. ap (λ ps. bound_all (trees (map (λ t. t) ps))) c.new-pats.ensures.items; read = row-start c.new-pats.ensures.items; count = ap length c.new-pats.ensures.items; binding = bound-start_trees c.new-pats.ensures.items }
+patterns::read_pats-loop-i-init t c = record { quiet = λ q. ap (λ ps. bound_all (trees (map (λ t. t) ps))) c.list-pats.ensures; read = row-start c.list-pats.ensures; count = ap length c.list-pats.ensures; binding = bound-start_trees c.list-pats.ensures }
 
 pub patterns::read_pats-loop-i-preserved : goal.patterns::read_pats-loop-i-preserved
 patterns::read_pats-loop-i-preserved t c = record { quiet = λ q. quiet-push (λ t. t) _ _ c.in_ok-push.ensures.items (c.loop-i.invariant.quiet q) (c.in_ok-pat.ensures.free q); read = row-push c.in_ok-push.ensures.items c.loop-i.invariant.read c.in_ok-pat.ensures.reads; count = count-push _ _ c.in_ok-push.ensures.items c.loop-i.invariant.count; binding = bound-push_trees _ _ (senses_of c.args.found.now.items) c.in_ok-push.ensures.items c.loop-i.invariant.binding c.in_ok-pat.ensures.bound }
@@ -144,7 +144,7 @@ pub patterns::read_pats-returns-clause-bound : goal.patterns::read_pats-returns-
 patterns::read_pats-returns-clause-bound t c = c.loop-i.invariant.binding
 
 pub patterns::read_name_pats-loop-i-init : goal.patterns::read_name_pats-loop-i-init
-patterns::read_name_pats-loop-i-init t c = record { read = row-start c.new-pats.ensures.items; count = ap length c.new-pats.ensures.items; binding = bound-start_trees c.new-pats.ensures.items }
+patterns::read_name_pats-loop-i-init t c = record { read = row-start c.list-pats.ensures; count = ap length c.list-pats.ensures; binding = bound-start_trees c.list-pats.ensures }
 
 pub patterns::read_name_pats-loop-i-preserved : goal.patterns::read_name_pats-loop-i-preserved
 patterns::read_name_pats-loop-i-preserved t c = record { read = row-push c.in_ok-push.ensures.items c.loop-i.invariant.read c.in_ok-pat.ensures.reads; count = count-push _ _ c.in_ok-push.ensures.items c.loop-i.invariant.count; binding = bound-push_trees _ _ (senses_of c.args.found.now.items) c.in_ok-push.ensures.items c.loop-i.invariant.binding c.in_ok-pat.ensures.bound }
@@ -162,7 +162,7 @@ pub patterns::read_pats-returns-clause-most : goal.patterns::read_pats-returns-c
 patterns::read_pats-returns-clause-most t c = omega (arith, c.in_ok-count.ensures.most, c.loop-i.invariant.count, c.loop-i.auto._i-end)
 
 pub patterns::read_pat_pairs-loop-i-init : goal.patterns::read_pat_pairs-loop-i-init
-patterns::read_pat_pairs-loop-i-init t c = record { quiet = λ q. ap (λ ps. bound_all (trees (map pair_tree ps))) c.new-pairs.ensures.items; read = row-start c.new-pairs.ensures.items; count = ap length c.new-pairs.ensures.items; binding = bound-start pair_tree c.new-pairs.result.items c.new-pairs.ensures.items }
+patterns::read_pat_pairs-loop-i-init t c = record { quiet = λ q. ap (λ ps. bound_all (trees (map pair_tree ps))) c.list-pairs.ensures; read = row-start c.list-pairs.ensures; count = ap length c.list-pairs.ensures; binding = bound-start pair_tree c.list-pairs.result.items c.list-pairs.ensures }
 
 pub patterns::read_pat_pairs-loop-i-preserved : goal.patterns::read_pat_pairs-loop-i-preserved
 patterns::read_pat_pairs-loop-i-preserved t c = record {
@@ -185,7 +185,7 @@ pub patterns::read_pat_pairs-returns-clause-few : goal.patterns::read_pat_pairs-
 patterns::read_pat_pairs-returns-clause-few t c = omega (arith, c.in_ok-count.ensures.most, c.loop-i.invariant.count, c.loop-i.auto._i-end)
 
 pub patterns::read_pat-loop-i-init : goal.patterns::read_pat-loop-i-init
-patterns::read_pat-loop-i-init t c = record { quiet = λ q. ap (λ ps. bound_all (trees (map pat_part_tree ps))) c.new-parts.ensures.items; read = row-start c.new-parts.ensures.items; count = ap length c.new-parts.ensures.items; ordered = subst (λ ps. All (λ p. IsOrdered (pat_part_tree p)) ps) (sym c.new-parts.ensures.items) (λ k d h. absurd (omega arith)); binding = bound-start pat_part_tree c.new-parts.result.items c.new-parts.ensures.items; wide = ap (λ ps. wides (map pat_part_tree ps)) c.new-parts.ensures.items; one = omega arith; thin = omega arith }
+patterns::read_pat-loop-i-init t c = record { quiet = λ q. ap (λ ps. bound_all (trees (map pat_part_tree ps))) c.list-parts.ensures; read = row-start c.list-parts.ensures; count = ap length c.list-parts.ensures; ordered = subst (λ ps. All (λ p. IsOrdered (pat_part_tree p)) ps) (sym c.list-parts.ensures) (λ k d h. absurd (omega arith)); binding = bound-start pat_part_tree c.list-parts.result.items c.list-parts.ensures; wide = ap (λ ps. wides (map pat_part_tree ps)) c.list-parts.ensures; one = omega arith; thin = omega arith }
 
 pub patterns::read_pat-loop-i-preserved : goal.patterns::read_pat-loop-i-preserved
 patterns::read_pat-loop-i-preserved t c = record {
@@ -1159,7 +1159,7 @@ decode::read_term-returns-in_err-push-clause-refuses t c = exit _ _ _ c.from_res
 
 pub patterns::read_name_pat-returns-in_ok-push-in-Some-2-clause-reads : goal.patterns::read_name_pat-returns-in_ok-push-in-Some-2-clause-reads
 patterns::read_name_pat-returns-in_ok-push-in-Some-2-clause-reads t c =
-    let is = c.new.ensures ∙ ap pat_tree (c.in_ok-push-in-Some-2.ensures.items ∙ ap (λ ps. ps ++ NameVar ∷ []) c.new-parts.ensures.items) in
+    let is = c.new.ensures ∙ ap pat_tree (c.in_ok-push-in-Some-2.ensures.items ∙ ap (λ ps. ps ++ NameVar ∷ []) c.list-parts.ensures) in
     rw is (name-variable _ _ c.args.reader.now.input.now _ c.in-Some.ensures.some)
 
 pub decode::read_binds-returns-in_err-push-clause-begun : goal.decode::read_binds-returns-in_err-push-clause-begun

@@ -3,8 +3,6 @@ use Rattle.std.specs.Prelude.{◌&&◌, not, eqb, count_by}
 use Rattle.calculus.specs.declared.ids.Digest.{Digest}
 use Rattle.calculus.specs.Log.{Step}
 use Rattle.calculus.specs.Steps.{differ, same_meeting}
-use Rattle.event_log.specs.View.{step_of}
-use Rattle.replay_scene.specs.Spaces.{SeenRow}
 use Rattle.replay_shards.specs.Hands.{all_shown, parts_of}
 use Rattle.replay_shards.specs.Rows.{has_full}
 use Rattle.replay_shards.specs.Taken.{bytes_of}

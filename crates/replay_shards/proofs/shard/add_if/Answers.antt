@@ -1,4 +1,4 @@
-use Rattle.std.proofs.Common.{◌≡◌, ◌∷◌, ◌++◌, [], sym, ap, ◌∙◌, map as each}
+use Rattle.std.proofs.Common.{◌∷◌, ◌++◌, [], sym, ap, ◌∙◌, map as each}
 use Rattle.std.proofs.lemmas.List.{map-append}
 use Rattle.calculus.specs.Rows.{Row}
 use Rattle.replay_scene.specs.Spaces.{standing_row}

@@ -1,4 +1,4 @@
-use Rattle.std.proofs.Common.{◌≡◌, ◌++◌, List, ap, ◌∙◌, map as each}
+use Rattle.std.proofs.Common.{◌++◌, List, ap, ◌∙◌, map as each}
 use Rattle.calculus.specs.Rows.{Row}
 use Rattle.replay_scene.specs.Spaces.{bare}
 use Rattle.replay_space.specs.declared.seen.Seen.{Seen}

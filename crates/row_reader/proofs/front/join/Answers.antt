@@ -14,7 +14,7 @@ use Rattle.row_reader.proofs.Joins.{join-start, join-push, join-codes, number-jo
 use Rattle.row_reader.proofs.front.join.Goals as goal
 
 pub loop-i-init : goal.loop-i-init
-loop-i-init c = record { read = row-start c.new-binds.ensures.items; count = ap length c.new-binds.ensures.items; join = join-start c.new-binds.ensures.items; binding = bound-start bind_tree c.new-binds.result.items c.new-binds.ensures.items }
+loop-i-init c = record { read = row-start c.list-binds.ensures; count = ap length c.list-binds.ensures; join = join-start c.list-binds.ensures; binding = bound-start bind_tree c.list-binds.result.items c.list-binds.ensures }
 
 pub loop-i-preserved : goal.loop-i-preserved
 loop-i-preserved c = record {

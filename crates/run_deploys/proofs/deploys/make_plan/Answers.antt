@@ -7,7 +7,7 @@ use Rattle.calculus.specs.Rows.{Row}
 use Rattle.calculus.specs.Runs.{deploy_of}
 use Rattle.calculus.proofs.Digests.{digest-fits}
 use Rattle.play_outcome.specs.Bases.{IsQuietBase}
-use Rattle.run_deploys.proofs.Planning.{Plays, is_plan, quiet-base, IsHeaderOf}
+use Rattle.run_deploys.proofs.Planning.{Plays, is_plan, made_from, quiet-base, IsHeaderOf}
 use Rattle.run_deploys.proofs.Running.{numberable}
 use Rattle.sent_tables.proofs.Crossing.{shard-send, shard-sync, held-send, held-sync}
 use Rattle.run_deploys.proofs.deploys.make_plan.Goals as goal
@@ -23,12 +23,12 @@ returns g c =
     let Says = λ (rows : List Row) (s : List ℕ). Plays (deploy_of i.prices limit rows i.term s) o in
     let source : digest ≡ sha256 bytes = c.bytes_digest-source.ensures ∙ ap sha256 c.as_slice.ensures.value in
     let is_bytes : IsBytes digest = subst IsBytes (sym source) (digest-fits bytes).1 in
-    let rows : c.into_rows-rows.result.items ≡ i.base.checkpoint = c.into_rows-rows.ensures.is in
-    let quiet : IsQuietBase c.into_rows-rows.result.items c.root-root.result.0 = subst (λ (rs : List Row). IsQuietBase rs c.root-root.result.0) (sym rows) (quiet-base i.base is c.root-root.result.0 c.root-root.ensures) in
-    let says : Says c.into_rows-rows.result.items digest = c.in_ok-played.ensures.run (numberable bytes i.term c.requires.source c.requires.short) is_bytes quiet in
+    let rows : c.of-rows.result.0.items ≡ i.base.checkpoint = c.of-rows.ensures.rows in
+    let quiet : IsQuietBase c.of-rows.result.0.items c.root-root.result.0 = subst (λ (rs : List Row). IsQuietBase rs c.root-root.result.0) (sym rows) (quiet-base i.base is c.root-root.result.0 c.root-root.ensures) in
+    let says : Says c.of-rows.result.0.items digest = c.in_ok-played.ensures.run (numberable bytes i.term c.requires.source c.requires.short) is_bytes quiet in
     let played : Says i.base.checkpoint (sha256 bytes) = subst (λ (s : List ℕ). Says i.base.checkpoint s) source (subst (λ (rs : List Row). Says rs digest) rows says) in
     let header : IsHeaderOf i limit _ = record { base_is = c.root-root.ensures; source_is = source; prices_is = c.digest.ensures; limit_is = refl } in
-    IfOk-weaker c.plan_of.result _ _ (λ p m. is_plan i limit _ o p is c.requires.source header played c.in_ok-played.ensures.most m) c.plan_of.ensures
+    IfOk-weaker c.plan_of.result _ _ (λ p m. is_plan i limit _ o p is c.requires.source header played c.in_ok-played.ensures.most (made_from c.of-rows.ensures.text m)) c.plan_of.ensures
 
 pub play-requires-send-T-Shard : goal.play-requires-send-T-Shard
 play-requires-send-T-Shard g c κs = let a = shard-send in search sendable depth 10

@@ -51,5 +51,6 @@ returns-in-Ok-plan_of-clause-plan g c =
     let count : c.len-count.result ≡ length r.log.steps.items = c.len-count.ensures ∙ r.log.steps.ok.0 in
     let planned : IsPlanned r.inputs.base.text.items (root rows) (length r.log.steps.items) c.in-Ok.replayed c.in-Ok-plan_of.plan =
     subst (λ (n : ℕ). IsPlanned r.inputs.base.text.items (root rows) n c.in-Ok.replayed c.in-Ok-plan_of.plan) count
-    (subst (λ (d : List ℕ). IsPlanned r.inputs.base.text.items d c.len-count.result c.in-Ok.replayed c.in-Ok-plan_of.plan) c.root-root.ensures c.in-Ok-plan_of.ensures) in
+    (subst (λ (d : List ℕ). IsPlanned r.inputs.base.text.items d c.len-count.result c.in-Ok.replayed c.in-Ok-plan_of.plan) c.root-root.ensures
+    (subst (λ (t : List ℕ). IsPlanned t c.root-root.result.0 c.len-count.result c.in-Ok.replayed c.in-Ok-plan_of.plan) c.without_rows-state.ensures c.in-Ok-plan_of.ensures)) in
     replay_plan rows r c.requires.state c.replay.result header answered c.in-Ok.replayed c.in-Ok.is c.in-Ok-plan_of.plan planned

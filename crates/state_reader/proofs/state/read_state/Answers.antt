@@ -13,7 +13,7 @@ pub returns-then-not-are_equal-clause-refused : goal.returns-then-not-are_equal-
 returns-then-not-are_equal-clause-refused c = record {
   rows = c.in-Ok.read.0.items;
   begins = c.in-Ok.ensures.is;
-  is = c.root-found.ensures c.in-Ok.read.0.items (subst (λ (rs : List Row). Keeps c.in_ok-tree.tree (groups_of rs)) c.as_slice.ensures.value c.in_ok-tree.ensures);
+  is = c.root-found.ensures c.in-Ok.read.0.items (subst (λ (rs : List Row). Keeps c.in_ok-tree.tree (groups_of rs)) c.as_slice.ensures.value c.in_ok-tree.ensures.tree);
   differs = λ e. apart (sym (equal _ _ (sym e)) ∙ sym c.are_equal.ensures ∙ c.if-not-are_equal.true);
 }
   where
@@ -22,7 +22,7 @@ returns-then-not-are_equal-clause-refused c = record {
 
 pub returns-in-Some-clause-refused : goal.returns-in-Some-clause-refused
 returns-in-Some-clause-refused c =
-    let root = c.root-found.ensures c.in-Ok.read.0.items (subst (λ (rs : List Row). Keeps c.in_ok-tree.tree (groups_of rs)) c.as_slice.ensures.value c.in_ok-tree.ensures) in
+    let root = c.root-found.ensures c.in-Ok.read.0.items (subst (λ (rs : List Row). Keeps c.in_ok-tree.tree (groups_of rs)) c.as_slice.ensures.value c.in_ok-tree.ensures.tree) in
     let found = same _ _ (sym c.are_equal.ensures ∙ c.if-not-are_equal.false) in
     record {
       rows = c.in-Ok.read.0.items;
@@ -33,6 +33,6 @@ returns-in-Some-clause-refused c =
 
 pub returns-in-None-clause-read : goal.returns-in-None-clause-read
 returns-in-None-clause-read c =
-    let root = c.root-found.ensures c.in-Ok.read.0.items (subst (λ (rs : List Row). Keeps c.in_ok-tree.tree (groups_of rs)) c.as_slice.ensures.value c.in_ok-tree.ensures) in
+    let root = c.root-found.ensures c.in-Ok.read.0.items (subst (λ (rs : List Row). Keeps c.in_ok-tree.tree (groups_of rs)) c.as_slice.ensures.value c.in_ok-tree.ensures.tree) in
     let found = same _ _ (sym c.are_equal.ensures ∙ c.if-not-are_equal.false) in
     laid-text c.args.bytes.now c.in-Ok.read.1.0 c.in-Ok.read.0.items c.in-Ok.ensures.is (sym found ∙ root) ∙ ap (λ (rs : List Row). state_text rs) (sym c.with_tree.ensures)

@@ -8,7 +8,11 @@ use Rattle.replay_shards.proofs.held.ReplayHeld.add.Goals as goal
 pub invariant_of-self : goal.invariant_of-self
 invariant_of-self c =
     let slots = c.self.inside.slots.items in
-    (one-length slots c.args.number (Some c.shard.inside.kept) ∙ c.self.invariant.0, filed-set slots c.args.number (Some c.shard.inside.kept) c.shard.invariant c.self.invariant.1)
+    let w = Some c.shard.inside.kept in (
+      one-length slots c.args.number w ∙ c.self.invariant.0,
+      filed-set slots c.args.number w c.shard.invariant c.self.invariant.1,
+      λ k out. let e = c.widened-low.ensures k out in set-others slots c.args.number k w e.0 ∙ c.self.invariant.2 k e.1,
+    )
 
 pub returns-clause-here : goal.returns-clause-here
 returns-clause-here c =

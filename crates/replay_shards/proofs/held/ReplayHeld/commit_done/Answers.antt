@@ -4,11 +4,21 @@ use Rattle.calculus.specs.Log.{Step}
 use Rattle.event_log.specs.declared.log.LogStep.{LogStep}
 use Rattle.event_log.specs.View.{step_of}
 use Rattle.replay_scene.specs.Spaces.{IsIn}
-use Rattle.replay_shards.specs.Hands.{InHand, all_shown, parts_of}
+use Rattle.replay_shards.specs.Hands.{InHand, all_shown, parts_of, shard_at}
 use Rattle.replay_shards.specs.Rows.{settled_part}
 use Rattle.replay_shards.specs.Taken.{bytes_of}
 use Rattle.replay_shards.proofs.Calling.{Split, its-step, split-at, all-become}
+use Rattle.replay_shards.proofs.Placing.{mapped-at}
 use Rattle.replay_shards.proofs.held.ReplayHeld.commit_done.Goals as goal
+
+pub invariant_of-self : goal.invariant_of-self
+invariant_of-self c =
+    let gone = bytes_of c.args.gone.now in
+    let f = settled_part (step_of c.index.result.now) gone in (
+      c.settle_all.ensures.long,
+      c.settle_all.ensures.filed,
+      λ k out. ap (λ (h : InHand). shard_at h k) c.settle_all.ensures.parts ∙ mapped-at f (parts_of c.self.inside.slots.items) k ∙ ap (option_map f) (c.self.invariant.2 k out),
+    )
 
 pub settle_all-requires-clause-low : goal.settle_all-requires-clause-low
 settle_all-requires-clause-low c q m named =

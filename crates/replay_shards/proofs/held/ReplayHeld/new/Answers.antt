@@ -14,7 +14,7 @@ loop-preserved c =
     (omega (arith, ap length p, length-one-more c.loop.slots.items None, c.loop.invariant.0), λ k. ap (λ (l : List Slot). get_or l k None) p ∙ none-pushed c.loop.slots.items c.loop.invariant.1 k)
 
 pub invariant_of-result : goal.invariant_of-result
-invariant_of-result c = (omega (arith, c.loop.invariant.0, c.loop-test.false, c.loop.auto.counter-end), none-there c.loop.slots.items c.loop.invariant.1)
+invariant_of-result c = (omega (arith, c.loop.invariant.0, c.loop-test.false, c.loop.auto.counter-end), none-there c.loop.slots.items c.loop.invariant.1, λ k out. part-at c.loop.slots.items k ∙ ap (option_map part_of) (c.loop.invariant.1 k))
 
 pub returns : goal.returns
 returns c k = part-at c.loop.slots.items k ∙ ap (option_map part_of) (c.loop.invariant.1 k)

@@ -4,7 +4,7 @@ use Rattle.calculus.specs.Log.{Step}
 use Rattle.event_log.specs.View.{step_of}
 use Rattle.replay_space.specs.Rigs.{IsRigOf}
 use Rattle.replay_scene.specs.Spaces.{SeenRow}
-use Rattle.replay_shards.specs.Hands.{Slot, all_shown, parts_of}
+use Rattle.replay_shards.specs.Hands.{all_shown, parts_of}
 use Rattle.replay_shards.specs.Ready.{IsReady}
 use Rattle.replay_shards.specs.Taken.{FitsNothing}
 use Rattle.replay_shards.proofs.Calling.{its-step, as-many-steps}
@@ -14,7 +14,7 @@ pub returns : goal.returns
 returns c before s after log place =
     let items = c.args.log.now.steps.items in
     let e : step_of c.index.result.now ≡ s = ap step_of c.index.ensures ∙ its-step items before s after c.args.step _ log place in
-    let shown : all_shown (parts_of c.as_slice.result.now) ≡ all_shown c.args.self.now = ap (λ (l : List Slot). all_shown (parts_of l)) c.as_slice.ensures.value ∙ ap all_shown c.self.view_is in
+    let shown : all_shown (parts_of c.taken.result.now) ≡ all_shown c.args.self.now = c.taken.ensures.shown in
     let rig = subst (λ (l : List Step). IsRigOf l c.args.rig.now) log c.requires.rig in
     let small : length (before ++ s ∷ after) < 2 ^ 32 - 1 = omega (arith, ap (λ (l : List Step). length l) log, as-many-steps items, c.requires.writable.steps) in
     subst (λ (l : List Step). IfOk c.fit.result (λ o. MatchOption o (FitsNothing l (all_shown c.args.self.now) before s c.args.step) (IsReady l (all_shown c.args.self.now) before s c.args.step))) (sym log)

@@ -1,6 +1,5 @@
-use Rattle.std.proofs.Common.{◌≡◌, List, [], sym, ap, subst, ◌∙◌, IsPermutation, refl}
+use Rattle.std.proofs.Common.{List, [], sym, subst, IsPermutation, refl}
 use Rattle.list_laws.proofs.Permutations.{unmoved}
-use Rattle.replay_scene.specs.Spaces.{SeenRow}
 use Rattle.replay_space.specs.declared.seen.Seen.{Seen}
 use Rattle.replay_shards.specs.Filing.{Filed}
 use Rattle.replay_shards.specs.Rows.{filed_rows, AreFiled}

@@ -13,12 +13,6 @@ use Rattle.token_cursor.specs.Reading.{bracket_of, of_pat, of_proc, pairs_writte
 use Rattle.std.proofs.Common.{[], length, map, ◌*◌, ◌+◌, ◌<◌, ◌≤◌}
 use Rattle.rho_parser.proofs.parser.Parser.+parse.Given as goal
 
-abbrev pub decreases-alternative_more : goal.decreases-alternative_more
-decreases-alternative_more l = 128 * length l.self.now.cursor.rest.now + 68
-
-abbrev pub decreases-arrow_form : goal.decreases-arrow_form
-decreases-arrow_form l = 128 * length l.self.now.cursor.rest.now + 3
-
 abbrev pub decreases-atom : goal.decreases-atom
 decreases-atom l = 128 * length l.self.now.cursor.rest.now + 18
 
@@ -34,26 +28,17 @@ decreases-atom_open l = 128 * length l.self.now.cursor.rest.now + 17
 abbrev pub decreases-atom_set : goal.decreases-atom_set
 decreases-atom_set l = 128 * length l.self.now.cursor.rest.now + 17
 
-abbrev pub decreases-bind : goal.decreases-bind
-decreases-bind l = 128 * length l.self.now.cursor.rest.now + 120
-
 abbrev pub decreases-binds_tail : goal.decreases-binds_tail
 decreases-binds_tail l = 128 * length l.self.now.cursor.rest.now + 3
 
 abbrev pub decreases-body : goal.decreases-body
 decreases-body l = 128 * length l.self.now.cursor.rest.now + 1
 
-abbrev pub decreases-brace : goal.decreases-brace
-decreases-brace l = 128 * length l.self.now.cursor.rest.now + 40
-
 abbrev pub decreases-brace_pair : goal.decreases-brace_pair
-decreases-brace_pair l = 128 * length l.self.now.cursor.rest.now + 1
+decreases-brace_pair l = 128 * length l.self.now.cursor.rest.now + 2
 
-abbrev pub decreases-brace_some : goal.decreases-brace_some
-decreases-brace_some l = 128 * length l.self.now.cursor.rest.now + 39
-
-abbrev pub decreases-brace_tail : goal.decreases-brace_tail
-decreases-brace_tail l = 128 * length l.self.now.cursor.rest.now + 2
+abbrev pub decreases-brace_pair-loop-self : goal.decreases-brace_pair-loop-self
+decreases-brace_pair-loop-self l = length l.self.cursor.rest.now
 
 abbrev pub decreases-bundle : goal.decreases-bundle
 decreases-bundle l = 128 * length l.self.now.cursor.rest.now + 35
@@ -67,29 +52,11 @@ decreases-cases l = 128 * length l.self.now.cursor.rest.now + 121
 abbrev pub decreases-cases-loop-self : goal.decreases-cases-loop-self
 decreases-cases-loop-self l = length l.self.cursor.rest.now
 
-abbrev pub decreases-conjunction_more : goal.decreases-conjunction_more
-decreases-conjunction_more l = 128 * length l.self.now.cursor.rest.now + 66
-
 abbrev pub decreases-contract_form : goal.decreases-contract_form
 decreases-contract_form l = 128 * length l.self.now.cursor.rest.now + 36
 
 abbrev pub decreases-drop_form : goal.decreases-drop_form
 decreases-drop_form l = 128 * length l.self.now.cursor.rest.now + 19
-
-abbrev pub decreases-drop_star : goal.decreases-drop_star
-decreases-drop_star l = 128 * length l.self.now.cursor.rest.now + 18
-
-abbrev pub decreases-dropped : goal.decreases-dropped
-decreases-dropped l = 128 * length l.self.now.cursor.rest.now + 2
-
-abbrev pub decreases-dropped_quote : goal.decreases-dropped_quote
-decreases-dropped_quote l = 128 * length l.self.now.cursor.rest.now + 1
-
-abbrev pub decreases-first_end : goal.decreases-first_end
-decreases-first_end l = 128 * length l.self.now.cursor.rest.now + 2
-
-abbrev pub decreases-first_more : goal.decreases-first_more
-decreases-first_more l = 128 * length l.self.now.cursor.rest.now + 2
 
 abbrev pub decreases-first_tail : goal.decreases-first_tail
 decreases-first_tail l = 128 * length l.self.now.cursor.rest.now + 3
@@ -97,32 +64,14 @@ decreases-first_tail l = 128 * length l.self.now.cursor.rest.now + 3
 abbrev pub decreases-for_form : goal.decreases-for_form
 decreases-for_form l = 128 * length l.self.now.cursor.rest.now + 35
 
-abbrev pub decreases-group : goal.decreases-group
-decreases-group l = 128 * length l.self.now.cursor.rest.now + 2
-
-abbrev pub decreases-group_tuple : goal.decreases-group_tuple
-decreases-group_tuple l = 128 * length l.self.now.cursor.rest.now + 1
-
-abbrev pub decreases-if_else : goal.decreases-if_else
-decreases-if_else l = 128 * length l.self.now.cursor.rest.now + 1
-
 abbrev pub decreases-if_form : goal.decreases-if_form
 decreases-if_form l = 128 * length l.self.now.cursor.rest.now + 36
-
-abbrev pub decreases-if_tail : goal.decreases-if_tail
-decreases-if_tail l = 128 * length l.self.now.cursor.rest.now + 2
 
 abbrev pub decreases-left : goal.decreases-left
 decreases-left l = 128 * length l.self.now.cursor.rest.now + 95
 
-abbrev pub decreases-left_more : goal.decreases-left_more
-decreases-left_more l = 128 * length l.self.now.cursor.rest.now + 93
-
-abbrev pub decreases-left_some : goal.decreases-left_some
-decreases-left_some l = 128 * length l.self.now.cursor.rest.now + 94
-
-abbrev pub decreases-left_some-loop-self : goal.decreases-left_some-loop-self
-decreases-left_some-loop-self l = length l.self.cursor.rest.now
+abbrev pub decreases-left-loop-self : goal.decreases-left-loop-self
+decreases-left-loop-self l = length l.self.cursor.rest.now
 
 abbrev pub decreases-level : goal.decreases-level
 decreases-level l = 128 * length l.self.now.cursor.rest.now + (23 + 2 * looseness_of l.level)
@@ -139,17 +88,11 @@ decreases-meth l = 128 * length l.self.now.cursor.rest.now + 20
 abbrev pub decreases-meth-loop-self : goal.decreases-meth-loop-self
 decreases-meth-loop-self l = length l.self.cursor.rest.now
 
-abbrev pub decreases-meth_call : goal.decreases-meth_call
-decreases-meth_call l = 128 * length l.self.now.cursor.rest.now + 1
-
 abbrev pub decreases-more_binds : goal.decreases-more_binds
 decreases-more_binds l = 128 * length l.self.now.cursor.rest.now + 2
 
 abbrev pub decreases-name : goal.decreases-name
 decreases-name l = 128 * length l.self.now.cursor.rest.now + 2
-
-abbrev pub decreases-name_quote : goal.decreases-name_quote
-decreases-name_quote l = 128 * length l.self.now.cursor.rest.now + 1
 
 abbrev pub decreases-new_form : goal.decreases-new_form
 decreases-new_form l = 128 * length l.self.now.cursor.rest.now + 36
@@ -157,14 +100,8 @@ decreases-new_form l = 128 * length l.self.now.cursor.rest.now + 36
 abbrev pub decreases-next_bind : goal.decreases-next_bind
 decreases-next_bind l = 128 * length l.self.now.cursor.rest.now + 120
 
-abbrev pub decreases-next_member : goal.decreases-next_member
-decreases-next_member l = 128 * length l.self.now.cursor.rest.now + 1
-
 abbrev pub decreases-next_pair : goal.decreases-next_pair
 decreases-next_pair l = 128 * length l.self.now.cursor.rest.now + 1
-
-abbrev pub decreases-next_part : goal.decreases-next_part
-decreases-next_part l = 128 * length l.self.now.cursor.rest.now + 1
 
 abbrev pub decreases-one : goal.decreases-one
 decreases-one l = 128 * length l.self.now.cursor.rest.now + 37
@@ -174,12 +111,6 @@ decreases-operand l = 128 * length l.self.now.cursor.rest.now + (22 + 2 * levels
 
 abbrev pub decreases-operation : goal.decreases-operation
 decreases-operation l = 128 * length l.self.now.cursor.rest.now + 1
-
-abbrev pub decreases-pairs : goal.decreases-pairs
-decreases-pairs l = 128 * length l.self.now.cursor.rest.now + 2
-
-abbrev pub decreases-pairs-loop-self : goal.decreases-pairs-loop-self
-decreases-pairs-loop-self l = length l.self.cursor.rest.now
 
 abbrev pub decreases-par : goal.decreases-par
 decreases-par l = 128 * length l.self.now.cursor.rest.now + 38
@@ -202,20 +133,8 @@ decreases-pattern_atom l = 128 * length l.self.now.cursor.rest.now + 64
 abbrev pub decreases-pattern_brace : goal.decreases-pattern_brace
 decreases-pattern_brace l = 128 * length l.self.now.cursor.rest.now + 62
 
-abbrev pub decreases-pattern_brace_some : goal.decreases-pattern_brace_some
-decreases-pattern_brace_some l = 128 * length l.self.now.cursor.rest.now + 89
-
-abbrev pub decreases-pattern_brace_tail : goal.decreases-pattern_brace_tail
-decreases-pattern_brace_tail l = 128 * length l.self.now.cursor.rest.now + 88
-
-abbrev pub decreases-pattern_braced : goal.decreases-pattern_braced
-decreases-pattern_braced l = 128 * length l.self.now.cursor.rest.now + 90
-
 abbrev pub decreases-pattern_bundle : goal.decreases-pattern_bundle
 decreases-pattern_bundle l = 128 * length l.self.now.cursor.rest.now + 70
-
-abbrev pub decreases-pattern_bundle_of : goal.decreases-pattern_bundle_of
-decreases-pattern_bundle_of l = 128 * length l.self.now.cursor.rest.now + 69
 
 abbrev pub decreases-pattern_conjunction : goal.decreases-pattern_conjunction
 decreases-pattern_conjunction l = 128 * length l.self.now.cursor.rest.now + 68
@@ -223,35 +142,11 @@ decreases-pattern_conjunction l = 128 * length l.self.now.cursor.rest.now + 68
 abbrev pub decreases-pattern_conjunction-loop-self : goal.decreases-pattern_conjunction-loop-self
 decreases-pattern_conjunction-loop-self l = length l.self.cursor.rest.now
 
-abbrev pub decreases-pattern_contract : goal.decreases-pattern_contract
-decreases-pattern_contract l = 128 * length l.self.now.cursor.rest.now + 74
-
-abbrev pub decreases-pattern_for : goal.decreases-pattern_for
-decreases-pattern_for l = 128 * length l.self.now.cursor.rest.now + 74
-
-abbrev pub decreases-pattern_group : goal.decreases-pattern_group
-decreases-pattern_group l = 128 * length l.self.now.cursor.rest.now + 90
-
-abbrev pub decreases-pattern_if : goal.decreases-pattern_if
-decreases-pattern_if l = 128 * length l.self.now.cursor.rest.now + 74
-
 abbrev pub decreases-pattern_list : goal.decreases-pattern_list
 decreases-pattern_list l = 128 * length l.self.now.cursor.rest.now + 62
 
-abbrev pub decreases-pattern_match : goal.decreases-pattern_match
-decreases-pattern_match l = 128 * length l.self.now.cursor.rest.now + 74
-
-abbrev pub decreases-pattern_more : goal.decreases-pattern_more
-decreases-pattern_more l = 128 * length l.self.now.cursor.rest.now + 79
-
 abbrev pub decreases-pattern_name : goal.decreases-pattern_name
 decreases-pattern_name l = 128 * length l.self.now.cursor.rest.now + 93
-
-abbrev pub decreases-pattern_name_quote : goal.decreases-pattern_name_quote
-decreases-pattern_name_quote l = 128 * length l.self.now.cursor.rest.now + 92
-
-abbrev pub decreases-pattern_new : goal.decreases-pattern_new
-decreases-pattern_new l = 128 * length l.self.now.cursor.rest.now + 74
 
 abbrev pub decreases-pattern_not : goal.decreases-pattern_not
 decreases-pattern_not l = 128 * length l.self.now.cursor.rest.now + 66
@@ -283,14 +178,8 @@ decreases-pattern_quote l = 128 * length l.self.now.cursor.rest.now + 70
 abbrev pub decreases-pattern_row : goal.decreases-pattern_row
 decreases-pattern_row l = 128 * length l.self.now.cursor.rest.now + 90
 
-abbrev pub decreases-pattern_row_more : goal.decreases-pattern_row_more
-decreases-pattern_row_more l = 128 * length l.self.now.cursor.rest.now + 88
-
-abbrev pub decreases-pattern_row_some : goal.decreases-pattern_row_some
-decreases-pattern_row_some l = 128 * length l.self.now.cursor.rest.now + 89
-
-abbrev pub decreases-pattern_row_some-loop-self : goal.decreases-pattern_row_some-loop-self
-decreases-pattern_row_some-loop-self l = length l.self.cursor.rest.now
+abbrev pub decreases-pattern_row-loop-self : goal.decreases-pattern_row-loop-self
+decreases-pattern_row-loop-self l = length l.self.cursor.rest.now
 
 abbrev pub decreases-pattern_same : goal.decreases-pattern_same
 decreases-pattern_same l = 128 * length l.self.now.cursor.rest.now + 62
@@ -298,26 +187,14 @@ decreases-pattern_same l = 128 * length l.self.now.cursor.rest.now + 62
 abbrev pub decreases-pattern_sent : goal.decreases-pattern_sent
 decreases-pattern_sent l = 128 * length l.self.now.cursor.rest.now + 60
 
-abbrev pub decreases-pattern_sent_of : goal.decreases-pattern_sent_of
-decreases-pattern_sent_of l = 128 * length l.self.now.cursor.rest.now + 59
-
-abbrev pub decreases-pattern_sent_tail : goal.decreases-pattern_sent_tail
-decreases-pattern_sent_tail l = 128 * length l.self.now.cursor.rest.now + 60
-
-abbrev pub decreases-pattern_sent_tail_of : goal.decreases-pattern_sent_tail_of
-decreases-pattern_sent_tail_of l = 128 * length l.self.now.cursor.rest.now + 59
-
 abbrev pub decreases-pattern_sequence : goal.decreases-pattern_sequence
 decreases-pattern_sequence l = 128 * length l.self.now.cursor.rest.now + 90
 
+abbrev pub decreases-pattern_sequence-loop-self : goal.decreases-pattern_sequence-loop-self
+decreases-pattern_sequence-loop-self l = length l.self.cursor.rest.now
+
 abbrev pub decreases-pattern_set : goal.decreases-pattern_set
 decreases-pattern_set l = 128 * length l.self.now.cursor.rest.now + 62
-
-abbrev pub decreases-pattern_tilde : goal.decreases-pattern_tilde
-decreases-pattern_tilde l = 128 * length l.self.now.cursor.rest.now + 65
-
-abbrev pub decreases-pattern_tuple : goal.decreases-pattern_tuple
-decreases-pattern_tuple l = 128 * length l.self.now.cursor.rest.now + 89
 
 abbrev pub decreases-pattern_word : goal.decreases-pattern_word
 decreases-pattern_word l = 128 * length l.self.now.cursor.rest.now + 70
@@ -334,38 +211,8 @@ decreases-pre_not l = 128 * length l.self.now.cursor.rest.now + 20
 abbrev pub decreases-row : goal.decreases-row
 decreases-row l = 128 * length l.self.now.cursor.rest.now + 40
 
-abbrev pub decreases-row_some : goal.decreases-row_some
-decreases-row_some l = 128 * length l.self.now.cursor.rest.now + 39
-
-abbrev pub decreases-row_some-loop-self : goal.decreases-row_some-loop-self
-decreases-row_some-loop-self l = length l.self.cursor.rest.now
-
-abbrev pub decreases-same : goal.decreases-same
-decreases-same l = 128 * length l.self.now.cursor.rest.now + 90
-
-abbrev pub decreases-same_block : goal.decreases-same_block
-decreases-same_block l = 128 * length l.self.now.cursor.rest.now + 89
-
-abbrev pub decreases-send : goal.decreases-send
-decreases-send l = 128 * length l.self.now.cursor.rest.now + 1
-
-abbrev pub decreases-send_on : goal.decreases-send_on
-decreases-send_on l = 128 * length l.self.now.cursor.rest.now + 1
-
-abbrev pub decreases-sent : goal.decreases-sent
-decreases-sent l = 128 * length l.self.now.cursor.rest.now + 2
-
-abbrev pub decreases-sent_tail : goal.decreases-sent_tail
-decreases-sent_tail l = 128 * length l.self.now.cursor.rest.now + 2
-
-abbrev pub decreases-sequence_more : goal.decreases-sequence_more
-decreases-sequence_more l = 128 * length l.self.now.cursor.rest.now + 88
-
-abbrev pub decreases-sequence_some : goal.decreases-sequence_some
-decreases-sequence_some l = 128 * length l.self.now.cursor.rest.now + 89
-
-abbrev pub decreases-sequence_some-loop-self : goal.decreases-sequence_some-loop-self
-decreases-sequence_some-loop-self l = length l.self.cursor.rest.now
+abbrev pub decreases-row-loop-self : goal.decreases-row-loop-self
+decreases-row-loop-self l = length l.self.cursor.rest.now
 
 abbrev pub decreases-two : goal.decreases-two
 decreases-two l = 128 * length l.self.now.cursor.rest.now + 36
@@ -376,6 +223,13 @@ decreases-two_quote l = 128 * length l.self.now.cursor.rest.now + 35
 abbrev pub decreases-two_word : goal.decreases-two_word
 decreases-two_word l = 128 * length l.self.now.cursor.rest.now + 35
 
+abbrev pub invariant-brace_pair-loop-self : goal.invariant-brace_pair-loop-self
+invariant-brace_pair-loop-self l = record {
+  turns : (out : Outcome) → Runs Tutorial l.free (last (Sort.Pairs (pairs_written l.pairs.value.items) l.pairs.height)) (view l.self.cursor.rest.now) out → Runs Tutorial l.free (rule Tutorial (Prod.brace_pair (of_proc l.fn.inner))) (view l.fn.self.cursor.rest.now) out;
+  room : l.pairs.height < l.free;
+  shorter : length l.self.cursor.rest.now ≤ length l.fn.self.cursor.rest.now;
+}
+
 abbrev pub invariant-cases-loop-self : goal.invariant-cases-loop-self
 invariant-cases-loop-self l = record {
   turns : (w : Written) (out : Outcome) → Runs Tutorial l.free (last (Sort.CaseTail (spelt w l.height) (map case_written l.cases.value.items) l.cases.height)) (view l.self.cursor.rest.now) out → Runs Tutorial l.free (rule Tutorial (Prod.case (spelt w l.height) [] l.height)) (view l.fn.self.cursor.rest.now) out;
@@ -383,8 +237,8 @@ invariant-cases-loop-self l = record {
   shorter : length l.self.cursor.rest.now ≤ length l.fn.self.cursor.rest.now;
 }
 
-abbrev pub invariant-left_some-loop-self : goal.invariant-left_some-loop-self
-invariant-left_some-loop-self l = record {
+abbrev pub invariant-left-loop-self : goal.invariant-left-loop-self
+invariant-left-loop-self l = record {
   turns : (out : Outcome) → Runs Tutorial l.free (last (Sort.LeftTail (map name_pat_written l.pats.value.items) l.pats.height)) (view l.self.cursor.rest.now) out → Runs Tutorial l.free (rule Tutorial Prod.left_some) (view l.fn.self.cursor.rest.now) out;
   room : l.pats.height ≤ l.free;
   shorter : length l.self.cursor.rest.now ≤ length l.fn.self.cursor.rest.now;
@@ -401,13 +255,6 @@ abbrev pub invariant-meth-loop-self : goal.invariant-meth-loop-self
 invariant-meth-loop-self l = record {
   turns : (out : Outcome) → Runs Tutorial l.free (last (Sort.MethTail (of_proc l.target))) (view l.self.cursor.rest.now) out → Runs Tutorial l.free (rule Tutorial Prod.meth) (view l.fn.self.cursor.rest.now) out;
   room : l.target.height ≤ l.free;
-  shorter : length l.self.cursor.rest.now ≤ length l.fn.self.cursor.rest.now;
-}
-
-abbrev pub invariant-pairs-loop-self : goal.invariant-pairs-loop-self
-invariant-pairs-loop-self l = record {
-  turns : (out : Outcome) → Runs Tutorial l.free (rule Tutorial (choose (Sort.Pairs (pairs_written l.all.value.items) l.all.height) (view l.self.cursor.rest.now))) (view l.self.cursor.rest.now) out → Runs Tutorial l.free (rule Tutorial (choose (Sort.Pairs (pairs_written l.fn.pairs.value.items) l.fn.pairs.height) (view l.fn.self.cursor.rest.now))) (view l.fn.self.cursor.rest.now) out;
-  room : l.all.height < l.free;
   shorter : length l.self.cursor.rest.now ≤ length l.fn.self.cursor.rest.now;
 }
 
@@ -446,23 +293,23 @@ invariant-pattern_par-loop-self l = record {
   shorter : length l.self.cursor.rest.now ≤ length l.fn.self.cursor.rest.now;
 }
 
-abbrev pub invariant-pattern_row_some-loop-self : goal.invariant-pattern_row_some-loop-self
-invariant-pattern_row_some-loop-self l = record {
+abbrev pub invariant-pattern_row-loop-self : goal.invariant-pattern_row-loop-self
+invariant-pattern_row-loop-self l = record {
   turns : (out : Outcome) → Runs Tutorial l.free (last (Sort.RowTail patterns (bracket_of l.bracket) (map pat_written l.members.value.items) l.members.height)) (view l.self.cursor.rest.now) out → Runs Tutorial l.free (rule Tutorial (Prod.row_some patterns (bracket_of l.bracket))) (view l.fn.self.cursor.rest.now) out;
   room : l.members.height ≤ l.free;
   shorter : length l.self.cursor.rest.now ≤ length l.fn.self.cursor.rest.now;
 }
 
-abbrev pub invariant-row_some-loop-self : goal.invariant-row_some-loop-self
-invariant-row_some-loop-self l = record {
-  turns : (out : Outcome) → Runs Tutorial l.free (last (Sort.RowTail processes (bracket_of l.bracket) (map proc_written l.members.value.items) l.members.height)) (view l.self.cursor.rest.now) out → Runs Tutorial l.free (rule Tutorial (Prod.row_some processes (bracket_of l.bracket))) (view l.fn.self.cursor.rest.now) out;
-  room : l.members.height ≤ l.free;
+abbrev pub invariant-pattern_sequence-loop-self : goal.invariant-pattern_sequence-loop-self
+invariant-pattern_sequence-loop-self l = record {
+  turns : (out : Outcome) → Runs Tutorial l.free (last (Sort.SeqTail (bracket_of l.bracket) (map pat_written l.pats.value.items) l.pats.height)) (view l.self.cursor.rest.now) out → Runs Tutorial l.free (rule Tutorial (Prod.seq_some (bracket_of l.bracket))) (view l.fn.self.cursor.rest.now) out;
+  room : l.pats.height ≤ l.free;
   shorter : length l.self.cursor.rest.now ≤ length l.fn.self.cursor.rest.now;
 }
 
-abbrev pub invariant-sequence_some-loop-self : goal.invariant-sequence_some-loop-self
-invariant-sequence_some-loop-self l = record {
-  turns : (out : Outcome) → Runs Tutorial l.free (last (Sort.SeqTail (bracket_of l.bracket) (map pat_written l.pats.value.items) l.pats.height)) (view l.self.cursor.rest.now) out → Runs Tutorial l.free (rule Tutorial (Prod.seq_some (bracket_of l.bracket))) (view l.fn.self.cursor.rest.now) out;
-  room : l.pats.height ≤ l.free;
+abbrev pub invariant-row-loop-self : goal.invariant-row-loop-self
+invariant-row-loop-self l = record {
+  turns : (out : Outcome) → Runs Tutorial l.free (last (Sort.RowTail processes (bracket_of l.bracket) (map proc_written l.members.value.items) l.members.height)) (view l.self.cursor.rest.now) out → Runs Tutorial l.free (rule Tutorial (Prod.row_some processes (bracket_of l.bracket))) (view l.fn.self.cursor.rest.now) out;
+  room : l.members.height ≤ l.free;
   shorter : length l.self.cursor.rest.now ≤ length l.fn.self.cursor.rest.now;
 }

@@ -1,0 +1,94 @@
+-- Codes that are gathered by their keys.
+use Rattle.std.proofs.Common.{◌≡◌, ℕ, Bool, true, false, cond, List, [], ◌∷◌, ◌++◌, map as each, refl, ap, sym, ◌∙◌, subst, append-nil}
+use Rattle.std.specs.Prelude.{Option, Some, None, IsSome, IfSome}
+use Rattle.std.specs.BTreeMap.{BTreeMap, get, is_at}
+use Rattle.std.specs.Str.{bytes_eq}
+use Rattle.std.specs.declared.alloc.Global.{Global}
+use Rattle.std.specs.declared.vec.Vec.{Vec}
+use Rattle.std.proofs.lemmas.Map.Text.{is_eq-slice_cmp}
+use Rattle.calculus.specs.Order.{byte_cmp}
+use Rattle.states.proofs.Groups.{same, equal}
+use Rattle.next_states.specs.Pairs.{Pair, codes_in}
+use Rattle.next_states.proofs.Pairs.{codes-append}
+
+-- lists of bytes
+abbrev pub Codes : Type 0
+Codes = Vec (Vec ℕ Global) Global
+
+-- lists of bytes, by keys
+abbrev pub Groups : Type 0
+Groups = BTreeMap (List ℕ) Codes
+
+-- these lists of bytes are the codes of a key
+abbrev AreOf : List Pair → List ℕ → Codes → Type 0
+AreOf ps k v = each (λ x. x.items) v.items ≡ codes_in ps k
+
+-- of each key that is there these codes are
+abbrev pub AreThere : Groups → List Pair → Type 0
+AreThere m ps = (k : List ℕ) → IfSome (get byte_cmp m k) (AreOf ps k)
+
+-- what is there under each key but one, and there this
+abbrev pub Sets : Groups → List ℕ → Option Codes → Groups → Type 0
+Sets m d o n = (k : List ℕ) → get byte_cmp n k ≡ cond (is_at (byte_cmp d) k) o (get byte_cmp m k)
+
+some-weaker : (P Q : Codes → Type 0) → ((v : Codes) → P v → Q v) → (o : Option Codes) → IfSome o P → IfSome o Q
+some-weaker P Q f (Some v) h = f v h
+some-weaker P Q f None h = tt
+
+-- a key that was there is there
+pub set-others : (m n : Groups) (d : List ℕ) (w : Codes) → Sets m d (Some w) n → (k : List ℕ) → IsSome (get byte_cmp m k) → IsSome (get byte_cmp n k)
+set-others m n d w s k h = subst IsSome (sym (s k)) (on (is_at (byte_cmp d) k) h)
+  where
+    on : (b : Bool) → IsSome (get byte_cmp m k) → IsSome (cond b (Some w) (get byte_cmp m k))
+    on true g = refl
+    on false g = g
+
+-- no codes are gathered
+pub set-bare : (m n : Groups) (d : List ℕ) (w : Codes) → Sets m d (Some w) n → w.items ≡ [] → AreThere m [] → AreThere n []
+set-bare m n d w s e h k = subst (λ (o : Option Codes). IfSome o (AreOf [] k)) (sym (s k)) (on (is_at (byte_cmp d) k))
+  where
+    on : (b : Bool) → IfSome (cond b (Some w) (get byte_cmp m k)) (AreOf [] k)
+    on true = ap (each (λ x. x.items)) e
+    on false = h k
+
+-- two writes of one key
+pub set-twice : (m l n : Groups) (d : List ℕ) (o : Option Codes) (w : Codes) → Sets m d o l → Sets l d (Some w) n → Sets m d (Some w) n
+set-twice m l n d o w s t k = t k ∙ ap (cond (is_at (byte_cmp d) k) (Some w)) (s k) ∙ on (is_at (byte_cmp d) k)
+  where
+    on : (b : Bool) → cond b (Some w) (cond b o (get byte_cmp m k)) ≡ cond b (Some w) (get byte_cmp m k)
+    on true = refl
+    on false = refl
+
+-- the codes of a key with one pair more
+here : (ps : List Pair) (d code k : List ℕ) → d ≡ k → codes_in (ps ++ (d, code) ∷ []) k ≡ codes_in ps k ++ code ∷ []
+here ps d code k e = codes-append ps ((d, code) ∷ []) k ∙ ap (λ b. codes_in ps k ++ cond b (code ∷ []) []) (equal k d (sym e))
+
+elsewhere : (ps : List Pair) (d code k : List ℕ) → bytes_eq d k ≡ false → codes_in (ps ++ (d, code) ∷ []) k ≡ codes_in ps k
+elsewhere ps d code k f = codes-append ps ((d, code) ∷ []) k ∙ ap (λ b. codes_in ps k ++ cond b (code ∷ []) []) (go (bytes_eq k d) refl) ∙ append-nil (codes_in ps k)
+  where
+    go : (b : Bool) → bytes_eq k d ≡ b → bytes_eq k d ≡ false
+    go true e = absurd (no (sym (equal d k (sym (same k d e))) ∙ f))
+      where
+        no : true ≡ false → ⊥
+        no z = cc
+    go false e = e
+
+-- one code more of a key that is there
+pub put-there : (m n : Groups) (d code : List ℕ) (v w : Codes) → Sets m d (Some w) n → get byte_cmp m d ≡ Some v → each (λ x. x.items) w.items ≡ each (λ x. x.items) v.items ++ code ∷ []
+    → (ps : List Pair) → AreThere m ps → AreThere n (ps ++ (d, code) ∷ [])
+put-there m n d code v w s e f ps h k = subst (λ (o : Option Codes). IfSome o (AreOf (ps ++ (d, code) ∷ []) k)) (sym (s k ∙ ap (λ b. cond b (Some w) (get byte_cmp m k)) (is_eq-slice_cmp d k))) (on (bytes_eq d k) refl)
+  where
+    at_d : AreOf ps d v
+    at_d = subst (λ (o : Option Codes). IfSome o (AreOf ps d)) e (h d)
+
+    on : (b : Bool) → bytes_eq d k ≡ b → IfSome (cond b (Some w) (get byte_cmp m k)) (AreOf (ps ++ (d, code) ∷ []) k)
+    on true g = f ∙ ap (λ cs. cs ++ code ∷ []) (at_d ∙ ap (codes_in ps) (same d k g)) ∙ sym (here ps d code k (same d k g))
+    on false g = some-weaker (AreOf ps k) (AreOf (ps ++ (d, code) ∷ []) k) (λ v i. i ∙ sym (elsewhere ps d code k g)) (get byte_cmp m k) (h k)
+
+-- and of one that is not
+pub put-none : (m n : Groups) (d code : List ℕ) → Sets m d None n → (ps : List Pair) → AreThere m ps → AreThere n (ps ++ (d, code) ∷ [])
+put-none m n d code s ps h k = subst (λ (o : Option Codes). IfSome o (AreOf (ps ++ (d, code) ∷ []) k)) (sym (s k ∙ ap (λ b. cond b None (get byte_cmp m k)) (is_eq-slice_cmp d k))) (on (bytes_eq d k) refl)
+  where
+    on : (b : Bool) → bytes_eq d k ≡ b → IfSome (cond b None (get byte_cmp m k)) (AreOf (ps ++ (d, code) ∷ []) k)
+    on true g = tt
+    on false g = some-weaker (AreOf ps k) (AreOf (ps ++ (d, code) ∷ []) k) (λ v i. i ∙ sym (elsewhere ps d code k g)) (get byte_cmp m k) (h k)

@@ -1,0 +1,17 @@
+use Rattle.std.proofs.Common.{List, map, ◌∙◌, ap}
+use Rattle.radix_root.specs.Groups.{digest_after}
+use Rattle.radix_root.specs.Leaves.{digest_at}
+use Rattle.radix_root.specs.declared.group.Group.{Group}
+use Rattle.next_states.specs.Pairs.{Pair}
+use Rattle.next_states.specs.Walks.{pair_in}
+use Rattle.next_states.proofs.Walking.{keeps-after}
+use Rattle.next_states.proofs.known.changed_tree.Goals as goal
+
+pub returns : goal.returns
+returns c = λ all keeps covers.
+    let ps : List Pair = map pair_in c.args.keyed.now in
+    keeps-after ps all c.in_ok-groups.groups.items c.args.tree c.in_ok-next.next c.args.changed
+    (c.in_ok-groups.ensures.right ps (c.in_ok-gather.ensures.holds c.requires))
+    (λ k h. c.in_ok-groups.ensures.each k (c.in_ok-gather.ensures.others k h))
+    (λ k. c.in_ok-next.ensures k ∙ ap (λ (gs : List Group). digest_after gs (digest_at c.args.tree k) k) c.as_slice.ensures.value)
+    keeps covers

@@ -1,0 +1,51 @@
+-- A walk over the rows of a base and those of the next state.
+use Rattle.std.specs.Prelude.{◌≡◌, ◌⊎◌, ℕ, List, [], ◌++◌, map as each, All, Option, IfSome, IsSome}
+use Rattle.std.specs.BTreeMap.{get}
+use Rattle.std.specs.declared.alloc.Global.{Global}
+use Rattle.std.specs.declared.vec.Vec.{Vec}
+use Rattle.calculus.specs.Order.{byte_cmp}
+use Rattle.calculus.specs.Rows.{Row, row_code}
+use Rattle.next_states.specs.Pairs.{Pair, codes_in, cut_by, TellsKey}
+use Rattle.next_states.specs.declared.changed.Changed.{Changed}
+use Rattle.next_states.specs.declared.left.Left.{Left}
+use Rattle.next_states.specs.declared.walk.Coded.{Coded}
+use Rattle.next_states.specs.declared.walk.Keyed.{Keyed}
+use Rattle.next_states.specs.declared.walk.Walk.{Walk}
+
+-- the pairs that are left of a base
+abbrev pub pairs_left : Left → List Pair
+pairs_left l = cut_by l.marks.now l.text.now
+
+-- the codes that are gathered of a key, where its group changes
+abbrev pub gathered : Changed → List ℕ → Option (Vec (Vec ℕ Global) Global)
+gathered c k = get byte_cmp c.groups k
+
+-- the group of a key changes
+abbrev pub Has : Changed → List ℕ → Type 0
+Has c k = IsSome (gathered c k)
+
+-- of each group that changes the codes of these pairs are gathered
+abbrev pub Holds : Changed → List Pair → Type 0
+Holds c ps = (k : List ℕ) → IfSome (gathered c k) (λ v. each (λ x. x.items) v.items ≡ codes_in ps k)
+
+-- the row of a row with its code
+abbrev pub row_of : Coded → Row
+row_of c = c.row.now
+
+-- a row with its code
+abbrev pub IsCoded : Coded → Type 0
+IsCoded c = c.code.items ≡ row_code c.row.now
+
+-- a code with its key, as a pair
+abbrev pub pair_in : Keyed → Pair
+pair_in k = (k.key.0, k.code.items)
+
+-- of all pairs of a base and these pairs of the next state, which are done, the same codes stand under each key whose group does not change, but for what is left of the base
+pub record Agrees (w : Walk) (all done : List Pair) : Type 0 where
+  pub tell : All TellsKey (pairs_left w.left)
+  pub bare : Holds w.changed []
+  pub same : (k : List ℕ) → Has w.changed k ⊎ (codes_in all k ≡ codes_in done k ++ codes_in (pairs_left w.left) k)
+
+-- of a base and the next state the same codes stand under each key whose group does not change
+abbrev pub Covers : Changed → List Pair → List Pair → Type 0
+Covers c all next = (k : List ℕ) → Has c k ⊎ (codes_in all k ≡ codes_in next k)

@@ -1,0 +1,152 @@
+// A state that a run starts from, and the next one.
+ghost use Rattle.std.specs.Prelude.{◌≡◌, ◌≤◌, [], List, ℕ, drop, length, map, IfOk, OnOk};
+ghost use Rattle.calculus.specs.Order.{sorted};
+ghost use Rattle.calculus.specs.Root.{root};
+ghost use Rattle.calculus.specs.Rows.{row_code as code_of_row};
+ghost use Rattle.checkpoint.specs.Kept.{AreKept};
+ghost use Rattle.radix_root.specs.Leaves.{Keeps};
+ghost use Rattle.states.specs.States.{state_text};
+ghost use Rattle.next_states.specs.Pairs.{Pair, groups_in};
+ghost use Rattle.next_states.specs.Walks.{Covers, Has, Holds, pair_in};
+
+use crate::changed::Changed;
+use crate::walk::{Keyed, compared};
+use calculus::Digest;
+use checkpoint::{Checkpoint, Mark, Parts, state_of, text_of_codes};
+use radix_root::RadixTree;
+use space_row::Row;
+use std::alloc::{AllocError, Global};
+use std::marker::Model;
+
+// How many bytes stand before the codes in the text of a state.
+const HEADER: usize = 49;
+
+/// A state that a run starts from, seen as its text.
+///
+/// The marks of its rows and the tree of their groups are kept beside the text, and the rows themselves are not.
+#[derive(Drop)]
+pub struct KnownState {
+    text: Vec<u8>,
+    marks: Vec<Mark>,
+    tree: RadixTree,
+}
+
+impl Model for KnownState {
+    ghost use Rattle.std.specs.Prelude.{List, ℕ};
+    ghost use Rattle.next_states.specs.Pairs.{IsKnown};
+
+    ghost Value = { List ℕ };
+
+    ghost view = { λ a. a.text.items };
+
+    ghost invariant = { λ a. IsKnown a.text.items a.marks.items a.tree };
+}
+
+impl KnownState {
+    /// The rows of a checkpoint, and the state that it is, whose text this is.
+    pub fn of(text: Vec<u8>, checkpoint: Checkpoint) -> (Vec<Row>, KnownState)
+        requires { text.items ≡ state_text checkpoint }
+        ensures rows { result.0.items ≡ checkpoint }
+        ensures kept { AreKept checkpoint }
+        ensures text { result.1 ≡ text.items }
+    {
+        let Parts { rows, tree, marks } = checkpoint.into_parts();
+        (rows, KnownState { text, marks, tree })
+    }
+
+    /// The state that a checkpoint is, whose text this is. The rows are let go.
+    pub fn without_rows(text: Vec<u8>, checkpoint: Checkpoint) -> KnownState
+        requires { text.items ≡ state_text checkpoint }
+        ensures { result ≡ text.items }
+    {
+        let (_rows, known) = KnownState::of(text, checkpoint);
+        known
+    }
+
+    /// Its text.
+    pub fn into_text(self) -> Vec<u8>
+        ensures { result.items ≡ self }
+    {
+        self.text
+    }
+
+    /// The root of these rows, which may stand in any order, and the text of the state that holds them. Want of
+    /// memory is the one error.
+    ///
+    /// The rows may be any: those that stand in this state too make it quick.
+    pub fn next_state(self, alloc: Global, rows: Vec<Row>) -> Result<(Digest, Vec<u8>), AllocError>
+        ensures root { IfOk result (λ p. p.0.0 ≡ root rows.items) }
+        ensures text { IfOk result (λ p. p.1.items ≡ state_text rows.items) }
+    {
+        if rows.len() / 2 > self.marks.len() {
+            return state_of(alloc, rows);
+        }
+        let (root, keyed) = next_root(alloc, self, rows)?;
+        let codes = codes_of(alloc, keyed)?;
+        let text = text_of_codes(alloc, &root, codes)?;
+        Ok((root, text))
+    }
+}
+
+// The root of these rows, and their codes, ascending.
+fn next_root(
+    alloc: Global,
+    known: KnownState,
+    rows: Vec<Row>,
+) -> Result<(Digest, Vec<Keyed>), AllocError>
+    ensures root { IfOk result (λ p. p.0.0 ≡ root rows.items) }
+    ensures codes { IfOk result (λ p. map (λ k. k.code.items) p.1.items ≡ sorted (map code_of_row rows.items)) }
+{
+    let KnownState { text, marks, tree } = known;
+    let codes = rest_of(text.as_slice(), HEADER);
+    let (keyed, changed) = compared(alloc, rows.as_slice(), marks.as_slice(), codes)?;
+    let next = changed_tree(alloc, tree, changed, keyed.as_slice())?;
+    Ok((next.root(), keyed))
+}
+
+// These bytes but for so many.
+fn rest_of(bytes: &[u8], len: usize) -> &[u8]
+    requires { len ≤ length bytes.now }
+    ensures { result.now ≡ drop len bytes.now }
+{
+    &bytes[len..]
+}
+
+// A tree with the codes of these pairs in each group that changes.
+fn changed_tree(
+    alloc: Global,
+    tree: RadixTree,
+    changed: Changed,
+    keyed: &[Keyed],
+) -> Result<RadixTree, AllocError>
+    requires { Holds changed [] }
+    ensures { IfOk result (λ t. (all : List Pair) → Keeps tree (groups_in all) → Covers changed all (map pair_in keyed.now) → Keeps t (groups_in (map pair_in keyed.now))) }
+{
+    let mut changed = changed;
+    gather(alloc, &mut changed, keyed)?;
+    let groups = changed.into_groups(alloc)?;
+    let next = tree.with_groups(alloc, groups.as_slice())?;
+    Ok(next)
+}
+
+// Gathers these codes, as far as their groups change.
+fn gather(alloc: Global, changed: &mut Changed, keyed: &[Keyed]) -> Result<(), AllocError>
+    ensures holds { OnOk result (Holds changed.old [] → Holds changed.new (map pair_in keyed.now)) }
+    ensures others { OnOk result ((k : List ℕ) → Has changed.old k → Has changed.new k) }
+{
+    for row in keyed {
+        changed.put(alloc, &row.key, row.code.as_slice())?;
+    }
+    Ok(())
+}
+
+// These codes without their keys.
+fn codes_of(alloc: Global, keyed: Vec<Keyed>) -> Result<Vec<Vec<u8>>, AllocError>
+    ensures { IfOk result (λ v. map (λ c. c.items) v.items ≡ map (λ k. k.code.items) keyed.items) }
+{
+    let mut codes = Vec::new(alloc);
+    for row in keyed {
+        codes.push(row.code)?;
+    }
+    Ok(codes)
+}

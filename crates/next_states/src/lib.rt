@@ -1,0 +1,9 @@
+//! The next state of a run: its root costs what changed since the state that the run started from.
+#![tactic(auto)]
+
+mod changed;
+mod known;
+mod left;
+mod walk;
+
+pub use known::KnownState;
