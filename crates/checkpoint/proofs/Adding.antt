@@ -1,5 +1,5 @@
 -- Codes of the rows of a key, one row after another and in another order.
-use Rattle.std.proofs.Common.{◌≡◌, ℕ, suc, ◌<◌, ◌+◌, Bool, true, false, cond, List, [], ◌∷◌, ◌++◌, length, map as each, take, drop, get_or, refl, ap, sym, ◌∙◌, subst, arith, append-nil, inl, inr}
+use Rattle.std.proofs.Common.{◌≡◌, ℕ, zero, suc, ◌<◌, ◌+◌, Bool, true, false, cond, List, [], ◌∷◌, ◌++◌, length, map as each, take, drop, get_or, refl, ap, sym, ◌∙◌, subst, arith, append-nil, inl, inr}
 use Rattle.std.specs.Prelude.{◌⊎◌, IsPermutation, All}
 use Rattle.std.specs.Str.{bytes_eq}
 use Rattle.std.proofs.Math.Seq.{drop-cons}
@@ -16,7 +16,7 @@ use Rattle.term_encoder.proofs.Codes.{sorted-ascending}
 use Rattle.radix_root.specs.Leaves.{group_digest, codes_at, groups_of}
 use Rattle.radix_root.specs.Groups.{given, digest_after}
 use Rattle.radix_root.specs.declared.group.Group.{Group}
-use Rattle.checkpoint.specs.declared.groups.KeyedRow.{KeyedRow}
+use Rattle.checkpoint.specs.declared.keyed.KeyedRow.{KeyedRow}
 use Rattle.checkpoint.specs.declared.groups.Groups.{Groups}
 use Rattle.checkpoint.specs.Groups.{row_of, Give, Holds, IsKeyed}
 
@@ -148,7 +148,7 @@ codes-added code old new v rows r k0 e f g h = ap (each code) e ∙ map-push cod
 -- nothing was added
 pub none-held : (gs : Groups) → gs.closed.items ≡ [] → gs.codes.items ≡ [] → Holds gs []
 none-held gs e f = record {
-  codes = ap (each (λ c. c.items)) f;
+  codes = ap (each (λ c. c.now)) f;
   closed = λ k. ap (λ xs. digest_after xs [] k) e ∙ ap (group_digest k) (go k (bytes_eq k gs.key.0));
 }
   where
@@ -160,29 +160,29 @@ none-held gs e f = record {
 pub record Going (gs : Groups) (done todo : List KeyedRow) : Type 0 where
   pub holds : Holds gs (each row_of done)
   pub least : IsAtLeast gs.key.0 (each row_of done)
-  pub next : ((k : List ℕ) → codes_at (each row_of done) k ≡ []) ⊎ IsBelowFirst gs.key.0 (each (λ k. k.key.0) todo)
-  pub rest : IsAscending (each (λ k. k.key.0) todo)
+  pub next : ((k : List ℕ) → codes_at (each row_of done) k ≡ []) ⊎ IsBelowFirst gs.key.0 (each (λ k. k.key.now.0) todo)
+  pub rest : IsAscending (each (λ k. k.key.now.0) todo)
   pub keyed : All IsKeyed todo
 
 -- the next one is added
-pub go-on : (gs hs : Groups) (done todo : List KeyedRow) (x : KeyedRow) → Going gs done (x ∷ todo) → hs.key.0 ≡ x.key.0
-    → ((rows : List Row) → Holds gs rows → (x.key.0 ≡ gs.key.0) ⊎ (codes_at rows x.key.0 ≡ []) → Holds hs (rows ++ row_of x ∷ [])) → Going hs (done ++ x ∷ []) todo
+pub go-on : (gs hs : Groups) (done todo : List KeyedRow) (x : KeyedRow) → Going gs done (x ∷ todo) → hs.key.0 ≡ x.key.now.0
+    → ((rows : List Row) → Holds gs rows → (x.key.now.0 ≡ gs.key.0) ⊎ (codes_at rows x.key.now.0 ≡ []) → Holds hs (rows ++ row_of x ∷ [])) → Going hs (done ++ x ∷ []) todo
 go-on gs hs done todo x g e add = record {
-  holds = subst (Holds hs) rows (add (each row_of done) g.holds (fresh-or-last gs.key.0 x.key.0 (each row_of done) g.least g.next));
+  holds = subst (Holds hs) rows (add (each row_of done) g.holds (fresh-or-last gs.key.0 x.key.now.0 (each row_of done) g.least g.next));
   least = subst (λ l. IsAtLeast l (each row_of (done ++ x ∷ []))) (sym (e ∙ own)) (subst (IsAtLeast (key (row_of x))) rows
       (at-least-push gs.key.0 (each row_of done) (row_of x) g.least (up g.next)));
-  next = inr (subst (λ l. IsBelowFirst l (each (λ k. k.key.0) todo)) (sym e) g.rest.0);
+  next = inr (subst (λ l. IsBelowFirst l (each (λ k. k.key.now.0) todo)) (sym e) g.rest.0);
   rest = g.rest.1;
   keyed = All-tail IsKeyed x todo g.keyed;
 }
   where
-    own : x.key.0 ≡ key (row_of x)
-    own = All-head IsKeyed x todo g.keyed
+    own : x.key.now.0 ≡ key (row_of x)
+    own = (All-head IsKeyed x todo g.keyed).0
 
     rows : each row_of done ++ row_of x ∷ [] ≡ each row_of (done ++ x ∷ [])
     rows = sym (map-push row_of done x)
 
-    up : ((k : List ℕ) → codes_at (each row_of done) k ≡ []) ⊎ (up_to gs.key.0 x.key.0 ≡ true) → ((k : List ℕ) → codes_at (each row_of done) k ≡ []) ⊎ (up_to gs.key.0 (key (row_of x)) ≡ true)
+    up : ((k : List ℕ) → codes_at (each row_of done) k ≡ []) ⊎ (up_to gs.key.0 x.key.now.0 ≡ true) → ((k : List ℕ) → codes_at (each row_of done) k ≡ []) ⊎ (up_to gs.key.0 (key (row_of x)) ≡ true)
     up (inl n) = inl n
     up (inr l) = inr (subst (λ z. up_to gs.key.0 z ≡ true) own l)
 
@@ -203,3 +203,11 @@ all-moved P p = go (exchanges p)
     go (under {xs} {ys} x e) h = All-cons P x ys (All-head P x xs h) (go e (All-tail P x xs h))
     go (neighbours x y zs) h = let t = All-tail P x (y ∷ zs) h in All-cons P y (x ∷ zs) (All-head P y zs t) (All-cons P x zs (All-head P x (y ∷ zs) h) (All-tail P y zs t))
     go (then e f) h = go f (go e h)
+
+-- lists that tell the same in each place tell the same in this one
+pub at-place : {A B C : Type 0} (f : A → C) (g : B → C) (xs : List A) (ys : List B) (i : ℕ) (x : A) (y : B) → each f xs ≡ each g ys → i < length ys → f (get_or xs i x) ≡ g (get_or ys i y)
+at-place f g [] [] i x y e l = absurd (omega (arith, l))
+at-place f g [] (y2 ∷ ys) i x y e l = absurd (cc e)
+at-place f g (x2 ∷ xs) [] i x y e l = absurd (cc e)
+at-place f g (x2 ∷ xs) (y2 ∷ ys) zero x y e l = cc e
+at-place f g (x2 ∷ xs) (y2 ∷ ys) (suc i) x y e l = at-place f g xs ys i x y (cc e) (omega (arith, l))

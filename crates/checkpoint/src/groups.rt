@@ -1,42 +1,35 @@
 // The tree of the groups of rows.
-ghost use Rattle.std.specs.Prelude.{◌≡◌, ◌⊎◌, ◌++◌, ◌∷◌, [], List, map, All, IfOk, OnOk, IsPermutation};
+ghost use Rattle.std.specs.Prelude.{◌≡◌, ◌⊎◌, ◌++◌, ◌∷◌, [], List, map, IfOk, OnOk};
 ghost use Rattle.std.specs.Str.{bytes_eq};
-ghost use Rattle.calculus.specs.Rows.{Row as AnyRow};
+ghost use Rattle.calculus.specs.Rows.{row_code as code_of_row, Row as AnyRow};
 ghost use Rattle.radix_root.specs.Leaves.{codes_at, groups_of, Keeps};
 ghost use Rattle.checkpoint.specs.Groups.{row_of, AreByKey, Give, Holds, IsKeyed};
 ghost use Rattle.checkpoint.specs.Marks.{AreMarks};
 
+use crate::keyed::{KeyedRow, rows_by_key};
 use crate::marks::{Mark, marks_of};
 use calculus::Digest;
-use radix_root::{Group, RadixTree};
-use space_row::{Row, row_code, row_key};
+use radix_root::{Group, RadixTree, slices_of};
+use space_row::{Row, row_code};
 use std::alloc::{AllocError, Global};
-
-// A row with the key of its group.
-#[derive(Drop)]
-pub(crate) struct KeyedRow<'a> {
-    pub(crate) key: Digest,
-    pub(crate) row: &'a Row,
-}
 
 // Groups of rows, one after another: all but the last of them are closed, and of the last stand the key and the codes.
 #[derive(Drop)]
-pub(crate) struct Groups {
+pub(crate) struct Groups<'a> {
     pub(crate) closed: Vec<Group>,
     pub(crate) key: Digest,
-    pub(crate) codes: Vec<Vec<u8>>,
+    pub(crate) codes: Vec<&'a [u8]>,
 }
 
-impl Groups {
+impl<'a> Groups<'a> {
     // Adds a row of the last group, or of a group that has no rows so far.
-    fn add(&mut self, alloc: Global, keyed: &KeyedRow<'_>) -> Result<(), AllocError>
+    fn add(&mut self, keyed: &KeyedRow<'a>) -> Result<(), AllocError>
         requires { IsKeyed keyed.now }
-        ensures key { OnOk result (self.new.key.0 ≡ keyed.now.key.0) }
-        ensures holds { OnOk result ((rows : List AnyRow) → Holds self.old rows → (keyed.now.key.0 ≡ self.old.key.0) ⊎ (codes_at rows keyed.now.key.0 ≡ []) → Holds self.new (rows ++ row_of keyed.now ∷ [])) }
+        ensures key { OnOk result (self.new.key.0 ≡ keyed.now.key.now.0) }
+        ensures holds { OnOk result ((rows : List AnyRow) → Holds self.old rows → (keyed.now.key.now.0 ≡ self.old.key.0) ⊎ (codes_at rows keyed.now.key.now.0 ≡ []) → Holds self.new (rows ++ row_of keyed.now ∷ [])) }
     {
-        self.turn(&keyed.key)?;
-        let code = row_code(alloc, keyed.row)?;
-        self.codes.push(code)?;
+        self.turn(keyed.key)?;
+        self.codes.push(keyed.code)?;
         Ok(())
     }
 
@@ -73,35 +66,11 @@ fn are_equal(a: &Digest, b: &Digest) -> bool
     *a == *b
 }
 
-// Each of these rows with the key of its group.
-fn keyed_rows<'a>(alloc: Global, rows: &'a [Row]) -> Result<Vec<KeyedRow<'a>>, AllocError>
-    ensures rows { IfOk result (λ v. map row_of v.items ≡ rows.now) }
-    ensures keyed { IfOk result (λ v. All IsKeyed v.items) }
-{
-    let mut keyed = Vec::new(alloc);
-    for row in rows {
-        let key = row_key(alloc, row)?;
-        keyed.push(KeyedRow { key, row })?;
-    }
-    Ok(keyed)
-}
-
-// These rows in the order of the keys of their groups.
-fn sorted_by_key<'a>(mut keyed: Vec<KeyedRow<'a>>) -> Result<Vec<KeyedRow<'a>>, AllocError>
-    requires { All IsKeyed keyed.items }
-    ensures rows { IfOk result (λ v. IsPermutation (map row_of keyed.entry.items) (map row_of v.items)) }
-    ensures order { IfOk result (λ v. AreByKey v.items) }
-{
-    keyed.sort_by(|a, b| a.key.0.cmp(&b.key.0))?;
-    Ok(keyed)
-}
-
 /// The tree of the groups of these rows. Want of memory is the one error.
 pub fn tree_of(alloc: Global, rows: &[Row]) -> Result<RadixTree, AllocError>
     ensures { IfOk result (λ t. Keeps t (groups_of rows.now)) }
 {
-    let keyed = keyed_rows(alloc, rows)?;
-    let tree = tree_by_keys(alloc, keyed)?;
+    let (tree, _marks) = marked_tree(alloc, rows)?;
     Ok(tree)
 }
 
@@ -110,29 +79,61 @@ pub fn marked_tree(alloc: Global, rows: &[Row]) -> Result<(RadixTree, Vec<Mark>)
     ensures tree { IfOk result (λ p. Keeps p.0 (groups_of rows.now)) }
     ensures marks { IfOk result (λ p. AreMarks p.1.items rows.now) }
 {
-    let keyed = keyed_rows(alloc, rows)?;
-    let marks = marks_of(alloc, keyed.as_slice())?;
-    let tree = tree_by_keys(alloc, keyed)?;
+    let codes = codes_of_rows(alloc, rows)?;
+    let slices = slices_of(alloc, codes.as_slice())?;
+    let marked = coded_tree(alloc, rows, slices)?;
+    Ok(marked)
+}
+
+/// The codes of these rows, as they stand.
+pub(crate) fn codes_of_rows(alloc: Global, rows: &[Row]) -> Result<Vec<Vec<u8>>, AllocError>
+    ensures { IfOk result (λ v. map (λ c. c.items) v.items ≡ map code_of_row rows.now) }
+{
+    let mut codes = Vec::with_capacity(alloc, rows.len())?;
+    for row in rows {
+        codes.push(row_code(alloc, row)?)?;
+    }
+    Ok(codes)
+}
+
+/// The tree of the groups of these rows, which have these codes, and the marks of the rows. Want of memory is the one
+/// error. No row's code is made.
+pub fn coded_tree(
+    alloc: Global,
+    rows: &[Row],
+    codes: Vec<&[u8]>,
+) -> Result<(RadixTree, Vec<Mark>), AllocError>
+    requires { map (λ c. c.now) codes.items ≡ map code_of_row rows.now }
+    ensures tree { IfOk result (λ p. Keeps p.0 (groups_of rows.now)) }
+    ensures marks { IfOk result (λ p. AreMarks p.1.items rows.now) }
+{
+    let marks = marks_of(alloc, rows, codes.as_slice())?;
+    let groups = groups_by_key(alloc, rows, codes, marks.as_slice())?;
+    let tree = tree_with(alloc, groups)?;
     Ok((tree, marks))
 }
 
-// The tree of the groups of these rows.
-fn tree_by_keys(alloc: Global, keyed: Vec<KeyedRow<'_>>) -> Result<RadixTree, AllocError>
-    requires { All IsKeyed keyed.items }
-    ensures { IfOk result (λ t. Keeps t (groups_of (map row_of keyed.entry.items))) }
+// The tree of these groups alone.
+fn tree_with(alloc: Global, groups: Vec<Group>) -> Result<RadixTree, AllocError>
+    ensures { IfOk result (λ t. (rows : List AnyRow) → Give groups.items (groups_of rows) → Keeps t (groups_of rows)) }
 {
-    let groups = groups_by_key(alloc, keyed)?;
-    let tree = RadixTree::new(alloc).with_groups(alloc, groups.as_slice())?;
+    let (tree, _made) = RadixTree::new(alloc).with_groups(alloc, groups.as_slice())?;
     Ok(tree)
 }
 
-// The groups of these rows, in the order of their keys.
-fn groups_by_key(alloc: Global, keyed: Vec<KeyedRow<'_>>) -> Result<Vec<Group>, AllocError>
-    requires { All IsKeyed keyed.items }
-    ensures { IfOk result (λ v. Give v.items (groups_of (map row_of keyed.entry.items))) }
+// The groups of these rows, whose codes and marks these are, in the order of their keys.
+fn groups_by_key<'a>(
+    alloc: Global,
+    rows: &'a [Row],
+    codes: Vec<&'a [u8]>,
+    marks: &'a [Mark],
+) -> Result<Vec<Group>, AllocError>
+    requires codes { map (λ c. c.now) codes.items ≡ map code_of_row rows.now }
+    requires marks { AreMarks marks.now rows.now }
+    ensures { IfOk result (λ v. Give v.items (groups_of rows.now)) }
 {
-    let sorted = sorted_by_key(keyed)?;
-    let groups = grouped(alloc, sorted.as_slice())?;
+    let keyed = rows_by_key(alloc, rows, codes, marks)?;
+    let groups = grouped(alloc, keyed.as_slice())?;
     Ok(groups)
 }
 
@@ -142,12 +143,12 @@ fn grouped(alloc: Global, keyed: &[KeyedRow<'_>]) -> Result<Vec<Group>, AllocErr
     ensures { IfOk result (λ v. Give v.items (groups_of (map row_of keyed.now))) }
 {
     let mut groups = Groups {
-        closed: Vec::new(alloc),
+        closed: Vec::with_capacity(alloc, keyed.len().saturating_add(1))?,
         key: Digest([0; 32]),
         codes: Vec::new(alloc),
     };
     for row in keyed {
-        groups.add(alloc, row)?;
+        groups.add(row)?;
     }
     groups.close()?;
     Ok(groups.closed)

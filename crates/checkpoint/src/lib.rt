@@ -3,12 +3,13 @@
 
 mod checkpoint;
 mod groups;
+mod keyed;
 mod marks;
 mod outcome;
 mod text;
 
 pub use checkpoint::{Checkpoint, Parts};
-pub use groups::{marked_tree, tree_of};
+pub use groups::{coded_tree, marked_tree, tree_of};
 pub use marks::Mark;
 pub use outcome::Outcome;
 pub use run_verdict::Verdict;

@@ -7,8 +7,9 @@ ghost use Rattle.states.specs.States.{state_text};
 ghost use Rattle.checkpoint.specs.Texts.{head_with, text_with};
 
 use crate::checkpoint::Checkpoint;
-use crate::groups::tree_of;
+use crate::groups::{coded_tree, codes_of_rows};
 use calculus::Digest;
+use radix_root::slices_of;
 use space_row::{Row, row_code};
 use std::alloc::{AllocError, Global};
 
@@ -68,30 +69,28 @@ pub fn state_of(alloc: Global, rows: Vec<Row>) -> Result<(Digest, Vec<u8>), Allo
     ensures root { IfOk result (λ p. p.0.0 ≡ root rows.items) }
     ensures text { IfOk result (λ p. p.1.items ≡ state_text rows.items) }
 {
-    let tree = tree_of(alloc, rows.as_slice())?;
-    let root = tree.root();
-    let codes = codes_in_order(alloc, rows)?;
-    let text = text_of_codes(alloc, &root, codes)?;
+    let codes = codes_of_rows(alloc, rows.as_slice())?;
+    let root = root_with(alloc, rows, codes.as_slice())?;
+    let ascending = ordered(codes)?;
+    let text = text_of_codes(alloc, &root, ascending)?;
     Ok((root, text))
 }
 
-// The codes of these rows, ascending.
-fn codes_in_order(alloc: Global, rows: Vec<Row>) -> Result<Vec<Vec<u8>>, AllocError>
-    ensures { IfOk result (λ v. map (λ c. c.items) v.items ≡ sorted (map code_of_row rows.items)) }
+// The root of these rows, which have these codes. The rows are let go.
+fn root_with(alloc: Global, rows: Vec<Row>, codes: &[Vec<u8>]) -> Result<Digest, AllocError>
+    requires { map (λ c. c.items) codes.now ≡ map code_of_row rows.items }
+    ensures { IfOk result (λ d. d.0 ≡ root rows.items) }
 {
-    let mut codes = codes_of_rows(alloc, rows)?;
-    codes.sort_by(|a, b| a.cmp(b))?;
-    Ok(codes)
+    let slices = slices_of(alloc, codes)?;
+    let (tree, _marks) = coded_tree(alloc, rows.as_slice(), slices)?;
+    Ok(tree.root())
 }
 
-// The codes of these rows, as they stand.
-fn codes_of_rows(alloc: Global, rows: Vec<Row>) -> Result<Vec<Vec<u8>>, AllocError>
-    ensures { IfOk result (λ v. map (λ c. c.items) v.items ≡ map code_of_row rows.items) }
+// These codes, ascending.
+fn ordered(mut codes: Vec<Vec<u8>>) -> Result<Vec<Vec<u8>>, AllocError>
+    ensures { IfOk result (λ v. map (λ c. c.items) v.items ≡ sorted (map (λ c. c.items) codes.items)) }
 {
-    let mut codes = Vec::new(alloc);
-    for row in rows {
-        codes.push(row_code(alloc, &row)?)?;
-    }
+    codes.sort_by(|a, b| a.cmp(b))?;
     Ok(codes)
 }
 

@@ -1,7 +1,7 @@
 //! Runs the examples in memory: each is deployed from the empty state, and its log is replayed.
 #![tactic(auto)]
 
-use rho_main::run;
+use program_calls::call;
 use rho_outside::{FileShelf, MemShelf, MemSink, OpenGate, Shelf};
 use std::alloc::{AllocError, AllocFailed, Global};
 use std::rt::Files;
@@ -57,19 +57,15 @@ fn take_file<R: Files>(
 }
 
 /// Calls `rho` with these words, which stand between spaces: its code, and what it put.
-fn call<R: Threads + Wait + Sync>(
+fn run<R: Threads + Wait + Sync>(
     rt: &R,
     alloc: Global,
     text: &str,
     files: &mut MemShelf,
 ) -> Result<(u8, Vec<u8>), ExampleFault> {
-    let mut words = Vec::new(alloc);
-    for word in text.split(' ') {
-        words.push(String::from_str(alloc, word)?)?;
-    }
     let mut out = MemSink::new(alloc);
-    let status = run(rt, alloc, words.as_slice(), files, &mut out, &OpenGate);
-    Ok((status.code(), out.bytes))
+    let ended = call(rt, alloc, text, files, &mut out, &OpenGate)?;
+    Ok((ended.code, out.bytes))
 }
 
 /// What an example prints, and whether its replay says and leaves the same.
@@ -82,12 +78,12 @@ fn run_example<R: Threads + Wait + Sync + Files>(
     let source = format!(in alloc; "{name}.rho")?;
     take_file(rt, alloc, source.as_str(), &mut files)?;
     take_file(rt, alloc, "prices.toml", &mut files)?;
-    call(rt, alloc, "genesis empty", &mut files)?;
+    run(rt, alloc, "genesis empty", &mut files)?;
     let inputs = format!(in alloc; "{source} --state empty --prices prices.toml --log log")?;
     let deploy = format!(in alloc; "deploy {inputs} --next next --limit 1000")?;
     let replay = format!(in alloc; "replay {inputs} --next again")?;
-    let (code, played) = call(rt, alloc, deploy.as_str(), &mut files)?;
-    let (again, replayed) = call(rt, alloc, replay.as_str(), &mut files)?;
+    let (code, played) = run(rt, alloc, deploy.as_str(), &mut files)?;
+    let (again, replayed) = run(rt, alloc, replay.as_str(), &mut files)?;
     let alike = code == again && played.as_slice() == replayed.as_slice();
     let same = is_same_file(alloc, &mut files)?;
     let text = String::from_utf8_lossy(alloc, played.as_slice())?;

@@ -3,7 +3,7 @@ use crate::channels::{apart, receives, sends};
 use crate::direct::replayed;
 use crate::fault::GateFault;
 use crate::meeting::Meeting;
-use rho_main::run;
+use program_calls::call;
 use rho_outside::{Gate, MemShelf, MemSink, OpenGate, Shelf};
 use std::alloc::Global;
 use std::sync::Wait;
@@ -43,20 +43,16 @@ fn files(alloc: Global) -> Result<MemShelf, GateFault> {
 }
 
 // Runs the words of a text with a gate: its code, and what it put.
-fn call<R: Threads + Wait + Sync, G: Gate + Sync>(
+fn run<R: Threads + Wait + Sync, G: Gate + Sync>(
     rt: &R,
     alloc: Global,
     shelf: &mut MemShelf,
     gate: &G,
     text: &str,
 ) -> Result<String, GateFault> {
-    let mut words = Vec::new(alloc);
-    for word in text.split(' ') {
-        words.push(String::from_str(alloc, word)?)?;
-    }
     let mut out = MemSink::new(alloc);
-    let status = run(rt, alloc, words.as_slice(), shelf, &mut out, gate);
-    let code = status.code();
+    let ended = call(rt, alloc, text, shelf, &mut out, gate)?;
+    let code = ended.code;
     let put = String::from_utf8_lossy(alloc, out.bytes.as_slice())?;
     Ok(format!(in alloc; "code {code}, {put}")?)
 }
@@ -69,7 +65,7 @@ fn meet<R: Threads + Wait + Sync>(
     text: &str,
 ) -> Result<String, GateFault> {
     let gate = Meeting::new();
-    let came = call(rt, alloc, shelf, &gate, text)?;
+    let came = run(rt, alloc, shelf, &gate, text)?;
     let met = gate.has_met(rt);
     let failed = gate.has_failed(rt);
     Ok(format!(in alloc; "met {met}, gave up {failed}, {came}")?)
@@ -115,8 +111,8 @@ fn replay_directly<R: Threads + Wait + Sync>(
 /// workers meet.
 pub fn told<R: Threads + Wait + Sync>(rt: &R, alloc: Global) -> Result<String, GateFault> {
     let mut shelf = files(alloc)?;
-    call(rt, alloc, &mut shelf, &OpenGate, "genesis empty")?;
-    call(rt, alloc, &mut shelf, &OpenGate, STORE)?;
+    run(rt, alloc, &mut shelf, &OpenGate, "genesis empty")?;
+    run(rt, alloc, &mut shelf, &OpenGate, STORE)?;
     let deployed = meet(rt, alloc, &mut shelf, DEPLOY)?;
     let again = meet(rt, alloc, &mut shelf, REPLAY)?;
     let directly = replay_directly(rt, alloc, &mut shelf)?;

@@ -1,11 +1,11 @@
 -- What a seat says of works that it was to leave on its desk.
 use Rattle.std.proofs.Common.{◌≡◌, ℕ, ◌+◌, ◌-◌, List, [], ◌∷◌, length, Result, Ok, Err, OnOk, IfErr, refl, sym, ap, ◌∙◌, arith}
 use Rattle.atomic_table.specs.Table.{Me}
-use Rattle.group_locks.specs.declared.view.View.{View}
-use Rattle.group_locks.specs.declared.view.Pile.{Pile}
-use Rattle.group_locks.specs.declared.slot.Slot.{Slot}
-use Rattle.group_locks.specs.Works.{pile}
-use Rattle.group_locks.specs.Rule.{with_pile, leaves}
+use Rattle.hub_rule.specs.declared.view.View.{View}
+use Rattle.hub_rule.specs.declared.view.Pile.{Pile}
+use Rattle.hub_rule.specs.declared.slot.Slot.{Slot}
+use Rattle.hub_rule.specs.Works.{pile}
+use Rattle.hub_rule.specs.Rule.{with_pile, leaves}
 
 -- the seat was a and is now b: it left what its last entry offered, or these came back
 pub record Left {E X W U V : Type 0} (a b : Me (Slot X W) (View E X W)) (ops : V) (found : Result U V) : Type 0 where

@@ -1,13 +1,13 @@
 -- What a seat says of a work that it looked for.
 use Rattle.std.proofs.Common.{◌≡◌, ℕ, ◌+◌, ◌<◌, ◌⊎◌, true, Option, None, Some, List, [], ◌∷◌, ◌++◌, IfSome, IfNone, ap, ◌∙◌, arith, inl, inr, ⊎_elim}
 use Rattle.atomic_table.specs.Table.{Me}
-use Rattle.group_locks.specs.declared.view.View.{View}
-use Rattle.group_locks.specs.declared.view.Pile.{Pile}
-use Rattle.group_locks.specs.declared.view.Tally.{Tally}
-use Rattle.group_locks.specs.declared.slot.Slot.{Slot}
-use Rattle.group_locks.specs.Works.{hand}
-use Rattle.group_locks.specs.Rule.{with_tally, with_pile, takes_up, Goes, EndsBy}
-use Rattle.group_locks.proofs.DeskTurns.{hand_none}
+use Rattle.hub_rule.specs.declared.view.View.{View}
+use Rattle.hub_rule.specs.declared.view.Pile.{Pile}
+use Rattle.hub_rule.specs.declared.view.Tally.{Tally}
+use Rattle.hub_rule.specs.declared.slot.Slot.{Slot}
+use Rattle.hub_rule.specs.Works.{hand}
+use Rattle.hub_rule.specs.Rule.{with_tally, with_pile, takes_up, Goes, EndsBy}
+use Rattle.hub_rule.proofs.DeskTurns.{hand_none}
 
 -- the seat was a, looked for a work, found this and is now b
 pub record Looked {E X W : Type 0} (a b : Me (Slot X W) (View E X W)) (found : Option W) : Type 0 where

@@ -1,14 +1,14 @@
 -- What a seat knows while it waits for a work.
 use Rattle.std.proofs.Common.{◌≡◌, ℕ, ◌+◌, ◌-◌, ◌%◌, ◌^◌, ◌<◌, ◌≤◌, ◌⊎◌, true, List, [], ◌∷◌, ◌++◌, length, refl, sym, ap, subst, ◌∙◌, arith, inl, inr, ⊎_elim, length-append}
 use Rattle.atomic_table.specs.Table.{Me}
-use Rattle.group_locks.specs.declared.view.View.{View}
-use Rattle.group_locks.specs.declared.view.Pile.{Pile}
-use Rattle.group_locks.specs.declared.view.Tally.{Tally}
-use Rattle.group_locks.specs.declared.slot.Slot.{Slot}
-use Rattle.group_locks.specs.Works.{hand}
-use Rattle.group_locks.specs.Rule.{with_tally, with_pile, saw_empty, takes_up, leaves, Goes, EndsBy}
-use Rattle.group_locks.proofs.Offers.{hand_is}
-use Rattle.group_locks.proofs.DeskTurns.{hand_none}
+use Rattle.hub_rule.specs.declared.view.View.{View}
+use Rattle.hub_rule.specs.declared.view.Pile.{Pile}
+use Rattle.hub_rule.specs.declared.view.Tally.{Tally}
+use Rattle.hub_rule.specs.declared.slot.Slot.{Slot}
+use Rattle.hub_rule.specs.Works.{hand}
+use Rattle.hub_rule.specs.Rule.{with_tally, with_pile, saw_empty, takes_up, leaves, Goes, EndsBy}
+use Rattle.hub_rule.proofs.Offers.{hand_is}
+use Rattle.hub_rule.proofs.DeskTurns.{hand_none}
 
 -- the seat a read the words some times, found no end, and is now b
 pub record Waits {E X W : Type 0} (a b : Me (Slot X W) (View E X W)) : Type 0 where

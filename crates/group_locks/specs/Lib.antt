@@ -1,6 +1,1 @@
-pub mod Counts
-pub mod Meaning
-pub mod Works
-pub mod Rule
-pub mod Stops
 pub mod Seats

@@ -2,14 +2,14 @@
 use Rattle.std.specs.Prelude.{◌≡◌, ℕ, ◌+◌, ◌%◌, ◌<◌, ◌≤◌, ◌^◌, true, false, List, [], ◌++◌, vec_len, vec_capacity}
 use Rattle.atomic_table.specs.Seated.{TableId}
 use Rattle.group_locks.specs.declared.state.SeatState.{SeatState}
-use Rattle.group_locks.specs.declared.terms.StopCause.{StopCause}
-use Rattle.group_locks.specs.declared.terms.StopCause.TheVariants.{Fault, NoMemory}
-use Rattle.group_locks.specs.declared.rule.Opened.{Opened}
-use Rattle.group_locks.specs.Counts.{total, all_of}
-use Rattle.group_locks.specs.Rule.{tally}
-use Rattle.group_locks.specs.Works.{pile, hand}
-use Rattle.group_locks.specs.declared.view.Pile.{Pile}
-use Rattle.group_locks.specs.declared.view.Tally.{Tally}
+use Rattle.hub_rule.specs.declared.terms.StopCause.{StopCause}
+use Rattle.hub_rule.specs.declared.terms.StopCause.TheVariants.{Fault, NoMemory}
+use Rattle.hub_rule.specs.declared.rule.Opened.{Opened}
+use Rattle.hub_rule.specs.Counts.{total, all_of}
+use Rattle.hub_rule.specs.Rule.{tally}
+use Rattle.hub_rule.specs.Works.{pile, hand}
+use Rattle.hub_rule.specs.declared.view.Pile.{Pile}
+use Rattle.hub_rule.specs.declared.view.Tally.{Tally}
 
 module _ {E X W : Type 0} where
   -- the table of the hub that the seat belongs to

@@ -1,25 +1,17 @@
 //! The end of a hub.
-ghost use Rattle.std.specs.Prelude.{◌≡◌, ℕ, ◌+◌, ◌*◌, ◌<◌, ◌≤◌, [], ◌++◌, Some, IfOk, OnOk, IfErr, IfSome, IsSome, max, length, slice_get, vec_capacity, ◌%◌, ◌^◌, List};
+ghost use Rattle.std.specs.Prelude.{◌≡◌, ℕ, ◌+◌, ◌*◌, ◌<◌, ◌≤◌, [], ◌++◌, Some, IfOk, OnOk, IfErr, IfSome, IsSome, max, length, slice_get, vec_capacity, ◌%◌, ◌^◌};
 ghost use Rattle.std.specs.List.{All};
-ghost use Rattle.group_locks.specs.Counts.{all_of, count, once_below, total, Each};
-ghost use Rattle.group_locks.specs.Meaning.{Ran};
-ghost use Rattle.group_locks.specs.Works.{LiesOn, FilledFrom};
-ghost use Rattle.group_locks.specs.Stops.{FaultOf, FaultCause};
-ghost use Rattle.group_locks.specs.Rule.{view, spent, cost, RanBy};
+ghost use Rattle.hub_rule.specs.Counts.{all_of, count, once_below, total, Each};
+ghost use Rattle.hub_rule.specs.Meaning.{Ran};
+ghost use Rattle.hub_rule.specs.Stops.{FaultOf, FaultCause};
+ghost use Rattle.hub_rule.specs.Rule.{view, spent, cost, RanBy};
 ghost use Rattle.group_locks.specs.Seats.{AtRest, drawn_by, pile_of, hand_of, empty_of, heap_of, opened_works, FitsLeft, charged_by, settled_by, fresh_by, due_of, over_of, memory_of, faults_of, stops_of, gathered, opened_shards, seat_count, spent_of, limit_of};
-ghost use mathlib.Core.Option.{some};
-ghost use lib.ListN.{get_elem?};
-ghost use Rattle.std.specs.Mem.Slots.{slots_items, slots_len, slots_filled, IsFull};
 
 use crate::hub::{Hub, Pool};
-use crate::order::{empty_places, in_order, move_all};
-use crate::rule::{Enter, Merge};
-use crate::scene::Scene;
 use crate::seat::Seat;
-use crate::slot::Slot;
 use crate::state::SeatState;
-use crate::steps::{Board, CHARGED, STOP, Token};
-use crate::terms::StopCause;
+use hub_rule::{Board, CHARGED, Enter, Merge, STOP, Scene, StopCause, Token};
+use hub_slots::{empty_places, in_order, take_left, take_shards};
 use std::alloc::{AllocError, Global};
 
 // Makes all seats one, and hands out the lists of their entries.
@@ -49,61 +41,6 @@ fn gather<S: Scene>(
         board.join_seat::<Merge>(token, other);
         lists.push_reserved(entries);
     }
-}
-
-fn shard_of<X: Drop, W: Drop>(slot: Slot<X, W>) -> X
-    requires { (x : X) × (slot ≡ Slot.Shard (Some x)) }
-    ensures { slot ≡ Slot.Shard (Some result) }
-{
-    let Slot::Shard(Some(shard)) = slot else {
-        unreachable!()
-    };
-    shard
-}
-
-fn works_of<X: Drop, W: Drop>(slot: Slot<X, W>) -> Vec<W>
-    requires { (works : _) × (slot ≡ Slot.Desk works) }
-    ensures { slot ≡ Slot.Desk result }
-{
-    let Slot::Desk(works) = slot else {
-        unreachable!()
-    };
-    works
-}
-
-// Takes the shards out of their slots.
-fn take_shards<X: Drop, W: Drop>(
-    mut closed: atomic_table::Closed<Slot<X, W>, Global>,
-    mut out: Vec<X>,
-) -> (Vec<X>, atomic_table::Closed<Slot<X, W>, Global>)
-    requires slots { (slots_len closed.slots ≡ 96) × IsFull closed.slots }
-    requires home { (k : ℕ) → k < 64 → (x : X) × (get_elem? (slots_items closed.slots) k ≡ some (Slot.Shard (Some x))) }
-    requires room { (out.items ≡ []) × (64 ≤ vec_capacity out) }
-    ensures long { length result.0.items ≡ 64 }
-    ensures items { (k : ℕ) (x : X) → slice_get result.0.items k ≡ Some x → get_elem? (slots_items closed.slots) k ≡ some (Slot.Shard (Some x)) }
-    ensures left { (slots_items result.1.slots ≡ slots_items closed.slots) × (slots_len result.1.slots ≡ 96) × FilledFrom 64 96 (slots_filled result.1.slots) }
-{
-    for number in 0..64usize {
-        out.push_reserved(shard_of(closed.take(number)));
-    }
-    (out, closed)
-}
-
-// Takes the works out of the slots of the desks.
-fn take_left<X: Drop, W: Drop>(
-    mut closed: atomic_table::Closed<Slot<X, W>, Global>,
-    mut left: Vec<W>,
-) -> Vec<W>
-    requires slots { (slots_len closed.slots ≡ 96) × FilledFrom 64 96 (slots_filled closed.slots) }
-    requires desks { (lists : List (List W)) × (length lists ≡ 32) × LiesOn (slots_items closed.slots) lists × (length (all_of (λ l. l) lists) ≤ vec_capacity left) }
-    requires room { left.items ≡ [] }
-    ensures { (lists : List (List W)) → length lists ≡ 32 → LiesOn (slots_items closed.slots) lists → result.items ≡ all_of (λ l. l) lists }
-{
-    for desk in 64..96usize {
-        move_all(works_of(closed.take(desk)), &mut left);
-    }
-    closed.free();
-    left
 }
 
 // What a hub leaves, with the entries as the seats drew them.

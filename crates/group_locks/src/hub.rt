@@ -1,24 +1,18 @@
 //! The hub, which all seats share.
-ghost use Rattle.std.specs.Prelude.{◌≡◌, ℕ, ◌≤◌, ◌<◌, ◌^◌, ◌++◌, [], Some, IfOk, length, map};
-ghost use Rattle.std.specs.Vec.Iter.{into_iter_items};
+ghost use Rattle.std.specs.Prelude.{◌≡◌, ◌≤◌, ◌<◌, ◌^◌, [], IfOk, length, vec_capacity};
 ghost use Rattle.std.specs.List.{All};
-ghost use Rattle.group_locks.specs.Counts.{Projected};
-ghost use Rattle.group_locks.specs.Rule.{newcomer, blank};
-ghost use Rattle.group_locks.specs.Works.{bare, Laid};
+ghost use Rattle.hub_rule.specs.Counts.{Projected};
+ghost use Rattle.hub_rule.specs.Rule.{newcomer, blank};
+ghost use Rattle.hub_rule.specs.Works.{bare};
 ghost use Rattle.group_locks.specs.Seats.{AtRest, drawn_by, tally_of, pile_of, opened_shards, opened_works, seat_count, spent_of, limit_of};
 
-use crate::rule::{Cut, Opened, Rule};
-use crate::scene::Scene;
 use crate::seat::Seat;
-use crate::slot::Slot;
 use crate::state::SeatState;
-use crate::steps::{CHARGED, PENDING, Token};
-use crate::terms::Terms;
-use crate::view::View;
 use atomic_table::Table;
+use hub_rule::{Board, CHARGED, Cut, Opened, PENDING, Rule, Scene, Slot, Terms, Token, View};
+use hub_slots::slots_of;
 use std::alloc::{AllocError, Global};
 use std::snapshot::Snapshot;
-use std::vec::IntoIter;
 
 /// The turns and the slots of 64 shards, the count of entries drawn, what is charged, and the stop. Each step on them is one atomic step, and there is no lock round the whole.
 #[derive(Drop)]
@@ -113,20 +107,39 @@ impl<S: Scene> Hub<S> {
         ensures rest { IfOk result (λ p. All (λ s. AtRest p.hub.table.shared.table_id s.state) p.seats.items) }
         ensures drawn { IfOk result (λ p. All (λ s. (drawn_by s.state ≡ []) × (tally_of s.state ≡ blank) × (pile_of s.state ≡ bare)) p.seats.items) }
     {
-        let mut made = Vec::with_capacity(alloc, seats as usize)?;
+        let made = Vec::with_capacity(alloc, seats as usize)?;
         let terms = Terms {
             seats,
             spent,
             limit,
         };
-        let (hub, mut token) = Hub::open(alloc, scene, shards, work, terms)?;
-        for number in 1..seats {
-            let other = hub.table.shared.split_seat::<Cut>(&mut token);
-            made.push_reserved(new_seat(alloc, other, number));
-        }
-        made.push_reserved(new_seat(alloc, token, 0));
-        Ok(Pool { hub, seats: made })
+        let (hub, token) = Hub::open(alloc, scene, shards, work, terms)?;
+        let seats = cut_seats(alloc, &hub.table.shared, token, made, seats);
+        Ok(Pool { hub, seats })
     }
+}
+
+// So many seats, each with its share of the parts that this token has.
+fn cut_seats<S: Scene>(
+    alloc: Global,
+    board: &Board<S>,
+    mut token: Token<S>,
+    mut made: Vec<Seat<S>>,
+    seats: u32,
+) -> Vec<Seat<S>>
+    requires table { (token.table_id ≡ board.now.table_id) × (0 < board.now.table_id.words) }
+    requires parts { (token.me ≡ (newcomer seats, [])) × (1 ≤ seats) × (seats ≤ 32) }
+    requires room { (made.items ≡ []) × (seats ≤ vec_capacity made) }
+    ensures count { length result.items ≡ seats }
+    ensures rest { All (λ s. AtRest board.now.table_id s.state) result.items }
+    ensures drawn { All (λ s. (drawn_by s.state ≡ []) × (tally_of s.state ≡ blank) × (pile_of s.state ≡ bare)) result.items }
+{
+    for number in 1..seats {
+        let other = board.split_seat::<Cut>(&mut token);
+        made.push_reserved(new_seat(alloc, other, number));
+    }
+    made.push_reserved(new_seat(alloc, token, 0));
+    made
 }
 
 fn new_seat<S: Scene>(alloc: Global, token: Token<S>, desk: u32) -> Seat<S>
@@ -143,65 +156,4 @@ fn new_seat<S: Scene>(alloc: Global, token: Token<S>, desk: u32) -> Seat<S>
             turns: 0,
         },
     }
-}
-
-// The slots of these shards, and of 32 desks. As many desks as seats share the works.
-fn slots_of<X: Drop, W: Drop>(
-    alloc: Global,
-    shards: Vec<X>,
-    work: Vec<W>,
-    seats: u32,
-) -> Result<Vec<Slot<X, W>>, AllocError>
-    requires { 1 ≤ seats }
-    ensures { IfOk result (λ v. Laid 32 shards.items work.items v.items) }
-{
-    let share = work.len().div_ceil(seats as usize);
-    let mut slots = all_shards(alloc, shards)?;
-    let mut works = work.into_iter();
-    for _ in 0..31u32 {
-        slots.push(Slot::Desk(take_some(alloc, &mut works, share)?))?;
-    }
-    slots.push(Slot::Desk(take_rest(alloc, works)?))?;
-    Ok(slots)
-}
-
-// Moves so many things out, or all where there are no more.
-fn take_some<T: Drop>(
-    alloc: Global,
-    things: &mut IntoIter<T>,
-    count: usize,
-) -> Result<Vec<T>, AllocError>
-    ensures { IfOk result (λ v. v.items ++ into_iter_items things.new ≡ into_iter_items things.old) }
-{
-    let mut some = Vec::with_capacity(alloc, count.min(things.len()))?;
-    for _ in 0..count {
-        let Some(thing) = things.next() else {
-            return Ok(some);
-        };
-        some.push(thing)?;
-    }
-    Ok(some)
-}
-
-// Moves all out.
-fn take_rest<T: Drop>(alloc: Global, things: IntoIter<T>) -> Result<Vec<T>, AllocError>
-    ensures { IfOk result (λ v. v.items ≡ into_iter_items things) }
-{
-    let mut rest = Vec::with_capacity(alloc, things.len())?;
-    for thing in things {
-        rest.push(thing)?;
-    }
-    Ok(rest)
-}
-
-fn all_shards<X: Drop, W: Drop>(
-    alloc: Global,
-    shards: Vec<X>,
-) -> Result<Vec<Slot<X, W>>, AllocError>
-    ensures { IfOk result (λ v. v.items ≡ map (λ x. Slot.Shard (Some x)) shards.items) }
-{
-    shards
-        .into_iter()
-        .map(|x| Slot::Shard(Some(x)))
-        .collect(alloc)
 }

@@ -1,21 +1,20 @@
 //! A seat, through which one worker steps.
 ghost use Rattle.std.specs.Prelude.{◌≡◌, ℕ, ◌+◌, ◌^◌, ◌<◌, ◌⊎◌, true, false, ◌≤◌, List, [], ◌∷◌, ◌++◌, ◌%◌, ◌-◌, length, None, OnOk, IfErr, IfSome, IfNone, vec_len, vec_capacity};
 ghost use Rattle.std.specs.Int.{bit_at};
-ghost use Rattle.group_locks.specs.Counts.{count, one_if, things_of, numbered};
-ghost use Rattle.group_locks.specs.Rule.{after_commit, since_after, with_tally, with_pile, takes_up, leaves, kept_if, owes, pays, Carries, MayDraw, Goes, EndsBy};
-ghost use Rattle.group_locks.specs.Stops.{HasFault};
-ghost use Rattle.group_locks.specs.Meaning.{AllFollow};
-ghost use Rattle.group_locks.specs.Works.{hand};
+ghost use Rattle.hub_rule.specs.Counts.{count, one_if, things_of, numbered};
+ghost use Rattle.hub_rule.specs.Rule.{after_commit, since_after, with_tally, with_pile, takes_up, leaves, kept_if, owes, pays, Carries, MayDraw, Goes, EndsBy};
+ghost use Rattle.hub_rule.specs.Stops.{HasFault};
+ghost use Rattle.hub_rule.specs.Meaning.{AllFollow};
+ghost use Rattle.hub_rule.specs.Works.{hand};
 ghost use Rattle.group_locks.specs.Seats.{home_of, pile_of, hand_of, taken_by, offered_by, took_by, empty_of, drawn_by, held_by, since_of, tally_of, charged_by, due_of, low_of, over_of, unset_of, found_of, stops_of, HasLeave, HasRoom, SameRoom};
 
-use crate::desks::{leave_works, look_round, read_pending, ring, sleep_for_bell, tell};
 use crate::hub::Hub;
-use crate::scene::Scene;
 use crate::state::SeatState;
-use crate::steps::{
-    BELL, Board, Token, draw, give_turns, halt, pay, read_charged, read_stop, take_turns,
+use hub_rule::{BELL, Board, Scene, StopCause, Terms, Token, read_pending};
+use hub_steps::{
+    draw, give_turns, halt, leave_works, look_round, pay, read_charged, read_stop, ring,
+    sleep_for_bell, take_turns, tell,
 };
-use crate::terms::{StopCause, Terms};
 use std::alloc::{AllocError, Global};
 use std::sync::Wait;
 

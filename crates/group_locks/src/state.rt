@@ -1,12 +1,11 @@
 //! The state of a seat.
 ghost use Rattle.std.specs.Prelude.{◌≡◌, ℕ, ◌+◌, ◌%◌, ◌^◌, ◌<◌, ◌≤◌, ◌++◌, true, false, [], length};
 ghost use Rattle.std.specs.Int.{bit_at};
-ghost use Rattle.group_locks.specs.Counts.{count};
-ghost use Rattle.group_locks.specs.Rule.{emptied, below, descends};
-ghost use Rattle.group_locks.specs.Works.{hand};
+ghost use Rattle.hub_rule.specs.Counts.{count};
+ghost use Rattle.hub_rule.specs.Rule.{emptied, below, descends};
+ghost use Rattle.hub_rule.specs.Works.{hand};
 
-use crate::slot::Slot;
-use crate::view::View;
+use hub_rule::{Slot, View};
 
 /// What one seat knows and has drawn. It is no part of `Seat`, whose bound has ghost members: no closure may take a struct that has both such a bound and ghost fields.
 #[derive(Drop)]

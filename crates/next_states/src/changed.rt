@@ -8,7 +8,7 @@ ghost use Rattle.next_states.specs.Pairs.{Pair, IsRight};
 ghost use Rattle.next_states.specs.Walks.{Has, Holds};
 
 use calculus::Digest;
-use radix_root::Group;
+use radix_root::{Group, slices_of};
 use std::alloc::{AllocError, Global};
 use std::collections::BTreeMap;
 
@@ -64,7 +64,7 @@ impl Changed {
     {
         let mut groups = Vec::new(alloc);
         for (key, codes) in self.groups {
-            let group = group_of(&Digest(key), codes)?;
+            let group = group_of(alloc, &Digest(key), codes)?;
             groups.push(group)?;
         }
         Ok(groups)
@@ -81,10 +81,11 @@ fn copy_of(alloc: Global, bytes: &[u8]) -> Result<Vec<u8>, AllocError>
 }
 
 // The group of this key with these codes, in any order.
-fn group_of(key: &Digest, mut codes: Vec<Vec<u8>>) -> Result<Group, AllocError>
+fn group_of(alloc: Global, key: &Digest, mut codes: Vec<Vec<u8>>) -> Result<Group, AllocError>
     ensures key { IfOk result (λ g. g.key.0 ≡ key.now.0) }
     ensures digest { IfOk result (λ g. given g.digest ≡ group_digest key.now.0 (sorted (map (λ c. c.items) codes.items))) }
 {
     codes.sort_by(|a, b| a.cmp(b))?;
-    Ok(Group::of(key, codes.as_slice()))
+    let slices = slices_of(alloc, codes.as_slice())?;
+    Ok(Group::of(key, slices.as_slice()))
 }

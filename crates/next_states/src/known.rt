@@ -125,7 +125,7 @@ fn changed_tree(
     let mut changed = changed;
     gather(alloc, &mut changed, keyed)?;
     let groups = changed.into_groups(alloc)?;
-    let next = tree.with_groups(alloc, groups.as_slice())?;
+    let (next, _made) = tree.with_groups(alloc, groups.as_slice())?;
     Ok(next)
 }
 

@@ -5,12 +5,12 @@ use Rattle.std.proofs.lemmas.Nat.Bits.{bit_at-pow_same, bit_at-pow_other}
 use Rattle.std.specs.Int.{bit_at}
 use mathlib.Core.Logic.{dite}
 use native.Mathlib.Decide.{ℕ_discrete}
-use Rattle.group_locks.specs.Counts.{one_if, count, Each}
-use Rattle.group_locks.specs.Meaning.{Follows, AllFollow, Passes}
-use Rattle.group_locks.specs.Rule.{Carries}
+use Rattle.hub_rule.specs.Counts.{one_if, count, Each}
+use Rattle.hub_rule.specs.Meaning.{Follows, AllFollow, Passes}
+use Rattle.hub_rule.specs.Rule.{Carries}
 use Rattle.number_hub.specs.Numbers.{Has, HasSpace, numbers, offer}
 use Rattle.std.proofs.lemmas.Bool.Decides.{nat_tests}
-use Rattle.group_locks.proofs.Sums.{each_to}
+use Rattle.hub_rule.proofs.Sums.{each_to}
 
 pub follow_self : (held : List (ℕ × ℕ)) → AllFollow numbers [] held held
 follow_self [] = tt

@@ -2,8 +2,8 @@
 -- where w is at least 64.
 use Rattle.std.specs.Prelude.{◌≡◌, ℕ, ◌+◌, ◌%◌, ◌^◌, ◌<◌, ◌⊎◌, Bool, true, false, cond, nat_lt, ◌-◌, ◌==◌, List, [], ◌∷◌}
 use Rattle.std.proofs.Common.{sym, ap, subst, ◌∙◌, ⊎_elim, arith}
-use Rattle.group_locks.specs.Counts.{Each, things_of}
-use Rattle.group_locks.specs.Meaning.{Meaning, Lawful, store_after}
+use Rattle.hub_rule.specs.Counts.{Each, things_of}
+use Rattle.hub_rule.specs.Meaning.{Meaning, Lawful, store_after}
 
 -- the numbers after a work
 abbrev pub added : (ℕ → ℕ) → ℕ → ℕ → ℕ

@@ -1,8 +1,8 @@
 //! Seats that do the works of the scene of numbers.
 ghost use Rattle.std.specs.Prelude.{◌≡◌, ℕ, ◌<◌, true, [], ◌+◌, ◌-◌, ◌%◌, ◌^◌, ◌∷◌, None, Some, IfOk, length, slice_index_or, slice_get};
 ghost use Rattle.std.specs.List.{All};
-ghost use Rattle.group_locks.specs.Counts.{count, things_of};
-ghost use Rattle.group_locks.specs.Rule.{Carries};
+ghost use Rattle.hub_rule.specs.Counts.{count, things_of};
+ghost use Rattle.hub_rule.specs.Rule.{Carries};
 ghost use Rattle.group_locks.specs.Seats.{home_of, held_by, since_of, due_of, hand_of, taken_by, offered_by, HasLeave, HasRoom, AtRest, IsIdle};
 ghost use Rattle.number_hub.specs.Numbers.{numbers, touches, offer};
 

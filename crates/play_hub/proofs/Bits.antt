@@ -2,7 +2,7 @@
 use Rattle.std.proofs.Common.{◌≡◌, ℕ, zero, suc, ◌<◌, ◌/◌, ◌%◌, ◌^◌, Bool, true, false, ◌&&◌, refl, ap, sym, ◌∙◌, arith, eqb, eqb-true, nat_lt}
 use Rattle.std.specs.Int.{bit_at}
 use Rattle.std.proofs.lemmas.Bool.Decides.{nat_tests}
-use Rattle.group_locks.specs.Counts.{one_if}
+use Rattle.hub_rule.specs.Counts.{one_if}
 use Rattle.play_hub.specs.Values.{has_bit}
 
 pub low : (n k : ℕ) → has_bit n k ≡ true → k < 64

@@ -8,7 +8,7 @@ use Rattle.calculus.specs.Rows.{Row}
 use Rattle.calculus.specs.Runs.{Deploy, Work}
 use Rattle.events.specs.Found.{Among}
 use Rattle.events.proofs.Making.{among, member}
-use Rattle.group_locks.specs.Counts.{one_if, count, Each}
+use Rattle.hub_rule.specs.Counts.{one_if, count, Each}
 use Rattle.run_entries.specs.Entries.{Making, steps_of}
 use Rattle.run_entries.specs.Allowed.{AreAmong, MakesStep}
 use Rattle.shard_rows.specs.Shards.{stands_in}
@@ -21,7 +21,7 @@ use Rattle.play_scene.proofs.Apart.{hand-more, tell-fewer}
 use Rattle.scene_laws.proofs.Carrying.{Now, now_of, carried}
 use Rattle.play_hub.specs.Values.{entry_of, hub_meaning}
 use Rattle.play_hub.specs.Endings.{play_of}
-use Rattle.group_locks.specs.Rule.{Carries}
+use Rattle.hub_rule.specs.Rule.{Carries}
 use Rattle.shard_tables.specs.Hands.{IsInHand, AreInHand}
 use Rattle.play_hub.specs.declared.entry.PlayEntry.{PlayEntry}
 use Rattle.play_hub.specs.Drawing.{DrawsAreTold, DrawsCarry}

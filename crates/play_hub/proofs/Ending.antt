@@ -8,8 +8,8 @@ use Rattle.calculus.specs.Steps.{is_one_of, differ}
 use Rattle.calculus.specs.Runs.{Deploy, Work}
 use Rattle.fresh_digests.specs.Premises.{Collides}
 use Rattle.events.specs.Laws.{Begins}
-use Rattle.group_locks.specs.Counts.{total}
-use Rattle.group_locks.specs.Meaning.{Ran}
+use Rattle.hub_rule.specs.Counts.{total}
+use Rattle.hub_rule.specs.Meaning.{Ran}
 use Rattle.run_entries.specs.Entries.{price_in, prices_of, steps_of}
 use Rattle.run_entries.specs.Allowed.{ShowsAnId}
 use Rattle.play_scene.specs.Plays.{entries_of, most_price, IsPriced, IsPlay}

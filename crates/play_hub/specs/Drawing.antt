@@ -2,8 +2,8 @@
 use Rattle.std.specs.Prelude.{◌≡◌, ℕ, true, List, [], ◌∷◌, ◌++◌, Option, Some, None, is_some}
 use Rattle.calculus.specs.Rows.{Row}
 use Rattle.calculus.specs.Runs.{Deploy, Work}
-use Rattle.group_locks.specs.Meaning.{Passes, AllFollow}
-use Rattle.group_locks.specs.Rule.{Carries}
+use Rattle.hub_rule.specs.Meaning.{Passes, AllFollow}
+use Rattle.hub_rule.specs.Rule.{Carries}
 use Rattle.run_entries.specs.Entries.{steps_of}
 use Rattle.run_entries.specs.Allowed.{IdsTell, rows_at_hand}
 use Rattle.shard_rows.specs.Hands.{shows}

@@ -4,9 +4,9 @@ use Rattle.calculus.specs.Rows.{Row}
 use Rattle.calculus.specs.Steps.{differ}
 use Rattle.calculus.specs.Runs.{Deploy, Work, work_price}
 use Rattle.fresh_digests.specs.Premises.{FitsInTexts, Collides}
-use Rattle.group_locks.specs.Counts.{total}
-use Rattle.group_locks.specs.Meaning.{Ran}
-use Rattle.group_locks.specs.Stops.{FaultOf}
+use Rattle.hub_rule.specs.Counts.{total}
+use Rattle.hub_rule.specs.Meaning.{Ran}
+use Rattle.hub_rule.specs.Stops.{FaultOf}
 use Rattle.run_entries.specs.Entries.{prices_of, steps_of}
 use Rattle.run_entries.specs.Allowed.{ShowsAnId}
 use Rattle.events.specs.Laws.{Begins}

@@ -7,7 +7,7 @@ use Rattle.calculus.specs.Shape.{leaf}
 use Rattle.calculus.specs.Rows.{Row}
 use Rattle.calculus.specs.Outcome.{over}
 use Rattle.calculus.specs.Runs.{Deploy, Work, deploy_of}
-use Rattle.group_locks.specs.Meaning.{Meaning, Lawful}
+use Rattle.hub_rule.specs.Meaning.{Meaning, Lawful}
 use Rattle.run_entries.specs.Entries.{Making}
 use Rattle.event_log.specs.View.{step_of}
 use Rattle.events.specs.Laws.{Begins}

@@ -5,7 +5,7 @@ use Rattle.std.proofs.lemmas.Bool.Decides.{nat_tests}
 use Rattle.calculus.specs.declared.fault.FaultKind.{FaultKind}
 use Rattle.calculus.specs.Rows.{Row}
 use Rattle.calculus.specs.Runs.{Deploy, Work, work_price, work_fault, done, exhausted}
-use Rattle.group_locks.specs.Stops.{FaultOf}
+use Rattle.hub_rule.specs.Stops.{FaultOf}
 use Rattle.run_entries.specs.Entries.{Making, price_in, prices_of, faults_in, faults_of, first_fault, total_of, verdict_of}
 use Rattle.play_scene.specs.Plays.{TouchingEntry, entries_of, capped_price, has_fault, space_after_all}
 use Rattle.play_scene.specs.Scene.{play_meaning}

@@ -4,8 +4,8 @@ use Rattle.std.specs.Prelude.{◌⊎◌, Option, Some, None, IsSome}
 use Rattle.std.specs.List.{All}
 use Rattle.std.proofs.lemmas.List.Elements.{All-head}
 use Rattle.group_locks.specs.declared.state.SeatState.{SeatState}
-use Rattle.group_locks.specs.declared.terms.StopCause.{StopCause}
-use Rattle.group_locks.specs.declared.terms.StopCause.TheVariants.{Fault, NoMemory}
+use Rattle.hub_rule.specs.declared.terms.StopCause.{StopCause}
+use Rattle.hub_rule.specs.declared.terms.StopCause.TheVariants.{Fault, NoMemory}
 use Rattle.group_locks.specs.Seats.{empty_of, over_of, stops_of}
 use Rattle.play_worker.specs.Turns.{HasCause}
 

@@ -10,13 +10,13 @@ use Rattle.calculus.specs.Runs.{Deploy, Work, work_price}
 use Rattle.events.specs.Laws.{Begins}
 use Rattle.fresh_digests.specs.Premises.{FitsInTexts, Collides}
 use Rattle.group_locks.specs.declared.state.SeatState.{SeatState}
-use Rattle.group_locks.specs.declared.terms.StopCause.{StopCause}
-use Rattle.group_locks.specs.declared.terms.StopCause.TheVariants.{Fault, NoMemory}
-use Rattle.group_locks.specs.Counts.{count, once_below, total, all_of, Each}
-use Rattle.group_locks.specs.Meaning.{Ran}
-use Rattle.group_locks.specs.Rule.{cost}
+use Rattle.hub_rule.specs.declared.terms.StopCause.{StopCause}
+use Rattle.hub_rule.specs.declared.terms.StopCause.TheVariants.{Fault, NoMemory}
+use Rattle.hub_rule.specs.Counts.{count, once_below, total, all_of, Each}
+use Rattle.hub_rule.specs.Meaning.{Ran}
+use Rattle.hub_rule.specs.Rule.{cost}
 use Rattle.group_locks.specs.Seats.{drawn_by, settled_by, fresh_by, charged_by, due_of, hand_of, empty_of, over_of, stops_of}
-use Rattle.group_locks.specs.Stops.{FaultOf}
+use Rattle.hub_rule.specs.Stops.{FaultOf}
 use Rattle.run_entries.specs.Entries.{Making, steps_in, steps_of, price_in, total_of}
 use Rattle.run_entries.specs.Allowed.{ShowsAnId}
 use Rattle.play_scene.specs.Plays.{entries_of, most_price, IsPriced, IsPlay}

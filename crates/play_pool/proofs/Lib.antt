@@ -3,5 +3,5 @@ mod Causes
 mod Closes
 mod Opens
 mod Beginning
-mod Sides
+mod Taken
 pub mod Crossing

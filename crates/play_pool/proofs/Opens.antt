@@ -8,7 +8,7 @@ use Rattle.events.specs.Events.{AreFresh, first_ids}
 use Rattle.events.proofs.Counts.{ids, AreDistinct, differ-distinct, distinct-differ, times-append}
 use Rattle.events.proofs.Legal.{leads-none}
 use Rattle.events.proofs.Standing.{ids-times}
-use Rattle.group_locks.specs.Counts.{Projected}
+use Rattle.hub_rule.specs.Counts.{Projected}
 use Rattle.shard_tables.specs.Hands.{AreShardsOf, IdsDiffer}
 use Rattle.play_scene.specs.Plays.{TouchingEntry}
 use Rattle.play_hub.specs.Values.{hub_meaning}

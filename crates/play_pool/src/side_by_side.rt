@@ -1,11 +1,12 @@
 //! Workers of a play side by side.
-ghost use Rattle.std.specs.Prelude.{◌≡◌, ◌≤◌, [], length, map, IfOk};
+ghost use Rattle.std.specs.Prelude.{◌≡◌, ◌≤◌, [], length, IfOk};
 ghost use Rattle.std.specs.List.{All};
 ghost use Rattle.calculus.specs.Limits.{most_limit};
 ghost use Rattle.group_locks.specs.Seats.{due_of, AtRest, IsIdle};
 ghost use Rattle.play_worker.specs.Turns.{HasCause};
 
 use group_locks::{Hub, Seat};
+use numbered_jobs::numbered;
 use play_hub::{PlayScene, PlayTerms};
 use play_worker::worker::work_through;
 use price_table::Prices;
@@ -15,20 +16,6 @@ use std::alloc::{AllocError, Global};
 use std::sync::Wait;
 use std::thread;
 use std::thread::Threads;
-
-// These things with their numbers, from 0 on. Want of memory is the one error.
-fn numbered<A: Drop>(alloc: Global, things: Vec<A>) -> Result<Vec<(u32, A)>, AllocError>
-    requires few { length things.items ≤ 32 }
-    ensures { IfOk result (λ v. map (λ p. p.1) v.items ≡ things.items) }
-{
-    let mut pairs = Vec::new(alloc);
-    let mut number = 0u32;
-    for thing in things {
-        pairs.push((number, thing))?;
-        number += 1;
-    }
-    Ok(pairs)
-}
 
 /// Does all works of a hub, each seat in a thread of its own. Want of memory is the one error.
 pub(crate) fn side_by_side<

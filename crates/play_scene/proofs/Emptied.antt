@@ -10,9 +10,9 @@ use Rattle.events.specs.Events.{AreFresh}
 use Rattle.events.specs.Found.{without}
 use Rattle.events.proofs.Counts.{ids, times, one_if as once_if, AreDistinct, member-times, same_bytes}
 use Rattle.events.proofs.Standing.{ids-times}
-use Rattle.group_locks.specs.Counts.{one_if, things_of}
-use Rattle.group_locks.specs.Meaning.{Meaning, offered, ended, MayFollow, Allowed}
-use Rattle.group_locks.proofs.Offers.{offered_more}
+use Rattle.hub_rule.specs.Counts.{one_if, things_of}
+use Rattle.hub_rule.specs.Meaning.{Meaning, offered, ended, MayFollow, Allowed}
+use Rattle.hub_rule.proofs.Offers.{offered_more}
 use Rattle.run_entries.specs.Entries.{Space, Making, rows_before, rows_after, space_after, offers_in}
 use Rattle.play_scene.specs.Plays.{TouchingEntry, ends_work}
 use Rattle.play_scene.specs.Scene.{Opens, play_meaning}

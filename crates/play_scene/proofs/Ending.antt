@@ -8,9 +8,9 @@ use Rattle.calculus.specs.Rows.{Row}
 use Rattle.calculus.specs.Runs.{deploy_of, Deploy, Work, work_price, work_fault, done, exhausted, IsRun}
 use Rattle.events.specs.Events.{AreFresh}
 use Rattle.fresh_digests.specs.Premises.{Collides}
-use Rattle.group_locks.specs.Counts.{one_if, count, things_of}
-use Rattle.group_locks.specs.Meaning.{Meaning, store_after, offered, ended, Allowed, ArePending}
-use Rattle.group_locks.specs.Stops.{FaultOf}
+use Rattle.hub_rule.specs.Counts.{one_if, count, things_of}
+use Rattle.hub_rule.specs.Meaning.{Meaning, store_after, offered, ended, Allowed, ArePending}
+use Rattle.hub_rule.specs.Stops.{FaultOf}
 use Rattle.run_entries.specs.Entries.{Space, Making, after, steps_of, price_in, prices_of, faults_in, faults_of, first_fault, total_of, verdict_of}
 use Rattle.run_entries.specs.Allowed.{ComesTo, ShowsAnId}
 use Rattle.run_entries.proofs.Ending.{allowed_entries_are_a_run_or_collide, allowed_entries_are_a_run_or_show_an_id}

@@ -6,9 +6,9 @@ use Rattle.calculus.specs.Rows.{Row}
 use Rattle.calculus.specs.Runs.{Deploy, Work}
 use Rattle.events.specs.Events.{AreFresh}
 use Rattle.events.proofs.Counts.{same_bytes, bytes_same}
-use Rattle.group_locks.specs.Counts.{things_of, Each}
-use Rattle.group_locks.specs.Meaning.{Meaning, offered, taking, if_wanted, Allowed}
-use Rattle.group_locks.proofs.Sums.{each_to, each_more}
+use Rattle.hub_rule.specs.Counts.{things_of, Each}
+use Rattle.hub_rule.specs.Meaning.{Meaning, offered, taking, if_wanted, Allowed}
+use Rattle.hub_rule.proofs.Sums.{each_to, each_more}
 use Rattle.run_entries.specs.Entries.{entries_on}
 use Rattle.play_scene.specs.Plays.{TouchingEntry, entries_of}
 use Rattle.play_scene.specs.Scene.{Opens, play_meaning}

@@ -2,9 +2,9 @@
 use Rattle.std.proofs.Common.{◌≡◌, ℕ, zero, suc, ◌+◌, Bool, true, false, ◌&&◌, List, [], ◌∷◌, ◌++◌, length, map, refl, sym, ap, subst, ◌∙◌, arith, eqb, Some}
 use Rattle.std.specs.Prelude.{slice_get, All}
 use Rattle.std.proofs.lemmas.List.Elements.{All-nil, All-cons}
-use Rattle.group_locks.specs.Counts.{one_if, count, once_below, things_of, total, Each, Projected}
-use Rattle.group_locks.specs.Meaning.{Meaning, Lawful, store_after, offered, ended, taking, if_wanted, Pending, MayFollow, Allowed, AllowedAfter, Ran, ArePending}
-use Rattle.group_locks.specs.Stops.{FaultOf}
+use Rattle.hub_rule.specs.Counts.{one_if, count, once_below, things_of, total, Each, Projected}
+use Rattle.hub_rule.specs.Meaning.{Meaning, Lawful, store_after, offered, ended, taking, if_wanted, Pending, MayFollow, Allowed, AllowedAfter, Ran, ArePending}
+use Rattle.hub_rule.specs.Stops.{FaultOf}
 use Rattle.play_scene.specs.Pulled.{seen_at, pulled}
 
 map-both : {A B : Type 0} (f : A → B) (xs ys : List A) → map f (xs ++ ys) ≡ map f xs ++ map f ys

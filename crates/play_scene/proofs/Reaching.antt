@@ -8,9 +8,9 @@ use Rattle.events.specs.Events.{AreFresh, first_ids}
 use Rattle.events.proofs.Counts.{ids, one_if, AreDistinct, differ-distinct, member-times, same_bytes, times-append}
 use Rattle.events.proofs.Following.{all-distinct}
 use Rattle.events.proofs.Standing.{ids-times}
-use Rattle.group_locks.specs.Counts.{things_of}
-use Rattle.group_locks.specs.Meaning.{store_after, offered, Allowed}
-use Rattle.group_locks.proofs.Draws.{things_more}
+use Rattle.hub_rule.specs.Counts.{things_of}
+use Rattle.hub_rule.specs.Meaning.{store_after, offered, Allowed}
+use Rattle.hub_rule.proofs.Draws.{things_more}
 use Rattle.run_entries.specs.Entries.{Space, first_space, Making, space_after, after, after_all, offers_in}
 use Rattle.run_entries.specs.Allowed.{core_of}
 use Rattle.run_entries.proofs.Holding.{held}

@@ -6,8 +6,8 @@ use Rattle.calculus.specs.Runs.{Deploy, Work}
 use Rattle.events.specs.Events.{AreFresh}
 use Rattle.events.specs.Found.{Among}
 use Rattle.events.proofs.Making.{among}
-use Rattle.group_locks.specs.Counts.{things_of, Each}
-use Rattle.group_locks.specs.Meaning.{Meaning, store_after, taking, Pending, Allowed}
+use Rattle.hub_rule.specs.Counts.{things_of, Each}
+use Rattle.hub_rule.specs.Meaning.{Meaning, store_after, taking, Pending, Allowed}
 use Rattle.run_entries.specs.Entries.{Space, entries_on, steps_of, price_in}
 use Rattle.run_entries.specs.Allowed.{AreAllowed, IdsTell, rows_at_hand}
 use Rattle.shard_rows.specs.Shards.{changed_rows, Covers}

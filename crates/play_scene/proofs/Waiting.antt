@@ -8,10 +8,10 @@ use Rattle.calculus.specs.Runs.{Deploy, Work}
 use Rattle.events.specs.Events.{AreFresh}
 use Rattle.events.specs.Found.{without}
 use Rattle.events.proofs.Counts.{ids, AreDistinct, bytes_same}
-use Rattle.group_locks.specs.Counts.{one_if, things_of}
-use Rattle.group_locks.specs.Meaning.{Meaning, offered, ended, MayFollow, Allowed}
-use Rattle.group_locks.proofs.Draws.{things_more}
-use Rattle.group_locks.proofs.Offers.{offered_more}
+use Rattle.hub_rule.specs.Counts.{one_if, things_of}
+use Rattle.hub_rule.specs.Meaning.{Meaning, offered, ended, MayFollow, Allowed}
+use Rattle.hub_rule.proofs.Draws.{things_more}
+use Rattle.hub_rule.proofs.Offers.{offered_more}
 use Rattle.run_entries.specs.Entries.{Space, Making, rows_before, rows_after, space_after, after, offers_in, left_in}
 use Rattle.play_scene.specs.Plays.{TouchingEntry, ends_work, space_after_all}
 use Rattle.play_scene.specs.Scene.{Opens, play_meaning}

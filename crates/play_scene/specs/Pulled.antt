@@ -1,6 +1,6 @@
 -- A meaning seen through values of other types.
 use Rattle.std.specs.Prelude.{ℕ, map}
-use Rattle.group_locks.specs.Meaning.{Meaning}
+use Rattle.hub_rule.specs.Meaning.{Meaning}
 
 -- a numbered thing, seen
 abbrev pub seen_at : {A B : Type 0} → (A → B) → ℕ × A → ℕ × B

@@ -8,7 +8,7 @@ use Rattle.calculus.specs.Runs.{Deploy, Work, work_products}
 use Rattle.events.specs.Events.{AreFresh}
 use Rattle.events.specs.Found.{is_lasting}
 use Rattle.events.specs.Laws.{Begins}
-use Rattle.group_locks.specs.Meaning.{Meaning}
+use Rattle.hub_rule.specs.Meaning.{Meaning}
 use Rattle.run_entries.specs.Entries.{Making, offers_in, price_in, steps_of}
 use Rattle.run_entries.specs.Allowed.{IdsTell, rows_at_hand, MakesStep}
 use Rattle.shard_rows.specs.Shards.{IsProjection, Becomes}

@@ -5,9 +5,9 @@ use Rattle.std.specs.Prelude.{IsPermutation, is_some}
 use Rattle.calculus.specs.Rows.{Row}
 use Rattle.calculus.specs.Runs.{Deploy, Work}
 use Rattle.events.specs.Found.{without}
-use Rattle.group_locks.specs.Counts.{count, things_of}
-use Rattle.group_locks.specs.Meaning.{Passes, AllFollow}
-use Rattle.group_locks.specs.Rule.{Carries}
+use Rattle.hub_rule.specs.Counts.{count, things_of}
+use Rattle.hub_rule.specs.Meaning.{Passes, AllFollow}
+use Rattle.hub_rule.specs.Rule.{Carries}
 use Rattle.row_search.specs.declared.found.Found.{Found}
 use Rattle.row_search.specs.Laws.{MeetsAtHand}
 use Rattle.run_entries.specs.Entries.{Making, price_in, steps_in, steps_of}

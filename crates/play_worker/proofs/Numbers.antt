@@ -10,7 +10,7 @@ use Rattle.calculus.specs.declared.ids.Digest.{Digest}
 use Rattle.calculus.specs.Log.{Step}
 use Rattle.calculus.specs.Steps.{same_meeting, same_ids}
 use Rattle.events.proofs.Counts.{same_bytes, bytes_same}
-use Rattle.group_locks.specs.Counts.{things_of}
+use Rattle.hub_rule.specs.Counts.{things_of}
 use Rattle.row_search.specs.declared.found.Found.{Found}
 use Rattle.run_entries.specs.Entries.{Making, Entry, steps_in, steps_of}
 use Rattle.play_scene.specs.Plays.{entries_of}

@@ -3,8 +3,8 @@ use Rattle.std.proofs.Common.{◌≡◌, ◌≤◌, ℕ, zero, suc, ◌+◌, Boo
 use Rattle.std.proofs.lemmas.List.{drop-append-le}
 use Rattle.calculus.specs.Rows.{Row}
 use Rattle.group_locks.specs.declared.state.SeatState.{SeatState}
-use Rattle.group_locks.specs.Counts.{things_of}
-use Rattle.group_locks.specs.Rule.{kept_if}
+use Rattle.hub_rule.specs.Counts.{things_of}
+use Rattle.hub_rule.specs.Rule.{kept_if}
 use Rattle.group_locks.specs.Seats.{home_of, drawn_by, tally_of, pile_of, taken_by, offered_by, took_by, due_of}
 use Rattle.play_hub.specs.declared.entry.PlayEntry.{PlayEntry}
 use Rattle.play_worker.specs.declared.drawing.Drawn.{Drawn}

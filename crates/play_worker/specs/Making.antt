@@ -8,7 +8,7 @@ use Rattle.calculus.specs.Seeds.{digest_of, Comm}
 use Rattle.calculus.specs.Steps.{same_meeting}
 use Rattle.calculus.specs.Unfolding.{rows_of, UnfoldsUnder}
 use Rattle.event_log.specs.View.{step_of}
-use Rattle.group_locks.specs.Counts.{things_of}
+use Rattle.hub_rule.specs.Counts.{things_of}
 use Rattle.row_search.specs.declared.found.Found.{Found}
 use Rattle.run_entries.specs.Entries.{Making, steps_of}
 use Rattle.play_scene.specs.Plays.{entries_of, most_price}

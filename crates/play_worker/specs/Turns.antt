@@ -4,8 +4,8 @@ use Rattle.std.specs.Int.{bit_at}
 use Rattle.calculus.specs.Rows.{Row}
 use Rattle.calculus.specs.Runs.{Deploy, Work}
 use Rattle.group_locks.specs.declared.state.SeatState.{SeatState}
-use Rattle.group_locks.specs.Counts.{count, things_of}
-use Rattle.group_locks.specs.Rule.{Carries, kept_if}
+use Rattle.hub_rule.specs.Counts.{count, things_of}
+use Rattle.hub_rule.specs.Rule.{Carries, kept_if}
 use Rattle.group_locks.specs.Seats.{home_of, drawn_by, tally_of, pile_of, taken_by, offered_by, took_by, due_of, empty_of, over_of, stops_of, SameRoom}
 use Rattle.shard_rows.specs.Hands.{shows}
 use Rattle.shard_tables.specs.Hands.{AreInHand}

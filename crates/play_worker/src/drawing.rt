@@ -3,7 +3,7 @@ ghost use Rattle.std.specs.Prelude.{◌≡◌, ◌≤◌, ◌+◌, ◌-◌, ◌%
 ghost use Rattle.calculus.specs.Limits.{most_limit};
 ghost use Rattle.calculus.specs.Rows.{Row as Stored};
 ghost use Rattle.calculus.specs.Steps.{is_one_of};
-ghost use Rattle.group_locks.specs.Counts.{one_if};
+ghost use Rattle.hub_rule.specs.Counts.{one_if};
 ghost use Rattle.group_locks.specs.Seats.{home_of, held_by, since_of, drawn_by, HasLeave, HasRoom};
 ghost use Rattle.row_search.specs.Laws.{MeetsAtHand};
 ghost use Rattle.run_entries.specs.Allowed.{IdsTell, MeetsNothing, rows_at_hand};

@@ -1,4 +1,4 @@
-use rho_main::{Status, run};
+use program_calls::call;
 use rho_outside::{MemShelf, MemSink, OpenGate, Shelf};
 use std::alloc::Global;
 use std::sync::Wait;
@@ -26,14 +26,6 @@ pub struct Told {
     pub next: Vec<u8>,
 }
 
-// The code and the message of a status.
-fn ending_of(alloc: Global, status: Status) -> Result<(u8, Vec<u8>), LineFault> {
-    match status.message(alloc) {
-        Ok(message) => Ok((status.code(), message)),
-        Err(_) => Err(LineFault::NoMemory),
-    }
-}
-
 impl Place {
     pub fn new<R: Threads + Wait + Sync>(
         rt: &R,
@@ -46,7 +38,14 @@ impl Place {
         place.set(alloc, "p", PRICES)?;
         place.set(alloc, "d", source)?;
         let mut out = MemSink::new(alloc);
-        place.run(rt, alloc, &mut out, "genesis s")?;
+        call(
+            rt,
+            alloc,
+            "genesis s",
+            &mut place.shelf,
+            &mut out,
+            &OpenGate,
+        )?;
         Ok(place)
     }
 
@@ -65,21 +64,6 @@ impl Place {
         }
     }
 
-    fn run<R: Threads + Wait + Sync>(
-        &mut self,
-        rt: &R,
-        alloc: Global,
-        out: &mut MemSink,
-        text: &str,
-    ) -> Result<(u8, Vec<u8>), LineFault> {
-        let mut words = Vec::new(alloc);
-        for word in text.split(' ') {
-            words.push(String::from_str(alloc, word)?)?;
-        }
-        let status = run(rt, alloc, words.as_slice(), &mut self.shelf, out, &OpenGate);
-        ending_of(alloc, status)
-    }
-
     // Runs the words of a text, and tells what they came to, with the next state of this name.
     fn tell<R: Threads + Wait + Sync>(
         &mut self,
@@ -90,13 +74,13 @@ impl Place {
     ) -> Result<Told, LineFault> {
         self.set(alloc, next, b"")?;
         let mut out = MemSink::new(alloc);
-        let (code, message) = self.run(rt, alloc, &mut out, text)?;
+        let ended = call(rt, alloc, text, &mut self.shelf, &mut out, &OpenGate)?;
         let next = self.file(alloc, next);
         let mut report = Vec::new(alloc);
         report.extend_from_slice(out.bytes.as_slice())?;
         Ok(Told {
-            code,
-            message,
+            code: ended.code,
+            message: ended.message,
             report,
             next,
         })

@@ -8,3 +8,4 @@ mod Halves
 mod Wells
 mod Grown
 mod Given
+mod Counting

@@ -205,7 +205,7 @@ keeps-changed ls ms f k v cs is e h j = is j ∙ go (bytes_eq j k) refl
     go true p = e ∙ ap (λ x. group_digest x cs) (sym (same j k p))
     go false p = h j
 
-length-each : {A : Type 0} (f : A → List ℕ) (xs : List A) → length (each f xs) ≡ length xs
+pub length-each : {A : Type 0} (f : A → List ℕ) (xs : List A) → length (each f xs) ≡ length xs
 length-each f [] = refl
 length-each f (x ∷ xs) = ap suc (length-each f xs)
 

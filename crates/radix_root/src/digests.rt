@@ -1,6 +1,6 @@
 // The digests of nodes, and the half bytes of keys.
 
-ghost use Rattle.std.specs.Prelude.{◌≡◌, ◌<◌, ◌∷◌, ◌++◌, length, map};
+ghost use Rattle.std.specs.Prelude.{◌≡◌, ◌<◌, ◌∷◌, ◌++◌, length, map, IfOk};
 ghost use Rattle.sha2.specs.Sha256.{sha256};
 ghost use Rattle.calculus.specs.Bytes.{be32, joined};
 ghost use Rattle.calculus.specs.Root.{sixteen};
@@ -10,6 +10,7 @@ ghost use Rattle.radix_root.specs.Nodes.{digest_under};
 use crate::node::{Node, place_of};
 use calculus::Digest;
 use sha2::{Digest as _, Sha256};
+use std::alloc::{AllocError, Global};
 
 /// The digest of no group.
 pub(crate) const NO_GROUP: Digest = Digest([0; 32]);
@@ -27,17 +28,28 @@ fn four_bytes(n: usize) -> [u8; 4]
 }
 
 /// The digest of a group with this key and these codes of rows, in this order.
-pub(crate) fn leaf_digest(key: &Digest, rows: &[Vec<u8>]) -> Digest
-    ensures { result.0 ≡ sha256 (0x10 ∷ (key.now.0 ++ (be32 (length rows.now) ++ joined (map (λ r. r.items) rows.now)))) }
+pub(crate) fn leaf_digest(key: &Digest, rows: &[&[u8]]) -> Digest
+    ensures { result.0 ≡ sha256 (0x10 ∷ (key.now.0 ++ (be32 (length rows.now) ++ joined (map (λ r. r.now) rows.now)))) }
 {
     let mut hasher = Sha256::new();
     hasher.update(&[ONE_GROUP]);
     hasher.update(&key.0);
     hasher.update(&four_bytes(rows.len()));
     for row in rows {
-        hasher.update(row.as_slice());
+        hasher.update(*row);
     }
     Digest(hasher.finalize())
+}
+
+/// These codes as slices.
+pub fn slices_of(alloc: Global, rows: &[Vec<u8>]) -> Result<Vec<&[u8]>, AllocError>
+    ensures { IfOk result (λ v. map (λ s. s.now) v.items ≡ map (λ r. r.items) rows.now) }
+{
+    let mut slices = Vec::with_capacity(alloc, rows.len())?;
+    for row in rows {
+        slices.push(row.as_slice())?;
+    }
+    Ok(slices)
 }
 
 /// The digest of several groups, from the digests that the nodes of their half bytes keep.

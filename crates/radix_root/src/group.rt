@@ -15,9 +15,9 @@ pub struct Group {
 
 impl Group {
     /// The group of this key with these codes of rows, which ascend.
-    pub fn of(key: &Digest, rows: &[Vec<u8>]) -> Group
+    pub fn of(key: &Digest, rows: &[&[u8]]) -> Group
         ensures key { result.key.0 ≡ key.now.0 }
-        ensures digest { given result.digest ≡ group_digest key.now.0 (map (λ r. r.items) rows.now) }
+        ensures digest { given result.digest ≡ group_digest key.now.0 (map (λ r. r.now) rows.now) }
     {
         let digest = if rows.is_empty() {
             None

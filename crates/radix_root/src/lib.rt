@@ -11,5 +11,6 @@ mod many;
 mod node;
 mod tree;
 
+pub use digests::slices_of;
 pub use group::Group;
 pub use tree::RadixTree;

@@ -1,6 +1,6 @@
 // Many groups given to a node at once: the digest of each node above them is made once, where those with one half
 // byte stand side by side.
-ghost use Rattle.std.specs.Prelude.{◌≡◌, ◌<◌, ◌≤◌, ◌+◌, ℕ, List, length, take, IfOk, OnOk};
+ghost use Rattle.std.specs.Prelude.{◌≡◌, ◌<◌, ◌≤◌, ◌+◌, ◌-◌, ◌*◌, ℕ, List, length, take, IfOk, OnOk};
 ghost use Rattle.radix_root.specs.Leaves.{digest_at, half_of};
 ghost use Rattle.radix_root.specs.Nodes.{IsFork, IsNode, IsPlace, leaves_of};
 ghost use Rattle.radix_root.specs.Groups.{AllGroups, ShareAll, digest_after};
@@ -10,63 +10,70 @@ use crate::group::Group;
 use crate::node::{Node, place_of};
 use std::alloc::{AllocError, Global};
 
-/// Gives each of these groups its digest, one after another.
+/// Gives each of these groups its digest, one after another, and says how many digests of nodes were made.
 #[cycle(give_all)]
-pub(crate) fn give_all(node: &mut Node, alloc: Global, groups: &[Group]) -> Result<(), AllocError>
+pub(crate) fn give_all(node: &mut Node, alloc: Global, groups: &[Group]) -> Result<u64, AllocError>
     requires node { IsNode node.old.depth node.old }
     requires shared { ShareAll node.old.depth node.old.leaves groups.now }
     ensures node { OnOk result (IsNode node.old.depth node.new) }
     ensures half { OnOk result (node.new.half ≡ node.old.half) }
     ensures groups { OnOk result ((k : List ℕ) → digest_at node.new.leaves k ≡ digest_after groups.now (digest_at node.old.leaves k) k) }
+    ensures made { IfOk result (λ n. n ≤ (64 - node.old.depth) * length groups.now) }
 {
     let depth = node.depth();
     if groups.len() <= 1 || depth >= 64 {
         return give_each(node, alloc, groups);
     }
     let mut children = node.open(alloc, groups.len().min(16))?;
-    give_runs(alloc, &mut children, depth, groups)?;
-    node.settle(children);
-    Ok(())
+    let below = give_runs(alloc, &mut children, depth, groups)?;
+    let own = node.settle(children);
+    Ok(below.saturating_add(own))
 }
 
-// Gives each of these groups its digest, each by itself.
-fn give_each(node: &mut Node, alloc: Global, groups: &[Group]) -> Result<(), AllocError>
+// The same, each by itself.
+fn give_each(node: &mut Node, alloc: Global, groups: &[Group]) -> Result<u64, AllocError>
     requires node { IsNode node.old.depth node.old }
     requires shared { ShareAll node.old.depth node.old.leaves groups.now }
     ensures node { OnOk result (IsNode node.old.depth node.new) }
     ensures half { OnOk result (node.new.half ≡ node.old.half) }
     ensures groups { OnOk result ((k : List ℕ) → digest_at node.new.leaves k ≡ digest_after groups.now (digest_at node.old.leaves k) k) }
+    ensures made { IfOk result (λ n. n ≤ (64 - node.old.depth) * length groups.now) }
 {
+    let mut made: u64 = 0;
     for group in groups {
-        node.put(alloc, group)?;
+        let more = node.put(alloc, group)?;
+        made = made.saturating_add(u64::from(more));
     }
-    Ok(())
+    Ok(made)
 }
 
-// Gives each of these groups its digest, under a node at this depth.
+// Gives each of these groups its digest, under a node at this depth, and says how many digests of nodes were made.
 #[cycle(give_all)]
 fn give_runs(
     alloc: Global,
     children: &mut Vec<Node>,
     depth: u32,
     groups: &[Group],
-) -> Result<(), AllocError>
+) -> Result<u64, AllocError>
     requires fork { IsFork depth children.old.items }
     requires shared { ShareAll depth (leaves_of children.old.items) groups.now }
     ensures fork { OnOk result (IsFork depth children.new.items) }
     ensures groups { OnOk result ((k : List ℕ) → digest_at (leaves_of children.new.items) k ≡ digest_after groups.now (digest_at (leaves_of children.old.items) k) k) }
+    ensures made { IfOk result (λ n. n ≤ (63 - depth) * length groups.now) }
 {
+    let mut made: u64 = 0;
     let mut rest = groups;
     while !rest.is_empty() {
         let (half, len) = first_run(rest, depth);
         let (run, others) = rest.split_at(len);
-        give_run(alloc, children, depth, half, run)?;
+        let more = give_run(alloc, children, depth, half, run)?;
+        made = made.saturating_add(more);
         rest = others;
     }
-    Ok(())
+    Ok(made)
 }
 
-// Gives each of these groups, whose keys have this half byte, its digest, under a node at this depth.
+// The same, where the keys of all have this half byte.
 #[cycle(give_all)]
 fn give_run(
     alloc: Global,
@@ -74,13 +81,14 @@ fn give_run(
     depth: u32,
     half: u8,
     run: &[Group],
-) -> Result<(), AllocError>
+) -> Result<u64, AllocError>
     requires fork { IsFork depth children.old.items }
     requires shared { ShareAll depth (leaves_of children.old.items) run.now }
     requires half { AllGroups (λ k. half_of depth k ≡ half) run.now }
     requires some { 1 ≤ length run.now }
     ensures fork { OnOk result (IsFork depth children.new.items) }
     ensures groups { OnOk result ((k : List ℕ) → digest_at (leaves_of children.new.items) k ≡ digest_after run.now (digest_at (leaves_of children.old.items) k) k) }
+    ensures made { IfOk result (λ n. n ≤ (63 - depth) * length run.now) }
 {
     let place = place_for(alloc, children, depth, half)?;
     give_all(&mut children[place], alloc, run)

@@ -216,25 +216,23 @@ impl Node {
         }
     }
 
-    /// Gives a group its digest, or takes it out where it has none.
-    pub(crate) fn put(&mut self, alloc: Global, group: &Group) -> Result<(), AllocError>
+    /// Gives a group its digest, or takes it out where it has none, and says how many digests of nodes were made.
+    pub(crate) fn put(&mut self, alloc: Global, group: &Group) -> Result<u32, AllocError>
         requires shared { AllShare self.old.depth group.now.key.0 self.old.leaves }
         ensures node { OnOk result (IsNode self.old.depth self.new) }
         ensures half { self.new.half ≡ self.old.half }
         ensures groups { OnOk result ((k : List ℕ) → digest_at self.new.leaves k ≡ cond (bytes_eq k group.now.key.0) (given group.now.digest) (digest_at self.old.leaves k)) }
+        ensures made { IfOk result (λ n. n + self.old.depth ≤ 64) }
     {
         let found = group.digest;
         match found {
             Some(digest) => {
                 known_length(&group.key.0);
                 known_length(&digest.0);
-                let _made = self.set(alloc, &group.key, &digest)?;
+                self.set(alloc, &group.key, &digest)
             }
-            None => {
-                let _made = self.remove(&group.key);
-            }
+            None => Ok(self.remove(&group.key)),
         }
-        Ok(())
     }
 
     /// The nodes that are to be under it, with room for so many: those that were, or that of its one group. The node is
@@ -257,28 +255,32 @@ impl Node {
         Ok(children)
     }
 
-    /// Puts these nodes under it, in place of what it holds.
-    pub(crate) fn settle(&mut self, children: Vec<Node>)
+    /// Puts these nodes under it, in place of what it holds, and says how many digests of nodes were made.
+    pub(crate) fn settle(&mut self, children: Vec<Node>) -> u64
         requires { IsFork self.old.depth children.items }
         ensures node { IsNode self.old.depth self.new }
         ensures half { self.new.half ≡ self.old.half }
         ensures groups { (k : List ℕ) → digest_at self.new.leaves k ≡ digest_at (leaves_of children.items) k }
+        ensures made { result ≤ 1 }
     {
         match held_by(children.as_slice()) {
             Held::Nothing => {
                 self.children.clear();
                 self.key = None;
                 self.digest = NO_GROUP;
+                0
             }
             Held::One(last, digest) => {
                 self.children.clear();
                 self.key = Some(last);
                 self.digest = digest;
+                0
             }
             Held::Several => {
                 self.digest = fork_digest(children.as_slice());
                 self.key = None;
                 self.children = children;
+                1
             }
         }
     }

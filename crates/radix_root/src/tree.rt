@@ -1,10 +1,10 @@
-ghost use Rattle.std.specs.Prelude.{◌≡◌, ◌≤◌, ℕ, List, [], map, IfOk, OnOk, OnErr};
+ghost use Rattle.std.specs.Prelude.{◌≡◌, ◌≤◌, ◌*◌, ℕ, List, [], length, map, IfOk, OnOk, OnErr};
 ghost use Rattle.calculus.specs.Rows.{Row};
 ghost use Rattle.calculus.specs.Root.{root};
 ghost use Rattle.radix_root.specs.Leaves.{Keeps, changed, digest_at, groups_of};
 ghost use Rattle.radix_root.specs.Groups.{digest_after};
 
-use crate::digests::{known_length, leaf_digest};
+use crate::digests::{known_length, leaf_digest, slices_of};
 use crate::group::Group;
 use crate::many::give_all;
 use crate::node::Node;
@@ -75,20 +75,27 @@ impl RadixTree {
             return Ok(self.root.remove(key));
         }
         known_length(&key.0);
-        let digest = leaf_digest(key, rows);
+        let codes = slices_of(alloc, rows)?;
+        let digest = leaf_digest(key, codes.as_slice());
         let made = self.root.set(alloc, key, &digest)?;
         Ok(made + 1)
     }
 
     /// The tree after these groups are given, one after another: each key has the digest that was given last, and none
-    /// where the group given last has none. Want of memory is the one error.
+    /// where the group given last has none. And how many digests of nodes above the groups were made, at most 64 for
+    /// each group. Want of memory is the one error.
     ///
     /// Where groups ascend in their keys, the digest of each node above them is made once.
-    pub fn with_groups(self, alloc: Global, groups: &[Group]) -> Result<RadixTree, AllocError>
-        ensures { IfOk result (λ t. (k : List ℕ) → digest_at t k ≡ digest_after groups.now (digest_at self k) k) }
+    pub fn with_groups(
+        self,
+        alloc: Global,
+        groups: &[Group],
+    ) -> Result<(RadixTree, u64), AllocError>
+        ensures groups { IfOk result (λ p. (k : List ℕ) → digest_at p.0 k ≡ digest_after groups.now (digest_at self k) k) }
+        ensures made { IfOk result (λ p. p.1 ≤ 64 * length groups.now) }
     {
         let mut root = self.root;
-        give_all(&mut root, alloc, groups)?;
-        Ok(RadixTree { root })
+        let made = give_all(&mut root, alloc, groups)?;
+        Ok((RadixTree { root }, made))
     }
 }

@@ -21,17 +21,15 @@ use least_step::first_reducible;
 use replay_answers::{ReplayFault, Replayed};
 use replay_hub::Entry;
 use replay_outcome::{Ending, Settled, settle};
-use replay_shards::ReplayShard;
+use replay_shards::{ReplayShard, ShardedChannel, ShardedRow};
 use replay_store::rows_of;
-use rho_term::Term;
 use run_verdict::Verdict;
-use space_row::Row;
 use std::alloc::Global;
 
 /// What a replay by many workers left: the entries that they drew, and the 64 shards; with what its source came to.
 #[derive(Drop)]
 pub struct Raced {
-    pub entries: Vec<Entry<Row, Term>>,
+    pub entries: Vec<Entry<ShardedRow, ShardedChannel>>,
     pub shards: Vec<ReplayShard>,
     /// The price of the source's work.
     pub price: u64,

@@ -7,7 +7,7 @@ use Rattle.calculus.specs.Log.{Step}
 use Rattle.calculus.specs.Rows.{Row}
 use Rattle.calculus.specs.Runs.{Deploy}
 use Rattle.calculus.specs.Storing.{shard}
-use Rattle.group_locks.specs.Counts.{one_if, count, Each}
+use Rattle.hub_rule.specs.Counts.{one_if, count, Each}
 use Rattle.replay_scene.specs.Spaces.{SeenRow, Part, IsIn}
 use Rattle.replay_scene.specs.Showing.{HasShard, TellsDeed, shown}
 use Rattle.replay_scene.specs.Pulled.{seen_at}

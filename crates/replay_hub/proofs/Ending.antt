@@ -3,8 +3,8 @@ use Rattle.std.proofs.Common.{◌≡◌, ◌<◌, ℕ, List, [], ◌∷◌, leng
 use Rattle.std.specs.Prelude.{Option, Some, None, IsSome, Result, Ok, Err, IfOk}
 use Rattle.std.specs.List.{All}
 use Rattle.std.proofs.lemmas.List.Elements.{All-head}
-use Rattle.group_locks.specs.Counts.{total}
-use Rattle.group_locks.specs.Rule.{cost}
+use Rattle.hub_rule.specs.Counts.{total}
+use Rattle.hub_rule.specs.Rule.{cost}
 use Rattle.group_locks.specs.declared.state.SeatState.{SeatState}
 use Rattle.group_locks.specs.Seats.{charged_by, empty_of, over_of, stops_of}
 use Rattle.replay_hub.specs.Ends.{FoundAnEnd}

@@ -8,7 +8,7 @@ use Rattle.calculus.specs.Unfolding.{Unfolds}
 use Rattle.calculus.specs.Steps.{differ}
 use Rattle.calculus.specs.Runs.{Deploy, source_seed, Work}
 use Rattle.fresh_digests.specs.Premises.{FitsInTexts}
-use Rattle.group_locks.specs.Meaning.{Ran}
+use Rattle.hub_rule.specs.Meaning.{Ran}
 use Rattle.racing_replays.specs.Answering.{SomeClash}
 use Rattle.replay_scene.specs.Spaces.{Part}
 use Rattle.replay_scene.specs.Entries.{did_by}

@@ -7,8 +7,8 @@ use Rattle.calculus.specs.Tree.{Tree}
 use Rattle.calculus.specs.Log.{Step}
 use Rattle.calculus.specs.Rows.{Row}
 use Rattle.calculus.specs.Runs.{Deploy}
-use Rattle.group_locks.specs.Meaning.{Passes, AllFollow}
-use Rattle.group_locks.specs.Rule.{Carries}
+use Rattle.hub_rule.specs.Meaning.{Passes, AllFollow}
+use Rattle.hub_rule.specs.Rule.{Carries}
 use Rattle.replay_scene.specs.Spaces.{Part}
 use Rattle.replay_scene.specs.Showing.{IsIdle}
 use Rattle.replay_scene.specs.Pulled.{seen_at}

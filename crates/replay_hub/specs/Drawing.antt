@@ -6,8 +6,8 @@ use Rattle.calculus.specs.Rows.{Row, channels}
 use Rattle.calculus.specs.Steps.{Meeting}
 use Rattle.calculus.specs.Storing.{shard}
 use Rattle.calculus.specs.Runs.{Deploy}
-use Rattle.group_locks.specs.Meaning.{Passes, AllFollow}
-use Rattle.group_locks.specs.Rule.{Carries}
+use Rattle.hub_rule.specs.Meaning.{Passes, AllFollow}
+use Rattle.hub_rule.specs.Rule.{Carries}
 use Rattle.shard_rows.specs.Shards.{stands_in, Covers}
 use Rattle.shard_rows.specs.Hands.{is_one_channel}
 use Rattle.replay_scene.specs.Spaces.{SeenRow, Part, IsIn}

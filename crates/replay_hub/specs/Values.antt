@@ -11,8 +11,8 @@ use Rattle.calculus.specs.Log.{Step}
 use Rattle.calculus.specs.Rows.{Row}
 use Rattle.calculus.specs.Runs.{Deploy}
 use Rattle.event_log.specs.View.{step_of}
-use Rattle.group_locks.specs.Counts.{count, Each}
-use Rattle.group_locks.specs.Meaning.{Meaning, Lawful}
+use Rattle.hub_rule.specs.Counts.{count, Each}
+use Rattle.hub_rule.specs.Meaning.{Meaning, Lawful}
 use Rattle.run_entries.specs.Entries.{Making}
 use Rattle.replay_scene.specs.Spaces.{NewRow, IndexTry, Job, arrive, try_index, Part, Space, new_row}
 use Rattle.replay_scene.specs.Entries.{Deed, arrives, does, idles, Entry as AnEntry, job_of as its_job, offers_of as its_offers}

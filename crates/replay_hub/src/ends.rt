@@ -5,7 +5,7 @@ ghost use Rattle.calculus.specs.Unfolding.{Unfolds};
 ghost use Rattle.calculus.specs.Steps.{differ};
 ghost use Rattle.calculus.specs.Runs.{source_seed, Work};
 ghost use Rattle.fresh_digests.specs.Premises.{FitsInTexts};
-ghost use Rattle.group_locks.specs.Counts.{all_of};
+ghost use Rattle.hub_rule.specs.Counts.{all_of};
 ghost use Rattle.group_locks.specs.Seats.{AtRest, hand_of, seat_count, spent_of};
 ghost use Rattle.racing_replays.specs.Answering.{SomeClash};
 ghost use Rattle.replay_scene.specs.Entries.{did_by};

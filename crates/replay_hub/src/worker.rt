@@ -1,7 +1,7 @@
 //! What a worker draws.
 ghost use Rattle.std.specs.Prelude.{◌≡◌, ℕ, ◌<◌, ◌^◌, true, Option, List, [], ◌∷◌, length};
-ghost use Rattle.group_locks.specs.Counts.{count, things_of};
-ghost use Rattle.group_locks.specs.Rule.{Carries};
+ghost use Rattle.hub_rule.specs.Counts.{count, things_of};
+ghost use Rattle.hub_rule.specs.Rule.{Carries};
 ghost use Rattle.group_locks.specs.Seats.{home_of, held_by, since_of, due_of, drawn_by, taken_by, offered_by, HasLeave, HasRoom};
 ghost use Rattle.replay_hub.specs.declared.deed.Task.TheVariants.{Index};
 ghost use Rattle.replay_hub.specs.Values.{has_bit, offers_of, takes_of, values, AreShownIdle};

@@ -5,7 +5,7 @@ ghost use Rattle.calculus.specs.Runs.{source_seed, Work};
 ghost use Rattle.calculus.specs.Steps.{differ};
 ghost use Rattle.calculus.specs.Unfolding.{Unfolds};
 ghost use Rattle.fresh_digests.specs.Premises.{FitsInTexts};
-ghost use Rattle.group_locks.specs.Counts.{Projected};
+ghost use Rattle.hub_rule.specs.Counts.{Projected};
 ghost use Rattle.group_locks.specs.Seats.{AtRest, IsIdle};
 ghost use Rattle.racing_replays.specs.Answering.{SomeClash};
 ghost use Rattle.replay_scene.specs.Closing.{DecideLog};
@@ -15,6 +15,7 @@ ghost use Rattle.replay_hub.specs.Ends.{FoundAnEnd};
 ghost use Rattle.replay_hub.specs.Values.{entry_of, values};
 
 use group_locks::{Closed, Hub, Pool, Seat};
+use numbered_jobs::numbered;
 use replay_hub::{ReplayScene, Task, close_replay};
 use replay_worker::{ReplayTables, work_through};
 use rho_outside::Gate;
@@ -22,20 +23,6 @@ use std::alloc::{AllocError, Global};
 use std::sync::Wait;
 use std::thread;
 use std::thread::Threads;
-
-// These things with their numbers, from 0 on. Want of memory is the one error.
-fn numbered<A: Drop>(alloc: Global, things: Vec<A>) -> Result<Vec<(u32, A)>, AllocError>
-    requires few { length things.items ≤ 32 }
-    ensures { IfOk result (λ v. map (λ p. p.1) v.items ≡ things.items) }
-{
-    let mut pairs = Vec::new(alloc);
-    let mut number = 0u32;
-    for thing in things {
-        pairs.push((number, thing))?;
-        number += 1;
-    }
-    Ok(pairs)
-}
 
 // Does all jobs of a hub, each seat in a thread of its own. Want of memory is the one error.
 fn side_by_side<J: ReplayTables + Sync, R: Threads + Wait + Sync, G: Gate + Sync>(

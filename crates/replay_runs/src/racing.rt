@@ -20,6 +20,7 @@ use price_table::Prices;
 use replay_ending::Raced;
 use replay_hub::{Coming, Task};
 use replay_pool::replay_side_by_side;
+use replay_shards::{ShardedChannel, ShardedRow};
 use replay_space::Rig;
 use replay_store::open_shards;
 use replayed_log::{LogReplay, ReplayNames};
@@ -35,7 +36,10 @@ use step_work::{Worked, work_source};
 const MOST_TASKS: u64 = 1 << 58;
 
 // The jobs of a replay at its start: what its source offers is to arrive. Want of memory is the one error.
-fn first_tasks(alloc: Global, offers: Vec<Row>) -> Result<Vec<Task<Row, Term>>, AllocError>
+fn first_tasks(
+    alloc: Global,
+    offers: Vec<Row>,
+) -> Result<Vec<Task<ShardedRow, ShardedChannel>>, AllocError>
     ensures few { IfOk result (λ v. length v.items ≤ 2 ^ 58) }
     ensures are { IfOk result (λ v. v.items ≡ arrivals offers.items) }
 {
@@ -44,6 +48,7 @@ fn first_tasks(alloc: Global, offers: Vec<Row>) -> Result<Vec<Task<Row, Term>>, 
     }
     let mut tasks = Vec::new(alloc);
     for row in offers {
+        let row = ShardedRow::from_row(alloc, row)?;
         tasks.push(Task::Arrive(Coming { row, from: None }))?;
     }
     Ok(tasks)

@@ -10,9 +10,9 @@ use Rattle.list_laws.proofs.Members.{Member, member-split, member-left, member-r
 use Rattle.list_laws.proofs.Permutations.{unmoved}
 use Rattle.events.specs.Events.{AreFresh}
 use Rattle.events.proofs.Standing.{built_ins}
-use Rattle.group_locks.specs.Counts.{numbered, things_of}
-use Rattle.group_locks.specs.Meaning.{Meaning, offered, Pending, Allowed, ArePending}
-use Rattle.group_locks.proofs.Offers.{offered_more, things_both, things_numbered}
+use Rattle.hub_rule.specs.Counts.{numbered, things_of}
+use Rattle.hub_rule.specs.Meaning.{Meaning, offered, Pending, Allowed, ArePending}
+use Rattle.hub_rule.proofs.Offers.{offered_more, things_both, things_numbered}
 use Rattle.racing_replays.specs.Racing.{racing_start, no_event}
 use Rattle.racing_replays.specs.Laws.{first_bag}
 use Rattle.replay_scene.specs.Spaces.{SeenRow, NewRow, IndexTry, Job, arrive, try_index, Part, Space, standing_row, new_row, first_space, steps_did}

@@ -16,10 +16,10 @@ use Rattle.list_laws.proofs.Permutations.{unmoved}
 use Rattle.events.specs.Examples.{no_work}
 use Rattle.events.specs.Laws.{Begins}
 use Rattle.events.proofs.Counts.{same_bytes}
-use Rattle.group_locks.specs.Counts.{one_if, count, once_below, Each}
-use Rattle.group_locks.specs.Meaning.{Meaning, ended, Pending, Allowed, Ran}
-use Rattle.group_locks.proofs.Draws.{allowed_more}
-use Rattle.group_locks.proofs.Offers.{count_numbered}
+use Rattle.hub_rule.specs.Counts.{one_if, count, once_below, Each}
+use Rattle.hub_rule.specs.Meaning.{Meaning, ended, Pending, Allowed, Ran}
+use Rattle.hub_rule.proofs.Draws.{allowed_more}
+use Rattle.hub_rule.proofs.Offers.{count_numbered}
 use Rattle.racing_replays.specs.Examples.{the_source, both_steps}
 use Rattle.racing_replays.specs.Replaying.{Replay, ids_of}
 use Rattle.racing_replays.specs.Laws.{FreshWalk}

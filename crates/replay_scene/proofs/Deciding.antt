@@ -14,8 +14,8 @@ use Rattle.events.proofs.Standing.{standing-times, no-more}
 use Rattle.events.specs.Laws.{Begins}
 use Rattle.fresh_digests.specs.Premises.{FitsInTexts}
 use Rattle.fresh_digests.proofs.Concluding.{legal_lists_are_fresh_or_show_an_id}
-use Rattle.group_locks.specs.Counts.{one_if, count, things_of, Projected}
-use Rattle.group_locks.specs.Meaning.{store_after, Allowed, Ran}
+use Rattle.hub_rule.specs.Counts.{one_if, count, things_of, Projected}
+use Rattle.hub_rule.specs.Meaning.{store_after, Allowed, Ran}
 use Rattle.replays.specs.Replays.{StopsAt}
 use Rattle.racing_replays.specs.Replaying.{DoneStep, Replay, done_steps, in_order}
 use Rattle.racing_replays.specs.Racing.{RacingState}

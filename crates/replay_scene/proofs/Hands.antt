@@ -4,7 +4,7 @@ use Rattle.std.specs.Prelude.{◌⊎◌}
 use Rattle.list_laws.proofs.Members.{Member, member-split, member-left, member-right}
 use Rattle.events.proofs.Orders.{member-moved}
 use Rattle.list_laws.proofs.Permutations.{moved_so}
-use Rattle.group_locks.specs.Counts.{Each}
+use Rattle.hub_rule.specs.Counts.{Each}
 use Rattle.replay_scene.specs.Spaces.{SeenRow, Part, Space, seen_in, IsPart}
 use Rattle.shard_rows.proofs.Following.{kept-in, kept-was}
 use Rattle.replay_scene.specs.Showing.{shown}

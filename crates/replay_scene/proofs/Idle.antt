@@ -13,7 +13,7 @@ use Rattle.events.specs.Events.{stored}
 use Rattle.events.proofs.Counts.{ids, times, one_if, same_bytes, member-times, times-one_of}
 use Rattle.events.proofs.Spent.{row-of-id}
 use Rattle.events.proofs.Making.{member}
-use Rattle.group_locks.specs.Counts.{Each}
+use Rattle.hub_rule.specs.Counts.{Each}
 use Rattle.racing_replays.specs.Replaying.{names, is_due, ids_of, ids_before}
 use Rattle.racing_replays.specs.Laws.{first_bag, IsFresh}
 use Rattle.racing_replays.specs.Possible.{HaveArrived, Fits}

@@ -8,9 +8,9 @@ use Rattle.list_laws.proofs.Permutations.{join, moved_before}
 use Rattle.events.proofs.Counts.{ids, times, AreDistinct}
 use Rattle.events.proofs.Orders.{member-moved}
 use Rattle.events.proofs.Standing.{built_ins, ids-times}
-use Rattle.group_locks.specs.Counts.{Each, things_of}
-use Rattle.group_locks.specs.Meaning.{store_after, Pending, Allowed}
-use Rattle.group_locks.proofs.Sums.{each_to}
+use Rattle.hub_rule.specs.Counts.{Each, things_of}
+use Rattle.hub_rule.specs.Meaning.{store_after, Pending, Allowed}
+use Rattle.hub_rule.proofs.Sums.{each_to}
 use Rattle.run_entries.specs.Entries.{Making}
 use Rattle.racing_replays.specs.Laws.{IsFresh}
 use Rattle.racing_replays.specs.Counted.{names_id}

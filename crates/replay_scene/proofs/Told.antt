@@ -6,7 +6,7 @@ use Rattle.calculus.specs.Rows.{Row}
 use Rattle.calculus.specs.Runs.{Deploy}
 use Rattle.list_laws.proofs.Members.{Member, member-each}
 use Rattle.events.proofs.Counts.{ids, times, one_if, member-times, same_bytes}
-use Rattle.group_locks.specs.Counts.{Each}
+use Rattle.hub_rule.specs.Counts.{Each}
 use Rattle.racing_replays.specs.Racing.{next_use}
 use Rattle.racing_replays.specs.Laws.{first_bag, IsFresh}
 use Rattle.racing_replays.proofs.Possible.{other_tries_are_idle}

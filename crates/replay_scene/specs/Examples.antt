@@ -9,7 +9,7 @@ use Rattle.calculus.specs.Rows.{Row}
 use Rattle.calculus.specs.Runs.{Deploy, deploy_of, done}
 use Rattle.events.specs.Examples.{no_prices}
 use Rattle.events.specs.Laws.{Begins}
-use Rattle.group_locks.specs.Meaning.{Ran}
+use Rattle.hub_rule.specs.Meaning.{Ran}
 use Rattle.run_entries.specs.Entries.{Making}
 use Rattle.racing_replays.specs.Replaying.{Replay}
 use Rattle.racing_replays.specs.Laws.{FreshWalk}

@@ -5,7 +5,7 @@ use Rattle.calculus.specs.Unfolding.{Unfolds}
 use Rattle.calculus.specs.Steps.{differ}
 use Rattle.calculus.specs.Runs.{Deploy, source_seed, Work}
 use Rattle.fresh_digests.specs.Premises.{FitsInTexts}
-use Rattle.group_locks.specs.Meaning.{Lawful, Ran}
+use Rattle.hub_rule.specs.Meaning.{Lawful, Ran}
 use Rattle.replays.specs.Replays.{Given, header_refusal, deploy_under}
 use Rattle.racing_replays.specs.Answering.{SomeClash}
 use Rattle.replay_scene.specs.Spaces.{Job, DidStep, Part}

@@ -6,7 +6,7 @@ use Rattle.calculus.specs.Unfolding.{rows_of}
 use Rattle.calculus.specs.Runs.{Deploy, Work, work_products, work_price, work_fault}
 use Rattle.events.specs.Events.{AreFresh}
 use Rattle.events.specs.Laws.{Begins}
-use Rattle.group_locks.specs.Meaning.{Meaning}
+use Rattle.hub_rule.specs.Meaning.{Meaning}
 use Rattle.racing_replays.specs.Replaying.{DoneStep, rows_by}
 use Rattle.racing_replays.specs.Racing.{RacingState, Arrives, Finishes, Idles, Races}
 use Rattle.racing_replays.specs.Laws.{first_bag}

@@ -10,7 +10,8 @@ use Rattle.replay_scene.specs.Entries.{arrives, PartBecomes}
 use Rattle.replay_space.specs.declared.seen.Seen.{Seen}
 use Rattle.replay_shards.specs.declared.kept.Kept.{Kept}
 use Rattle.replay_shards.specs.Rows.{part_of, arrived_seen, filed_rows}
-use Rattle.replay_shards.specs.Hands.{InHand, Slot, has_bit, parts_of, shard_at, GainsRow, GainsSeen, HasRoomAt, TouchedBecome, IsSlotFiled, AreSlotsFiled}
+use Rattle.replay_shards.specs.Bits.{has_bit}
+use Rattle.replay_shards.specs.Hands.{InHand, Slot, parts_of, shard_at, GainsRow, GainsSeen, HasRoomAt, TouchedBecome, IsSlotFiled, AreSlotsFiled}
 use Rattle.replay_shards.proofs.Placing.{part-at, split, all-filed, filed-at}
 
 past : {A : Type 0} (l : List A) (k : ℕ) (d : A) → length l ≤ k → get_or l k d ≡ d
@@ -43,7 +44,7 @@ pub is-there : (slot : Slot) → IsSome (option_map part_of slot) → IsSome slo
 is-there None h = h
 is-there (Some a) h = refl
 
-module _ (row : Row) (from : Option ℕ) (shards : ℕ) (copies : List (Option Seen)) (many : length copies ≡ 64) (are : (k : ℕ) → k < 64 → get_or copies k None ≡ cond (has_bit shards k) (Some (arrived_seen row from)) None) where
+module _ (row : Row) (from : Option ℕ) (shards : ℕ) (copies : List (Option (Seen Row))) (many : length copies ≡ 64) (are : (k : ℕ) → k < 64 → get_or copies k None ≡ cond (has_bit shards k) (Some (arrived_seen row from)) None) where
   pub copy-at : (k : ℕ) → get_or copies k None ≡ cond (has_bit shards k) (Some (arrived_seen row from)) None
   copy-at k = go (split k 64)
     where
@@ -53,7 +54,7 @@ module _ (row : Row) (from : Option ℕ) (shards : ℕ) (copies : List (Option S
 
   module _ (old mid : List Slot) (held : (k : ℕ) → has_bit shards k ≡ true → IsSome (shard_at (parts_of old) k)) where
     -- there is room for each copy
-    pub rooms : (x : List ℕ) → x ≡ row.id → ((k : ℕ) → k < 64 → has_bit shards k ≡ true → IsSome (get_or old k None) → HasRoomAt x (get_or mid k None)) → (k : ℕ) (s : Seen) → get_or copies k None ≡ Some s → HasRoomAt s.row.id (get_or mid k None)
+    pub rooms : (x : List ℕ) → x ≡ row.id → ((k : ℕ) → k < 64 → has_bit shards k ≡ true → IsSome (get_or old k None) → HasRoomAt x (get_or mid k None)) → (k : ℕ) (s : Seen Row) → get_or copies k None ≡ Some s → HasRoomAt s.row.id (get_or mid k None)
     rooms x same room k s e = go (has_bit shards k) refl (sym (copy-at k) ∙ e)
       where
         low : (b : Bool) → has_bit shards k ≡ b → b ≡ true → (k < 64) ⊎ (64 ≤ k) → k < 64
@@ -63,7 +64,7 @@ module _ (row : Row) (from : Option ℕ) (shards : ℕ) (copies : List (Option S
         go : (b : Bool) → has_bit shards k ≡ b → cond b (Some (arrived_seen row from)) None ≡ Some s → HasRoomAt s.row.id (get_or mid k None)
         go true f g =
             let one : arrived_seen row from ≡ s = cc g in
-            subst (λ (z : Seen). HasRoomAt z.row.id (get_or mid k None)) one
+            subst (λ (z : Seen Row). HasRoomAt z.row.id (get_or mid k None)) one
             (subst (λ y. HasRoomAt y (get_or mid k None)) same (room k (low true f refl (split k 64)) f (is-there (get_or old k None) (subst IsSome (part-at old k) (held k f)))))
         go false f g = absurd (nothing s g)
 
@@ -72,7 +73,7 @@ module _ (row : Row) (from : Option ℕ) (shards : ℕ) (copies : List (Option S
       as-before k = sym (part-at mid k) ∙ ap (λ (h : InHand). shard_at h k) same
 
       unchanged : (k : ℕ) → has_bit shards k ≡ false → shard_at (parts_of new) k ≡ shard_at (parts_of old) k
-      unchanged k f = part-at new k ∙ ap (option_map part_of) (subst (λ (o : Option Seen). GainsRow o (get_or mid k None) (get_or new k None)) (copy-at k ∙ ap (λ b. cond b (Some (arrived_seen row from)) None) f) (put k)) ∙ as-before k
+      unchanged k f = part-at new k ∙ ap (option_map part_of) (subst (λ (o : Option (Seen Row)). GainsRow o (get_or mid k None) (get_or new k None)) (copy-at k ∙ ap (λ b. cond b (Some (arrived_seen row from)) None) f) (put k)) ∙ as-before k
 
       gained : (k : ℕ) (x : Part) (a : Kept) → part_of a ≡ x → has_bit shards k ≡ true → (y : Slot) → GainsRow (Some (arrived_seen row from)) (Some a) y → (z : Part) × (option_map part_of y ≡ Some z) × PartBecomes (arrives (new_row from row) next) k x z
       gained k x a e f y g = (
@@ -93,7 +94,7 @@ module _ (row : Row) (from : Option ℕ) (shards : ℕ) (copies : List (Option S
               let a = kept-of (get_or mid k None) x (as-before k ∙ e) in
               let g = gained k x a.0 a.1.1 f (get_or new k None)
               (subst (λ (s : Slot). GainsRow (Some (arrived_seen row from)) s (get_or new k None)) a.1.0
-              (subst (λ (o : Option Seen). GainsRow o (get_or mid k None) (get_or new k None)) (copy-at k ∙ ap (λ b. cond b (Some (arrived_seen row from)) None) f) (put k))) in
+              (subst (λ (o : Option (Seen Row)). GainsRow o (get_or mid k None) (get_or new k None)) (copy-at k ∙ ap (λ b. cond b (Some (arrived_seen row from)) None) f) (put k))) in
               (g.0, part-at new k ∙ g.1, g.2)
 
           absent : (k : ℕ) → shard_at (parts_of old) k ≡ None → shard_at (parts_of new) k ≡ None
@@ -107,12 +108,12 @@ module _ (row : Row) (from : Option ℕ) (shards : ℕ) (copies : List (Option S
                   none None n h = cc h
                   none (Some x) n h = nothing x (sym n)
 
-gains-filed : (o : Option Seen) (x y : Slot) → GainsRow o x y → IsSlotFiled x → IsSlotFiled y
+gains-filed : (o : Option (Seen Row)) (x y : Slot) → GainsRow o x y → IsSlotFiled x → IsSlotFiled y
 gains-filed None x y g f = subst IsSlotFiled (sym g) f
 gains-filed (Some s) None y g f = absurd g
 gains-filed (Some s) (Some a) y g f = subst IsSlotFiled (sym g.1) (g.2.filed f)
 
-pub all-gained-filed : (copies : List (Option Seen)) (mid new : List Slot) → ((k : ℕ) → GainsRow (get_or copies k None) (get_or mid k None) (get_or new k None)) → AreSlotsFiled mid → AreSlotsFiled new
+pub all-gained-filed : (copies : List (Option (Seen Row))) (mid new : List Slot) → ((k : ℕ) → GainsRow (get_or copies k None) (get_or mid k None) (get_or new k None)) → AreSlotsFiled mid → AreSlotsFiled new
 all-gained-filed copies mid new put f = all-filed new (λ k lt. gains-filed (get_or copies k None) (get_or mid k None) (get_or new k None) (put k) (filed-at mid k f))
 
 -- a row that arrives in one shard

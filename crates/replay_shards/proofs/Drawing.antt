@@ -4,7 +4,7 @@ use Rattle.std.specs.Prelude.{◌⊎◌, Option, Some, None, IsSome}
 use Rattle.list_laws.proofs.Members.{Member, member-split, member-left, member-right}
 use Rattle.calculus.specs.Log.{Step}
 use Rattle.calculus.specs.Storing.{shard}
-use Rattle.group_locks.specs.Counts.{count, one_if, Each}
+use Rattle.hub_rule.specs.Counts.{count, one_if, Each}
 use Rattle.shard_rows.specs.Shards.{stands_in, shards_of, Covers}
 use Rattle.shard_rows.proofs.Meeting.{IsMet, met-on, its-shard}
 use Rattle.shard_rows.proofs.Standing.{stands, its-one}

@@ -15,6 +15,7 @@ use Rattle.racing_replays.specs.Counted.{names_id}
 use Rattle.calculus.specs.Steps.{is_one_of}
 use Rattle.replay_scene.specs.Spaces.{SeenRow}
 use Rattle.replay_scene.proofs.Basics.{has}
+use Rattle.calculus.specs.Rows.{Row}
 use Rattle.replay_space.specs.declared.seen.Seen.{Seen}
 use Rattle.replay_shards.specs.Filing.{is_key, Filed}
 use Rattle.replay_shards.specs.Rows.{seen_row, id_of, filed_rows, is_full, has_full, AreFiled, AreLow}
@@ -39,10 +40,10 @@ none-full x [] n = refl
 none-full x (q ∷ qs) n =
     ap (λ b. b && leb (2 ^ 32 - 1) q.done || list_any (is_full x) qs) (is-other q.row.id x (λ e. n q (inl refl) (sym e))) ∙ none-full x qs (λ z m. n z (inr m))
 
-pub full-absent : (x : List ℕ) (es : List (Filed Seen)) → AreFiled es → lookup (is_key x) es ≡ None → false ≡ list_any (is_full x) (filed_rows es)
+pub full-absent : (x : List ℕ) (es : List (Filed (Seen Row))) → AreFiled es → lookup (is_key x) es ≡ None → false ≡ list_any (is_full x) (filed_rows es)
 full-absent x es u h = sym (none-full x (filed_rows es) (none-has seen_row id_of x es u (not-found x es h)))
 
-pub full-found : (x : List ℕ) (v : Vec Seen Global) (es : List (Filed Seen)) → AreFiled es → IsStrictlySortedBy order (keys_of es) → lookup (is_key x) es ≡ Some v → list_any (is_full x) (each seen_row v.items) ≡ list_any (is_full x) (filed_rows es)
+pub full-found : (x : List ℕ) (v : Vec (Seen Row) Global) (es : List (Filed (Seen Row))) → AreFiled es → IsStrictlySortedBy order (keys_of es) → lookup (is_key x) es ≡ Some v → list_any (is_full x) (each seen_row v.items) ≡ list_any (is_full x) (filed_rows es)
 full-found x v [] u s h = absurd (cc)
 full-found x v (e ∷ es) u s h =
     go (λ i. full-found x v es u.1 (sorted_tail order e.0 (keys_of es) s) i) (is_key x e.0) refl h ∙ sym (either (is_full x) (each seen_row e.1.items) (filed_rows es))
@@ -51,7 +52,7 @@ full-found x v (e ∷ es) u s h =
         → list_any (is_full x) (each seen_row v.items) ≡ list_any (is_full x) (each seen_row e.1.items) || list_any (is_full x) (filed_rows es)
     go next true t i =
         let same : e.1 ≡ v = cc i in
-        ap (λ (l : Vec Seen Global). list_any (is_full x) (each seen_row l.items)) (sym same) ∙ sym (or-false (list_any (is_full x) (each seen_row e.1.items)))
+        ap (λ (l : Vec (Seen Row) Global). list_any (is_full x) (each seen_row l.items)) (sym same) ∙ sym (or-false (list_any (is_full x) (each seen_row e.1.items)))
         ∙ ap (λ b. list_any (is_full x) (each seen_row e.1.items) || b) (sym (none-full x (filed_rows es) (none-has seen_row id_of x es u.1 (none-later x e es s t))))
     go next false t i = next i ∙ ap (λ b. b || list_any (is_full x) (filed_rows es)) (sym (none-full x (each seen_row e.1.items) (λ q m k. other-id seen_row id_of x e.0 (each seen_row e.1.items) q u.0 t m k)))
 

@@ -5,11 +5,14 @@ use Rattle.std.specs.Int.{bit_at}
 use Rattle.std.specs.List.{list_any}
 use Rattle.std.proofs.lemmas.Nat.{pow_below}
 use Rattle.calculus.specs.Tree.{Tree}
+use Rattle.calculus.specs.Rows.{Row, channels}
 use Rattle.calculus.specs.Storing.{shard}
 use Rattle.rho_term.specs.declared.term.TermBind.{TermBind}
 use Rattle.std.proofs.lemmas.Nat.Bits.{bit_at_or, bit_at-zero, bit_at-pow_same, bit_at-pow_other}
 use Rattle.std.proofs.lemmas.Bool.Decides.{nat_tests}
-use Rattle.replay_shards.specs.Hands.{has_bit}
+use Rattle.replay_shards.specs.Bits.{has_bit}
+use Rattle.row_homes.specs.Homes.{first_shard, home}
+use Rattle.shard_rows.specs.Shards.{stands_in}
 
 binary : (n k : ℕ) → bit_at n k < 2
 binary n k = omega arith
@@ -87,3 +90,14 @@ only-one false = refl
 pub shards-each : (bs : List TermBind) → each (λ b. shard b.channel) bs ≡ each shard (each (λ b. b.channel) bs)
 shards-each [] = refl
 shards-each (b ∷ bs) = ap (λ l. shard b.channel ∷ l) (shards-each bs)
+
+-- a row that stands in one shard alone has its first channel there
+pub only-home : (r : Row) (n : ℕ) → ((k : ℕ) → stands_in k r ≡ eqb k n) → n ≡ home r
+only-home r n = go (channels r.part)
+  where
+    differ : false ≡ true → ⊥
+    differ e = absurd (cc)
+
+    go : (cs : List Tree) → ((k : ℕ) → list_any (eqb k) (each shard cs) ≡ eqb k n) → n ≡ first_shard cs
+    go [] h = absurd (differ (h n ∙ eq-eqb n n refl))
+    go (c ∷ cs) h = sym (eqb-true (shard c) n (sym (h (shard c)) ∙ ap (λ b. b || list_any (eqb (shard c)) (each shard cs)) (eq-eqb (shard c) (shard c) refl)))

@@ -1,6 +1,5 @@
 -- The shards that a worker has in hand.
-use Rattle.std.specs.Prelude.{◌≡◌, ◌≤◌, ◌<◌, ⊤, ℕ, Bool, true, false, ◌&&◌, eqb, nat_lt, List, [], ◌∷◌, ◌++◌, map as each, filter, Option, Some, None, option_map, slice_index_or, IsPermutation}
-use Rattle.std.specs.Int.{bit_at}
+use Rattle.std.specs.Prelude.{◌≡◌, ◌≤◌, ◌<◌, ⊤, ℕ, Bool, true, false, List, [], ◌∷◌, ◌++◌, map as each, filter, Option, Some, None, option_map, slice_index_or, IsPermutation}
 use Rattle.calculus.specs.Rows.{Row}
 use Rattle.replay_scene.specs.Spaces.{SeenRow, Part, standing_row, seen_in}
 use Rattle.replay_scene.specs.Entries.{Deed, PartBecomes}
@@ -26,10 +25,6 @@ shown_at (Some x) = x.rows ++ x.built
 abbrev pub all_shown : InHand → List SeenRow
 all_shown [] = []
 all_shown (x ∷ xs) = shown_at x ++ all_shown xs
-
--- whether a bit is set, of the low 64
-abbrev pub has_bit : ℕ → ℕ → Bool
-has_bit n k = nat_lt k 64 && eqb (bit_at n k) 1
 
 -- each shard in hand becomes what the deed makes of it; none comes or leaves
 pub record AllBecome (d : Deed) (old new : InHand) : Type 0 where
@@ -79,13 +74,13 @@ pub record Gains (q : SeenRow) (a b : Kept) : Type 0 where
   pub built : each seen_row b.built.items ≡ each seen_row a.built.items
 
 -- a shard that is there gains this row, if there is one
-abbrev pub GainsRow : Option Seen → Slot → Slot → Type 0
+abbrev pub GainsRow : Option (Seen Row) → Slot → Slot → Type 0
 GainsRow None x y = y ≡ x
 GainsRow (Some s) None y = ⊥
 GainsRow (Some s) (Some a) y = (b : Kept) × (y ≡ Some b) × Gains (seen_row s) a b
 
 -- a shard that is there, with room made in it, gains this row
-abbrev pub GainsSeen : Seen → Slot → Slot → Type 0
+abbrev pub GainsSeen : Seen Row → Slot → Slot → Type 0
 GainsSeen s x y = (mid : Slot) × (option_map part_of mid ≡ option_map part_of x) × GainsRow (Some s) mid y
 
 -- no shard in hand has a number outside these

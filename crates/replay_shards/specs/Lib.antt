@@ -1,4 +1,5 @@
 pub mod Filing
+pub mod Bits
 pub mod Rows
 pub mod Values
 pub mod Hands

@@ -14,7 +14,7 @@ use Rattle.replay_shards.specs.Filing.{Filed, seen_in_all, AreUnder, first_with}
 use Rattle.replay_shards.specs.declared.kept.Kept.{Kept}
 
 -- what is kept of a row
-abbrev pub seen_row : Seen → SeenRow
+abbrev pub seen_row : Seen Row → SeenRow
 seen_row q = record { row = q.row; from = q.from; done = q.done }
 
 -- the id of a row
@@ -22,11 +22,11 @@ abbrev pub id_of : SeenRow → List ℕ
 id_of q = q.row.id
 
 -- all rows of a map from ids
-abbrev pub filed_rows : List (Filed Seen) → List SeenRow
+abbrev pub filed_rows : List (Filed (Seen Row)) → List SeenRow
 filed_rows es = seen_in_all seen_row es
 
 -- each row stands under its id
-abbrev pub AreFiled : List (Filed Seen) → Type 0
+abbrev pub AreFiled : List (Filed (Seen Row)) → Type 0
 AreFiled es = AreUnder seen_row id_of es
 
 -- the first of these rows that has this id
@@ -66,7 +66,7 @@ abbrev pub AreLow : Step → List SeenRow → Type 0
 AreLow s qs = (q : SeenRow) → IsIn q qs → names_id q.row.id s ≡ true → q.done < 2 ^ 32 - 1
 
 -- a row as it arrives
-abbrev pub arrived_seen : Row → Option ℕ → Seen
+abbrev pub arrived_seen : Row → Option ℕ → Seen Row
 arrived_seen r f = record { row = r; from = f; done = 0 }
 
 -- whether a row has this id, and no more done steps can be counted at it

@@ -3,9 +3,11 @@ ghost use Rattle.std.specs.Prelude.{◌≡◌, ◌<◌, ℕ, ◌||◌, eqb, map 
 ghost use Rattle.std.specs.List.{list_any};
 ghost use Rattle.calculus.specs.Storing.{shard};
 ghost use Rattle.shard_rows.specs.Shards.{stands_in};
-ghost use Rattle.replay_shards.specs.Hands.{has_bit};
+ghost use Rattle.row_homes.specs.Homes.{home};
+ghost use Rattle.replay_shards.specs.Bits.{has_bit};
 
 use rho_term::{Op, TermBind};
+use row_homes::home_of;
 use space_row::Row;
 use std::alloc::{AllocError, Global};
 use term_encoder::shard_of;
@@ -38,7 +40,7 @@ fn bind_shards(alloc: Global, binds: &Vec<TermBind>) -> Result<u64, AllocError>
 }
 
 /// The bits of the shards that a row stands in: those of its channels. Want of memory is the one error.
-pub fn row_shards(alloc: Global, row: &Row) -> Result<u64, AllocError>
+pub(crate) fn row_shards(alloc: Global, row: &Row) -> Result<u64, AllocError>
     ensures { IfOk result (λ n. (k : ℕ) → has_bit n k ≡ stands_in k row.now) }
 {
     match row.op() {
@@ -56,4 +58,16 @@ pub(crate) fn only_shard(shards: u64) -> Option<u32>
         return Some(number);
     }
     None
+}
+
+/// The number of the shard of the first channel of a row that stands in the shards with these bits, and 64 where it has none.
+/// Where that is one shard, nothing is hashed. Want of memory is the one error.
+pub(crate) fn first_of(alloc: Global, row: &Row, shards: u64) -> Result<u32, AllocError>
+    requires { (k : ℕ) → has_bit shards k ≡ stands_in k row.now }
+    ensures { IfOk result (λ n. n ≡ home row.now) }
+{
+    match only_shard(shards) {
+        Some(number) => Ok(number),
+        None => home_of(alloc, row),
+    }
 }

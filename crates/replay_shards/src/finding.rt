@@ -4,12 +4,13 @@ ghost use Rattle.replay_shards.specs.Hands.{all_shown, parts_of, shown_at, AreSl
 ghost use Rattle.replay_shards.specs.Rows.{find_seen, part_of, seen_row};
 
 use crate::rows::find;
+use crate::sharded::ShardedRow;
 use crate::slots::Slot;
 use calculus::Digest;
 use replay_space::Seen;
 
 // The first of these receivers with this id.
-fn find_built<'a>(built: &'a [Seen], id: &Digest) -> Option<&'a Seen>
+fn find_built<'a>(built: &'a [Seen<ShardedRow>], id: &Digest) -> Option<&'a Seen<ShardedRow>>
     ensures { option_map seen_row (option_copied result) ≡ find_seen id.now.0 (each seen_row built.now) }
 {
     match built {
@@ -24,7 +25,7 @@ fn find_built<'a>(built: &'a [Seen], id: &Digest) -> Option<&'a Seen>
 }
 
 // The first row of a shard with this id, if the shard is there.
-fn find_at<'a>(slot: &'a Slot, id: &Digest) -> Option<&'a Seen>
+fn find_at<'a>(slot: &'a Slot, id: &Digest) -> Option<&'a Seen<ShardedRow>>
     requires { IsSlotFiled slot.now }
     ensures { option_map seen_row (option_copied result) ≡ find_seen id.now.0 (shown_at (option_map part_of slot.now)) }
 {
@@ -38,7 +39,7 @@ fn find_at<'a>(slot: &'a Slot, id: &Digest) -> Option<&'a Seen>
 }
 
 /// The first row in hand with this id.
-pub(crate) fn find_in<'a>(slots: &'a [Slot], id: &Digest) -> Option<&'a Seen>
+pub(crate) fn find_in<'a>(slots: &'a [Slot], id: &Digest) -> Option<&'a Seen<ShardedRow>>
     requires { AreSlotsFiled slots.now }
     ensures { option_map seen_row (option_copied result) ≡ find_seen id.now.0 (all_shown (parts_of slots.now)) }
 {

@@ -6,13 +6,14 @@ ghost use Rattle.replay_shards.specs.Hands.{all_shown, parts_of, shown_at, AreSl
 ghost use Rattle.replay_shards.specs.Rows.{filed_rows, has_full, is_full, part_of, seen_row, AreFiled};
 
 use crate::rows::Rows;
+use crate::sharded::ShardedRow;
 use crate::slots::Slot;
 use calculus::Digest;
 use event_log::LogStep;
 use replay_space::Seen;
 
 // Whether a count is full at one of these rows with this id.
-fn is_full_list(list: &[Seen], id: &Digest) -> bool
+fn is_full_list(list: &[Seen<ShardedRow>], id: &Digest) -> bool
     ensures { result ≡ list_any (is_full id.now.0) (each seen_row list.now) }
 {
     for seen in list {

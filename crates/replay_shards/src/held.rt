@@ -7,23 +7,24 @@ ghost use Rattle.replay_space.specs.Rigs.{IsRigOf};
 ghost use Rattle.replay_scene.specs.Spaces.{IndexTry, SeenRow, new_row};
 ghost use Rattle.replay_scene.specs.Entries.{arrives, does};
 ghost use Rattle.shard_rows.specs.Shards.{stands_in};
-ghost use Rattle.replay_shards.specs.Hands.{all_shown, has_bit, parts_of, shard_at, AllBecome, AreSlotsFiled, TouchedBecome};
+ghost use Rattle.replay_shards.specs.Bits.{has_bit};
+ghost use Rattle.replay_shards.specs.Hands.{all_shown, parts_of, shard_at, AllBecome, AreSlotsFiled, TouchedBecome};
 ghost use Rattle.replay_shards.specs.Ready.{IsReady};
 ghost use Rattle.replay_shards.specs.Rows.{find_seen, AreLow};
 ghost use Rattle.replay_shards.specs.Taken.{bytes_of, FitsNothing};
 
-use crate::bits::{only_shard, row_shards};
+use crate::bits::only_shard;
 use crate::finding::find_in;
 use crate::fit::fit;
 use crate::kept::Kept;
 use crate::places::{first_from, widened};
 use crate::ready::Ready;
 use crate::shard::ReplayShard;
+use crate::sharded::ShardedRow;
 use crate::slots::{Slot, arrive_at, arrive_in, settle_all};
 use calculus::Digest;
 use event_log::Log;
 use replay_space::Rig;
-use space_row::Row;
 use std::alloc::{AllocError, Global};
 use std::marker::Model;
 
@@ -113,7 +114,7 @@ impl ReplayHeld {
     pub fn arrive(
         &mut self,
         alloc: Global,
-        row: Row,
+        row: ShardedRow,
         from: Option<u32>,
         shards: u64,
     ) -> Result<(), AllocError>
@@ -129,20 +130,15 @@ impl ReplayHeld {
     }
 
     /// The bits of the shards of all channels of a step's receiver, which is the first row in hand with its id; None
-    /// exactly where there is none. Want of memory is the one error.
-    pub fn step_shards(
-        &self,
-        alloc: Global,
-        log: &Log,
-        step: u32,
-    ) -> Result<Option<u64>, AllocError>
+    /// exactly where there is none.
+    pub fn step_shards(&self, log: &Log, step: u32) -> Option<u64>
         requires { step < length log.now.steps.items }
         ensures { (before : List Step) (s : Step) (after : List Step) → steps_of log.now.steps.items ≡ before ++ s ∷ after → length before ≡ step
-            → IfOk result (λ o. MatchOption o (find_seen s.receiver (all_shown self.now) ≡ None) (λ n. (r : SeenRow) × (find_seen s.receiver (all_shown self.now) ≡ Some r) × ((k : ℕ) → has_bit n k ≡ stands_in k r.row))) }
+            → MatchOption result (find_seen s.receiver (all_shown self.now) ≡ None) (λ n. (r : SeenRow) × (find_seen s.receiver (all_shown self.now) ≡ Some r) × ((k : ℕ) → has_bit n k ≡ stands_in k r.row)) }
     {
         match find_in(self.taken(), &log.steps[step as usize].cont) {
-            None => Ok(None),
-            Some(seen) => Ok(Some(row_shards(alloc, &seen.row)?)),
+            None => None,
+            Some(seen) => Some(seen.row.shards()),
         }
     }
 

@@ -8,6 +8,7 @@ ghost use Rattle.replay_scene.specs.Spaces.{SeenRow, IsIn};
 ghost use Rattle.replay_shards.specs.Rows.{counted_in, filed_rows, part_of, seen_row, settled, settled_part, stays_from, AreFiled, AreLow};
 
 use crate::rows::{Rows, settle};
+use crate::sharded::ShardedRow;
 use calculus::Digest;
 use event_log::LogStep;
 use replay_space::Seen;
@@ -17,7 +18,7 @@ use replay_space::Seen;
 pub(crate) struct Kept {
     pub number: u32,
     pub rows: Rows,
-    pub built: Vec<Seen>,
+    pub built: Vec<Seen<ShardedRow>>,
 }
 
 /// Whether an id is one of these.
@@ -93,7 +94,7 @@ fn count_named(rows: &mut Rows, step: &LogStep)
 }
 
 // Counts one more done step at each of these receivers that a step names.
-fn count_built(built: &mut Vec<Seen>, step: &LogStep)
+fn count_built(built: &mut Vec<Seen<ShardedRow>>, step: &LogStep)
     requires { AreLow (step_of step.now) (each seen_row built.old.items) }
     ensures { each seen_row built.new.items ≡ each (counted_in (names (step_of step.now))) (each seen_row built.old.items) }
 {
@@ -103,7 +104,7 @@ fn count_built(built: &mut Vec<Seen>, step: &LogStep)
 }
 
 // Counts one more done step at a row, if a step names it.
-fn count_one(seen: &mut Seen, step: &LogStep)
+fn count_one(seen: &mut Seen<ShardedRow>, step: &LogStep)
     requires { names_id seen.old.row.id (step_of step.now) ≡ true → seen.old.done < 2 ^ 32 - 1 }
     ensures { seen_row seen.new ≡ counted_in (names (step_of step.now)) (seen_row seen.old) }
 {

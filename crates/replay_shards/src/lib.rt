@@ -12,11 +12,12 @@ mod places;
 pub mod ready;
 mod rows;
 mod shard;
+pub mod sharded;
 mod slots;
 mod taking;
 
-pub use bits::row_shards;
 pub use held::ReplayHeld;
 pub use next::first_tries;
 pub use ready::{Ready, Try};
 pub use shard::ReplayShard;
+pub use sharded::{ShardedChannel, ShardedRow, sharded_rows};

@@ -1,9 +1,8 @@
 // The tries that follow an arrival or a done step.
 ghost use Rattle.std.specs.Prelude.{◌≡◌, [], ◌∷◌, ℕ, List, Some, slice_get, IfOk, OnOk};
 ghost use Rattle.calculus.specs.Log.{Step};
-ghost use Rattle.calculus.specs.Rows.{channels};
 ghost use Rattle.racing_replays.specs.Counted.{uses};
-ghost use Rattle.replay_scene.specs.Spaces.{SeenRow, IsIn};
+ghost use Rattle.replay_scene.specs.Spaces.{SeenRow};
 ghost use Rattle.replay_scene.specs.Showing.{IsFirstUse};
 ghost use Rattle.replay_space.specs.Rigs.{IsRigOf};
 ghost use Rattle.replay_shards.specs.Hands.{all_shown, parts_of, AreSlotsFiled};
@@ -14,42 +13,31 @@ ghost use Rattle.replay_shards.specs.Taken.{bytes_of, AreFound};
 use crate::finding::find_in;
 use crate::kept::is_among;
 use crate::ready::Try;
+use crate::sharded::ShardedRow;
 use crate::slots::Slot;
 use calculus::Digest;
 use replay_space::Rig;
-use rho_term::{Op, Term};
-use space_row::Row;
 use std::alloc::{AllocError, Global};
 
-// A copy of the first channel of a row.
-fn first_channel(alloc: Global, row: &Row) -> Result<Term, AllocError>
-    ensures { IfOk result (λ t. IsIn t (channels row.now.part)) }
-{
-    match row.op() {
-        Op::Produce { channel, .. } => channel.copy(alloc),
-        Op::Consume { binds, .. } => binds[0].channel.copy(alloc),
-    }
-}
-
 // The try of a use of a row, if there is one.
-fn use_try(alloc: Global, row: &Row, next: Option<u32>) -> Result<Option<Try>, AllocError>
-    ensures { (ss : List Step) (n : ℕ) → next ≡ slice_get (uses row.now.id 0 ss) n → IfOk result (λ o. IsUseTry ss row.now n (if_any o)) }
+fn use_try(row: &ShardedRow, next: Option<u32>) -> Option<Try>
+    ensures { (ss : List Step) (n : ℕ) → next ≡ slice_get (uses row.now.id 0 ss) n → IsUseTry ss row.now n (if_any result) }
 {
     match next {
-        None => Ok(None),
-        Some(step) => {
-            let channel = first_channel(alloc, row)?;
-            Ok(Some(Try { step, channel }))
-        }
+        None => None,
+        Some(step) => Some(Try {
+            step,
+            channel: row.first_channel(),
+        }),
     }
 }
 
 /// The try that follows where a row arrives: of its first use in the log. Want of memory is the one error.
-pub fn first_tries(alloc: Global, rig: &Rig, row: &Row) -> Result<Vec<Try>, AllocError>
+pub fn first_tries(alloc: Global, rig: &Rig, row: &ShardedRow) -> Result<Vec<Try>, AllocError>
     ensures { (ss : List Step) → IsRigOf ss rig.now → IfOk result (λ v. IsFirstUse ss row.now (index_tries v.items)) }
 {
     let mut tries = Vec::new(alloc);
-    match use_try(alloc, row, rig.next_use(&row.id(), 0))? {
+    match use_try(row, rig.next_use(&row.id(), 0)) {
         None => Ok(tries),
         Some(tried) => {
             tries.push(tried)?;
@@ -60,7 +48,6 @@ pub fn first_tries(alloc: Global, rig: &Rig, row: &Row) -> Result<Vec<Try>, Allo
 
 // Adds the try that follows for the first row in hand with this id, unless it leaves. A step names it at this place.
 fn add_next(
-    alloc: Global,
     slots: &[Slot],
     rig: &Rig,
     step: u32,
@@ -80,7 +67,7 @@ fn add_next(
     };
     let done = seen.done as usize + 1;
     let next_use = rig.next_use_at(&seen.row.id(), step, place, done);
-    match use_try(alloc, &seen.row, next_use)? {
+    match use_try(&seen.row, next_use) {
         None => Ok(()),
         Some(tried) => {
             next.push(tried)?;
@@ -104,10 +91,10 @@ pub(crate) fn all_next(
         → IfOk result (λ v. AreNext ss (bytes_of gone.now) (r ∷ ds) v.items) }
 {
     let mut next = Vec::new(alloc);
-    add_next(alloc, slots, rig, step, 0, gone, first, &mut next)?;
+    add_next(slots, rig, step, 0, gone, first, &mut next)?;
     let mut place = 1usize;
     for id in others {
-        add_next(alloc, slots, rig, step, place, gone, id, &mut next)?;
+        add_next(slots, rig, step, place, gone, id, &mut next)?;
         place = place.saturating_add(1);
     }
     Ok(next)

@@ -1,12 +1,12 @@
 //! What a step may be done with.
-use rho_term::Term;
+use crate::sharded::ShardedChannel;
 use row_search::Found;
 
 /// The number of a step that is to be tried, with a channel of one of the rows that it names.
 #[derive(Drop)]
 pub struct Try {
     pub step: u32,
-    pub channel: Term,
+    pub channel: ShardedChannel,
 }
 
 /// Rows that fit a step: what they bind, and the tries that follow once it is done.

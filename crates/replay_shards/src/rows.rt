@@ -4,13 +4,14 @@ ghost use Rattle.replay_scene.specs.Spaces.{SeenRow, IsIn};
 ghost use Rattle.replay_shards.specs.Rows.{filed_rows, find_seen, once_more, seen_row, settled, AreFiled};
 ghost use Rattle.replay_shards.specs.Filing.{HasRoom};
 
+use crate::sharded::ShardedRow;
 use calculus::Digest;
 use replay_space::Seen;
 use std::alloc::{AllocError, Global};
 use std::collections::BTreeMap;
 
 /// Rows by their ids. Rows with one id stand in the order in which they came.
-pub(crate) type Rows = BTreeMap<[u8; 32], Vec<Seen>>;
+pub(crate) type Rows = BTreeMap<[u8; 32], Vec<Seen<ShardedRow>>>;
 
 /// Makes room for one more row with this id. Want of memory is the one error.
 pub(crate) fn make_room(alloc: Global, rows: &mut Rows, id: &Digest) -> Result<(), AllocError>
@@ -30,7 +31,7 @@ pub(crate) fn make_room(alloc: Global, rows: &mut Rows, id: &Digest) -> Result<(
 }
 
 /// Puts a row beside the others, where there is room for it.
-pub(crate) fn put(rows: &mut Rows, seen: Seen)
+pub(crate) fn put(rows: &mut Rows, seen: Seen<ShardedRow>)
     requires room { HasRoom seen.row.id rows.old.entries }
     ensures rows { IsPermutation (filed_rows rows.old.entries ++ seen_row seen ∷ []) (filed_rows rows.new.entries) }
     ensures filed { AreFiled rows.old.entries → AreFiled rows.new.entries }
@@ -41,7 +42,7 @@ pub(crate) fn put(rows: &mut Rows, seen: Seen)
 }
 
 /// The first row with this id, if there is one.
-pub(crate) fn find<'a>(rows: &'a Rows, id: &Digest) -> Option<&'a Seen>
+pub(crate) fn find<'a>(rows: &'a Rows, id: &Digest) -> Option<&'a Seen<ShardedRow>>
     ensures { AreFiled rows.now.entries → option_map seen_row (option_copied result) ≡ find_seen id.now.0 (filed_rows rows.now.entries) }
 {
     let _size = rows.len();
@@ -49,7 +50,7 @@ pub(crate) fn find<'a>(rows: &'a Rows, id: &Digest) -> Option<&'a Seen>
 }
 
 // Counts one more done step at each of these rows.
-fn count_all(list: &mut [Seen])
+fn count_all(list: &mut [Seen<ShardedRow>])
     requires { (q : SeenRow) → IsIn q (each seen_row list.old) → q.done < 2 ^ 32 - 1 }
     ensures { each seen_row list.new ≡ each once_more (each seen_row list.old) }
 {

@@ -6,9 +6,10 @@ ghost use Rattle.replay_scene.specs.Spaces.{bare, seen_in, standing_row};
 ghost use Rattle.replay_shards.specs.Hands.{IsOpened};
 ghost use Rattle.replay_shards.specs.Rows.{filed_rows, own_built, seen_row};
 
-use crate::bits::{is_set, row_shards};
+use crate::bits::is_set;
 use crate::kept::Kept;
 use crate::rows::Rows;
+use crate::sharded::ShardedRow;
 use replay_space::Seen;
 use rho_term::Op;
 use space_row::Row;
@@ -39,23 +40,28 @@ impl Model for ReplayShard {
 }
 
 // Operations as the rows that they are. Want of memory is the one error.
-fn as_rows(alloc: Global, operations: Vec<Op>) -> Result<Vec<Row>, AllocError>
+fn as_rows(alloc: Global, operations: Vec<Op>) -> Result<Vec<ShardedRow>, AllocError>
     requires { All (λ o. IsStorable (row_of_op o)) operations.items }
     ensures { IfOk result (λ v. v.items ≡ each row_of_op operations.items) }
 {
     let mut rows = Vec::new(alloc);
     for operation in operations {
-        rows.push(Row::from_op(operation))?;
+        rows.push(ShardedRow::from_row(alloc, Row::from_op(operation))?)?;
     }
     Ok(rows)
 }
 
 // Adds a receiver that stands from the start, if it stands in the shard of this number.
-fn add_if(alloc: Global, built: &mut Vec<Seen>, row: &Row, number: u32) -> Result<(), AllocError>
+fn add_if(
+    alloc: Global,
+    built: &mut Vec<Seen<ShardedRow>>,
+    row: &ShardedRow,
+    number: u32,
+) -> Result<(), AllocError>
     requires { number < 64 }
     ensures { OnOk result (each seen_row built.new.items ≡ each seen_row built.old.items ++ filter (seen_in number) (standing_row row.now ∷ [])) }
 {
-    if !is_set(row_shards(alloc, row)?, number) {
+    if !is_set(row.shards(), number) {
         return Ok(());
     }
     let row = row.copy(alloc)?;
@@ -68,7 +74,7 @@ fn add_if(alloc: Global, built: &mut Vec<Seen>, row: &Row, number: u32) -> Resul
 }
 
 // The built-in receivers of the shard of this number. Want of memory is the one error.
-fn own_receivers(alloc: Global, number: u32) -> Result<Vec<Seen>, AllocError>
+fn own_receivers(alloc: Global, number: u32) -> Result<Vec<Seen<ShardedRow>>, AllocError>
     requires { number < 64 }
     ensures { IfOk result (λ v. each seen_row v.items ≡ own_built number) }
 {
@@ -98,7 +104,7 @@ impl ReplayShard {
     }
 
     /// Its rows. Want of memory is the one error.
-    pub fn into_rows(self, alloc: Global) -> Result<Vec<Row>, AllocError>
+    pub fn into_rows(self, alloc: Global) -> Result<Vec<ShardedRow>, AllocError>
         ensures { IfOk result (λ v. v.items ≡ bare self.rows) }
     {
         let kept = self.kept;
@@ -107,7 +113,7 @@ impl ReplayShard {
 }
 
 // Adds rows at the end.
-fn add_rows(rows: &mut Vec<Row>, list: Vec<Seen>) -> Result<(), AllocError>
+fn add_rows(rows: &mut Vec<ShardedRow>, list: Vec<Seen<ShardedRow>>) -> Result<(), AllocError>
     ensures { OnOk result (rows.new.items ≡ rows.old.items ++ bare (each seen_row list.items)) }
 {
     for seen in list {
@@ -117,7 +123,7 @@ fn add_rows(rows: &mut Vec<Row>, list: Vec<Seen>) -> Result<(), AllocError>
 }
 
 // The rows of a map from ids.
-fn rows_out(alloc: Global, filed: Rows) -> Result<Vec<Row>, AllocError>
+fn rows_out(alloc: Global, filed: Rows) -> Result<Vec<ShardedRow>, AllocError>
     ensures { IfOk result (λ v. v.items ≡ bare (filed_rows filed.entries)) }
 {
     let mut rows = Vec::new(alloc);

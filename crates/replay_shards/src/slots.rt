@@ -4,16 +4,17 @@ ghost use Rattle.event_log.specs.View.{step_of};
 ghost use Rattle.replay_scene.specs.Spaces.{IndexTry, new_row};
 ghost use Rattle.replay_scene.specs.Entries.{arrives};
 ghost use Rattle.shard_rows.specs.Shards.{stands_in};
-ghost use Rattle.replay_shards.specs.Hands.{all_shown, has_bit, parts_of, shard_at, shown_at, AreSlotsFiled, GainsRow, GainsSeen, HasRoomAt, IsSlotFiled, TouchedBecome};
+ghost use Rattle.replay_shards.specs.Bits.{has_bit};
+ghost use Rattle.replay_shards.specs.Hands.{all_shown, parts_of, shard_at, shown_at, AreSlotsFiled, GainsRow, GainsSeen, HasRoomAt, IsSlotFiled, TouchedBecome};
 ghost use Rattle.replay_shards.specs.Rows.{arrived_seen, part_of, settled_part, AreLow};
 
 use crate::bits::is_set;
 use crate::kept::{Kept, settle_shard};
 use crate::rows::{make_room, put};
+use crate::sharded::ShardedRow;
 use calculus::Digest;
 use event_log::LogStep;
 use replay_space::Seen;
-use space_row::Row;
 use std::alloc::{AllocError, Global};
 
 /// A place for a shard.
@@ -57,10 +58,10 @@ pub(crate) fn make_room_all(
 // A copy of a row that arrives, if it is wanted.
 fn copy_if(
     alloc: Global,
-    row: &Row,
+    row: &ShardedRow,
     from: Option<u32>,
     wanted: bool,
-) -> Result<Option<Seen>, AllocError>
+) -> Result<Option<Seen<ShardedRow>>, AllocError>
     ensures { IfOk result (λ o. o ≡ cond wanted (Some (arrived_seen row.now from)) None) }
 {
     if !wanted {
@@ -73,10 +74,10 @@ fn copy_if(
 /// Copies of a row that arrives, one for each of these shards.
 pub(crate) fn make_copies(
     alloc: Global,
-    row: &Row,
+    row: &ShardedRow,
     from: Option<u32>,
     shards: u64,
-) -> Result<Vec<Option<Seen>>, AllocError>
+) -> Result<Vec<Option<Seen<ShardedRow>>>, AllocError>
     ensures long { IfOk result (λ v. length v.items ≡ 64) }
     ensures are { IfOk result (λ v. (k : ℕ) → k < 64 → slice_index_or v.items k None ≡ cond (has_bit shards k) (Some (arrived_seen row.now from)) None) }
 {
@@ -88,8 +89,8 @@ pub(crate) fn make_copies(
 }
 
 // Puts a copy of a row into a shard that is there and has room for it.
-fn put_at(slot: &mut Slot, copy: Option<Seen>)
-    requires { (s : Seen) → copy ≡ Some s → HasRoomAt s.row.id slot.old }
+fn put_at(slot: &mut Slot, copy: Option<Seen<ShardedRow>>)
+    requires { (s : Seen ShardedRow) → copy ≡ Some s → HasRoomAt s.row.id slot.old }
     ensures { GainsRow copy slot.old slot.new }
 {
     if let Some(seen) = copy {
@@ -100,7 +101,12 @@ fn put_at(slot: &mut Slot, copy: Option<Seen>)
 }
 
 // A row arrives in a shard that is there. Where memory is wanted, the shard shows what it did.
-fn arrive_one(alloc: Global, slot: &mut Slot, row: Row, from: Option<u32>) -> Result<(), AllocError>
+fn arrive_one(
+    alloc: Global,
+    slot: &mut Slot,
+    row: ShardedRow,
+    from: Option<u32>,
+) -> Result<(), AllocError>
     requires { IsSome slot.old }
     ensures back { OnErr result (option_map part_of slot.new ≡ option_map part_of slot.old) }
     ensures filed { IsSlotFiled slot.old → IsSlotFiled slot.new }
@@ -115,7 +121,7 @@ fn arrive_one(alloc: Global, slot: &mut Slot, row: Row, from: Option<u32>) -> Re
 pub(crate) fn arrive_at(
     alloc: Global,
     slots: &mut Vec<Slot>,
-    row: Row,
+    row: ShardedRow,
     from: Option<u32>,
     number: u32,
 ) -> Result<(), AllocError>
@@ -131,10 +137,10 @@ pub(crate) fn arrive_at(
 }
 
 /// Puts copies of a row into the shards at their places, which have room for them.
-pub(crate) fn put_all(slots: &mut Vec<Slot>, copies: Vec<Option<Seen>>)
+pub(crate) fn put_all(slots: &mut Vec<Slot>, copies: Vec<Option<Seen<ShardedRow>>>)
     requires long { length slots.old.items ≡ 64 }
     requires many { length copies.items ≡ 64 }
-    requires room { (k : ℕ) (s : Seen) → slice_index_or copies.items k None ≡ Some s → HasRoomAt s.row.id (slice_index_or slots.old.items k None) }
+    requires room { (k : ℕ) (s : Seen ShardedRow) → slice_index_or copies.items k None ≡ Some s → HasRoomAt s.row.id (slice_index_or slots.old.items k None) }
     ensures long { length slots.new.items ≡ 64 }
     ensures put { (k : ℕ) → GainsRow (slice_index_or copies.items k None) (slice_index_or slots.old.items k None) (slice_index_or slots.new.items k None) }
 {
@@ -149,7 +155,7 @@ pub(crate) fn put_all(slots: &mut Vec<Slot>, copies: Vec<Option<Seen>>)
 pub(crate) fn arrive_in(
     alloc: Global,
     slots: &mut Vec<Slot>,
-    row: &Row,
+    row: &ShardedRow,
     from: Option<u32>,
     shards: u64,
 ) -> Result<(), AllocError>

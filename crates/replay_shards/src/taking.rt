@@ -9,6 +9,7 @@ ghost use Rattle.replay_shards.specs.Hands.{all_shown, parts_of, AreSlotsFiled};
 ghost use Rattle.replay_shards.specs.Taken.{bytes_of, AreTaken, IsNotTaken, IsTaken, OneIsNotTaken};
 
 use crate::finding::find_in;
+use crate::sharded::ShardedRow;
 use crate::slots::Slot;
 use calculus::Digest;
 use replay_space::{Rig, Seen};
@@ -27,7 +28,7 @@ fn is_lower(from: Option<u32>, step: u32) -> bool
 
 // Whether a step is the next use of a row, which was not offered by this step or a later one. The step names the row at this
 // place.
-fn is_turn(rig: &Rig, seen: &Seen, step: u32, place: usize) -> bool
+fn is_turn(rig: &Rig, seen: &Seen<ShardedRow>, step: u32, place: usize) -> bool
     ensures { (ss : List Step) → IsRigOf ss rig.now → Decides result ((slice_get (uses seen.now.row.id 0 ss) seen.now.done ≡ Some step) × IsLower seen.now.from step) }
 {
     if !is_lower(seen.from, step) {
@@ -57,7 +58,7 @@ pub(crate) fn lend_row<'a>(
             if !is_turn(rig, seen, step, place) {
                 return None;
             }
-            Some(&seen.row)
+            Some(seen.row.row())
         }
     }
 }

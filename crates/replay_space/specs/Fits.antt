@@ -1,6 +1,7 @@
 -- Rows that fit a step of a log, by what is kept of them.
 use Rattle.std.specs.Prelude.{◌≡◌, ◌↔◌, true, ◌&&◌, ◌||◌, eqb, List, [], ◌∷◌, ◌++◌, count_by, Some, None}
 use Rattle.calculus.specs.Log.{Step}
+use Rattle.calculus.specs.Rows.{Row}
 use Rattle.calculus.specs.Steps.{Meeting, differ, same_meeting, meeting}
 use Rattle.calculus.specs.Runs.{Deploy, Work}
 use Rattle.events.specs.Events.{stored}
@@ -13,7 +14,7 @@ use Rattle.replay_space.specs.declared.seen.Seen.{Seen}
 use Rattle.replay_space.specs.Kept.{SeenRow, bare, Throughout, IsSeen, IsTheirTurn}
 
 -- what is kept of a row
-abbrev pub seen_of : Seen → SeenRow
+abbrev pub seen_of : Seen Row → SeenRow
 seen_of q = record { row = q.row; from = q.from; done = q.done }
 
 -- Rows fit a step that stands in the log after these: they have the ids that it names, those of its data differ, and they meet; the step is the next use of each, and none was offered by a

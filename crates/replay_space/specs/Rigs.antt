@@ -10,6 +10,8 @@ use Rattle.calculus.specs.Steps.{is_one_of, same_ids, same_meeting}
 use Rattle.racing_replays.specs.Replaying.{names}
 use Rattle.racing_replays.specs.Counted.{names_id, uses}
 use Rattle.replay_space.specs.declared.lists.Lists.{Lists}
+use Rattle.replay_space.specs.declared.naming.Naming.{Naming}
+use Rattle.replay_space.specs.declared.naming.Namings.{Namings}
 use Rattle.replay_space.specs.declared.draft.Draft.{Draft}
 use Rattle.replay_space.specs.declared.index.Index.{Index}
 use Rattle.replay_space.specs.declared.rig.Rig.{Rig}
@@ -57,6 +59,15 @@ used es ls x = list_of ls (number_of es x)
 abbrev pub AreUses : List Step → List (List ℕ) → (List ℕ → List ℕ) → Type 0
 AreUses ss ids u = (x : List ℕ) → u x ≡ uses x 0 ss ++ cond (is_one_of x ids) (length ss ∷ []) []
 
+-- the steps that name an id, by what is named
+abbrev pub steps_in : List ℕ → List Naming → List ℕ
+steps_in x [] = []
+steps_in x (n ∷ ns) = cond (bytes_eq x n.id) (n.step ∷ steps_in x ns) (steps_in x ns)
+
+-- the ids that these steps name, and these of a further step
+abbrev pub AreNamed : List Step → List (List ℕ) → Namings → Type 0
+AreNamed ss further v = AreUses ss further (λ x. steps_in x v.all.items)
+
 -- each number has a list
 abbrev pub AreLow : List Numbered → List (List ℕ) → Type 0
 AreLow es ls = (x : List ℕ) (n : ℕ) → number_of es x ≡ Some n → n < length ls
@@ -65,15 +76,12 @@ AreLow es ls = (x : List ℕ) (n : ℕ) → number_of es x ≡ Some n → n < le
 abbrev pub AreNumbered : List Numbered → List (List ℕ) → Type 0
 AreNumbered es ids = (x : List ℕ) (n : ℕ) → (number_of es x ≡ Some n) ↔ (slice_get ids n ≡ Some x)
 
--- the ids that these steps name, and these of a further step: the number of each, and its uses under its number
-pub record IsDraft (ss : List Step) (further : List (List ℕ)) (d : Draft) : Type 0 where
-  pub uses : AreUses ss further (used d.numbers.entries (items_of d.uses.items))
+-- the ids that are named: the number of each, and the steps that name it under its number
+pub record IsDraft (ns : List Naming) (d : Draft) : Type 0 where
+  pub uses : (x : List ℕ) → used d.numbers.entries (items_of d.uses.items) x ≡ steps_in x ns
   pub numbered : AreNumbered d.numbers.entries d.ids.items
   pub many : length d.ids.items ≡ length d.uses.items
-
--- each number of a draft has a list
-abbrev pub HaveLists : Draft → Type 0
-HaveLists d = AreLow d.numbers.entries (items_of d.uses.items)
+  pub low : AreLow d.numbers.entries (items_of d.uses.items)
 
 -- one of the ids that a step names has no other use in the log
 pub record IsLone (log : List Step) (s : Step) : Type 0 where

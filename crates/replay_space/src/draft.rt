@@ -1,38 +1,22 @@
 // The ids that steps name, with their numbers and their uses.
-ghost use Rattle.std.specs.Prelude.{◌≡◌, ◌<◌, ◌≤◌, ◌+◌, ◌^◌, ◌++◌, ◌∷◌, [], List, ℕ, length, IfOk};
-ghost use Rattle.calculus.specs.Log.{Step};
-ghost use Rattle.event_log.specs.View.{step_of};
-ghost use Rattle.replay_space.specs.Rigs.{HaveLists, IsDraft};
+ghost use Rattle.std.specs.Prelude.{◌≡◌, ◌<◌, ◌≤◌, ◌-◌, ◌+◌, ◌^◌, ◌++◌, ◌∷◌, [], List, Some, length, slice_get, IfOk, IfSome};
+ghost use Rattle.replay_space.specs.Rigs.{number_of, AreNumbered, IsDraft};
 
-use crate::lists::Lists;
-use calculus::Digest;
-use event_log::LogStep;
+use crate::naming::Naming;
 use std::alloc::{AllocError, Global};
 use std::collections::BTreeMap;
 
 /// The number of each id.
 pub(crate) type Numbers = BTreeMap<[u8; 32], u32>;
 
-/// The ids that steps name: the number of each, the steps that name it under that number, and for each step the numbers of
-/// its ids.
+/// The ids that steps name: the number of each, the steps that name it under that number, and the number at each place of
+/// what is named.
 #[derive(Drop)]
 pub(crate) struct Draft {
     pub(crate) numbers: Numbers,
     pub(crate) ids: Vec<[u8; 32]>,
     pub(crate) uses: Vec<Vec<u32>>,
-    pub(crate) names: Lists,
-}
-
-// Adds an index to the end of a list, unless it stands there.
-fn add_index(list: &mut Vec<u32>, index: u32) -> Result<(), AllocError>
-    ensures there { (l : List ℕ) → list.old.items ≡ l ++ index ∷ [] → IfOk result (λ _. list.new.items ≡ list.old.items) }
-    ensures new { ((l : List ℕ) → list.old.items ≡ l ++ index ∷ [] → ⊥) → IfOk result (λ _. list.new.items ≡ list.old.items ++ index ∷ []) }
-{
-    if list.last() == Some(&index) {
-        return Ok(());
-    }
-    list.push(index)?;
-    Ok(())
+    pub(crate) names: Vec<u32>,
 }
 
 // A list of one index.
@@ -44,67 +28,94 @@ fn one_index(alloc: Global, index: u32) -> Result<Vec<u32>, AllocError>
     Ok(list)
 }
 
+// So many zeros.
+fn zeros(alloc: Global, count: usize) -> Result<Vec<u32>, AllocError> {
+    let mut list = Vec::new(alloc);
+    for _ in 0..count {
+        list.push(0)?;
+    }
+    Ok(list)
+}
+
+// Writes the number at a place, if there is such a place.
+fn write_at(names: &mut Vec<u32>, place: u32, number: u32) {
+    if let Some(name) = names.get_mut(place as usize) {
+        *name = number;
+    }
+}
+
 impl Draft {
-    /// What is kept of no steps.
-    pub(crate) fn new(alloc: Global) -> Draft
-        ensures drafted { IsDraft [] [] result }
-        ensures low { HaveLists result }
-        ensures none { length result.uses.items ≡ 0 }
+    /// What is kept of no namings, where so many come. Want of memory is the one error.
+    pub(crate) fn new(alloc: Global, count: usize) -> Result<Draft, AllocError>
+        ensures drafted { IfOk result (IsDraft []) }
+        ensures none { IfOk result (λ d. length d.uses.items ≡ 0) }
     {
-        Draft {
+        let names = zeros(alloc, count)?;
+        Ok(Draft {
             numbers: BTreeMap::new(alloc),
             ids: Vec::new(alloc),
             uses: Vec::new(alloc),
-            names: Lists::new(alloc),
+            names,
+        })
+    }
+
+    // The number of the last id, where it is this one.
+    fn last_number(&self, id: &[u8; 32]) -> Option<u32>
+        requires { length self.now.ids.items < 2 ^ 32 }
+        ensures { IfSome result (λ n. slice_get self.now.ids.items n ≡ Some id.now) }
+    {
+        let last = self.ids.last()?;
+        if last != id {
+            return None;
+        }
+        Some((self.ids.len() - 1) as u32)
+    }
+
+    // The number of an id, if it has one. That of the last one is not looked up.
+    fn number_of(&self, id: &[u8; 32]) -> Option<u32>
+        requires few { length self.now.ids.items < 2 ^ 32 }
+        requires numbered { AreNumbered self.now.numbers.entries self.now.ids.items }
+        ensures { result ≡ number_of self.now.numbers.entries id.now }
+    {
+        match self.last_number(id) {
+            Some(number) => Some(number),
+            None => self.numbers.get(id).copied(),
         }
     }
 
-    // Adds the index of a step that names this id, unless it was added for this step before, and the id's number to those of
-    // the step. Want of memory is the one error.
-    fn add_use(&mut self, alloc: Global, id: &Digest, index: u32) -> Result<(), AllocError>
-        requires few { length self.old.uses.items < 2 ^ 32 }
-        requires low { HaveLists self.old }
-        ensures drafted { (before : List Step) (ids : List (List ℕ)) → length before ≡ index → IsDraft before ids self.old
-            → IfOk result (λ _. IsDraft before (ids ++ id.now.0 ∷ []) self.new) }
+    /// Adds a naming. Those of one id are best added one behind the other. Want of memory is the one error.
+    pub(crate) fn add(&mut self, alloc: Global, naming: &Naming) -> Result<(), AllocError>
+        requires few { length self.old.uses.items < 2 ^ 32 - 1 }
+        requires drafted { (ns : List Naming) × IsDraft ns self.old }
+        ensures drafted { (ns : List Naming) → IsDraft ns self.old → IfOk result (λ _. IsDraft (ns ++ naming.now ∷ []) self.new) }
         ensures few { IfOk result (λ _. length self.new.uses.items ≤ length self.old.uses.items + 1) }
-        ensures low { IfOk result (λ _. HaveLists self.new) }
     {
         let next = self.uses.len() as u32;
-        match self.numbers.get(&id.0) {
+        match self.number_of(&naming.id) {
             Some(number) => {
-                let number = *number;
-                add_index(&mut self.uses[number as usize], index)?;
-                self.names.push(number)?;
+                self.uses[number as usize].push(naming.step)?;
+                write_at(&mut self.names, naming.place, number);
             }
             None => {
-                let list = one_index(alloc, index)?;
-                self.numbers.insert(id.0, next)?;
-                self.ids.push(id.0)?;
+                let list = one_index(alloc, naming.step)?;
+                self.numbers.insert(naming.id, next)?;
+                self.ids.push(naming.id)?;
                 self.uses.push(list)?;
-                self.names.push(next)?;
+                write_at(&mut self.names, naming.place, next);
             }
         }
         Ok(())
     }
 
-    /// Adds the index of a step under each id that it names. Want of memory is the one error.
-    pub(crate) fn add_step(
-        &mut self,
-        alloc: Global,
-        step: &LogStep,
-        index: u32,
-    ) -> Result<(), AllocError>
-        requires few { length self.old.uses.items + 1 + length step.now.taken.items < 2 ^ 32 }
-        requires low { HaveLists self.old }
-        ensures drafted { (before : List Step) → length before ≡ index → IsDraft before [] self.old
-            → IfOk result (λ _. IsDraft (before ++ step_of step.now ∷ []) [] self.new) }
-        ensures few { IfOk result (λ _. length self.new.uses.items ≤ length self.old.uses.items + 1 + length step.now.taken.items) }
-        ensures low { IfOk result (λ _. HaveLists self.new) }
+    /// What is kept of these namings. Want of memory is the one error.
+    pub(crate) fn from_namings(alloc: Global, namings: &[Naming]) -> Result<Draft, AllocError>
+        requires { length namings.now < 2 ^ 32 - 1 }
+        ensures { IfOk result (IsDraft namings.now) }
     {
-        self.add_use(alloc, &step.cont, index)?;
-        for id in step.taken.as_slice() {
-            self.add_use(alloc, id, index)?;
+        let mut draft = Draft::new(alloc, namings.len())?;
+        for naming in namings {
+            draft.add(alloc, naming)?;
         }
-        self.names.end_list()
+        Ok(draft)
     }
 }

@@ -6,10 +6,11 @@ ghost use Rattle.calculus.specs.Log.{Step};
 ghost use Rattle.event_log.specs.declared.log.TheConstants.{MOST_STEPS};
 ghost use Rattle.event_log.specs.View.{step_of, steps_of, TakesInRange};
 ghost use Rattle.racing_replays.specs.Counted.{uses};
-ghost use Rattle.replay_space.specs.Rigs.{HaveLists, IsDraft, IsIndexOf, IsLone};
+ghost use Rattle.replay_space.specs.Rigs.{IsIndexOf, IsLone};
 
 use crate::draft::{Draft, Numbers};
 use crate::lists::Lists;
+use crate::naming::{Namings, by_id};
 use calculus::Digest;
 use event_log::LogStep;
 use std::alloc::{AllocError, Global};
@@ -22,20 +23,6 @@ pub(crate) struct Index {
     ids: Vec<[u8; 32]>,
     uses: Lists,
     names: Lists,
-}
-
-// What is kept of steps, before the lists of uses stand one behind the other.
-fn draft_of(alloc: Global, steps: &[LogStep]) -> Result<Draft, AllocError>
-    requires few { length steps.now ≤ MOST_STEPS }
-    requires taken { All TakesInRange steps.now }
-    ensures drafted { IfOk result (IsDraft (steps_of steps.now) []) }
-    ensures low { IfOk result HaveLists }
-{
-    let mut draft = Draft::new(alloc);
-    for i in 0..steps.len() {
-        draft.add_step(alloc, &steps[i], i as u32)?;
-    }
-    Ok(draft)
 }
 
 // Whether these bytes are an id.
@@ -52,13 +39,15 @@ impl Index {
         requires taken { All TakesInRange steps.now }
         ensures { IfOk result (IsIndexOf (steps_of steps.now)) }
     {
-        let draft = draft_of(alloc, steps)?;
+        let Namings { all, ends } = Namings::from_steps(alloc, steps)?;
+        let namings = by_id(all)?;
+        let draft = Draft::from_namings(alloc, namings.as_slice())?;
         let uses = Lists::from_vecs(alloc, draft.uses)?;
         Ok(Index {
             numbers: draft.numbers,
             ids: draft.ids,
             uses,
-            names: draft.names,
+            names: Lists::from_ends(ends, draft.names),
         })
     }
 

@@ -6,6 +6,7 @@ pub mod examples;
 mod index;
 pub mod laws;
 mod lists;
+mod naming;
 mod repeats;
 pub mod rig;
 pub mod seen;

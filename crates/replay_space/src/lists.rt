@@ -61,6 +61,11 @@ impl Lists {
         Ok(lists)
     }
 
+    /// The lists that end at these places among these numbers. Nothing is known of them.
+    pub(crate) fn from_ends(ends: Vec<usize>, values: Vec<u32>) -> Lists {
+        Lists { ends, values }
+    }
+
     // Where the list of this number begins: where the one before it ends.
     fn start(&self, number: usize) -> usize
         ensures { (ls : List (List ℕ)) → AreLists ls [] self.now → number < length ls → result ≡ length (joined (take number ls)) }

@@ -9,6 +9,7 @@ ghost use Rattle.replay_space.specs.Fits.{seen_of};
 
 use crate::rig::Rig;
 use crate::seen::Seen;
+use space_row::Row;
 
 // Whether a row stands from the start or was offered by a step below this one.
 fn is_from_below(from: Option<u32>, step: u32) -> bool
@@ -21,7 +22,7 @@ fn is_from_below(from: Option<u32>, step: u32) -> bool
 }
 
 // Whether a step is the next use of a row that it names, which was not offered by this step or a later one.
-fn is_turn(rig: &Rig, seen: &Seen, step: u32) -> bool
+fn is_turn(rig: &Rig, seen: &Seen<Row>, step: u32) -> bool
     ensures { (ss before : List Step) (s : Step) (after : List Step) → IsRigOf ss rig.now → ss ≡ before ++ s ∷ after → length before ≡ step → names_id seen.now.row.id s ≡ true
         → Decides result (IsTheirTurn before (seen_of seen.now ∷ [])) }
 {
@@ -36,9 +37,9 @@ fn is_turn(rig: &Rig, seen: &Seen, step: u32) -> bool
 
 /// Whether a step is the next use of each of these rows, which it names, and none was offered by this step or a later
 /// one.
-pub fn are_turns(rig: &Rig, rows: &[Seen], step: u32) -> bool
+pub fn are_turns(rig: &Rig, rows: &[Seen<Row>], step: u32) -> bool
     ensures { (ss before : List Step) (s : Step) (after : List Step) → IsRigOf ss rig.now → ss ≡ before ++ s ∷ after → length before ≡ step
-        → Throughout (λ (q : Seen). names_id q.row.id s ≡ true) rows.now → Decides result (IsTheirTurn before (map seen_of rows.now)) }
+        → Throughout (λ (q : Seen Row). names_id q.row.id s ≡ true) rows.now → Decides result (IsTheirTurn before (map seen_of rows.now)) }
 {
     match rows {
         [] => true,

@@ -1,5 +1,5 @@
 -- The shards of a store.
-use Rattle.std.specs.Prelude.{◌≡◌, ◌<◌, ℕ, List, Some, slice_get, IsSome}
+use Rattle.std.specs.Prelude.{◌≡◌, ◌<◌, ℕ, List, map as each, Some, slice_get, IsSome}
 use Rattle.calculus.specs.Rows.{Row}
 use Rattle.shard_rows.specs.Shards.{IsProjection}
 use Rattle.replay_scene.specs.Spaces.{bare, Part}
@@ -24,3 +24,7 @@ AreOpenedShards rows xs = (k : ℕ) (x : Part) → slice_get xs k ≡ Some x →
 -- each shard has the rows of a store that stand in the shard of its number, in some order
 abbrev pub AreShardsOf : List Row → List Part → Type 0
 AreShardsOf store xs = (k : ℕ) (x : Part) → slice_get xs k ≡ Some x → IsProjection store k (bare x.rows)
+
+-- the rows of each of these shards
+abbrev pub bare_shards : List Part → List (List Row)
+bare_shards xs = each (λ x. bare x.rows) xs

@@ -3,27 +3,12 @@ ghost use Rattle.std.specs.Prelude.{◌≡◌, ◌≢◌, ◌++◌, [], List, eq
 ghost use Rattle.calculus.specs.Rows.{channels, Row as StoredRow};
 ghost use Rattle.events.specs.Found.{Among};
 ghost use Rattle.replay_scene.specs.Spaces.{bare};
-ghost use Rattle.replay_store.specs.Homes.{bare_shards, gathered, home};
-ghost use Rattle.replay_store.specs.Stores.{AreShardsOf};
+ghost use Rattle.replay_store.specs.Stores.{bare_shards, AreShardsOf};
+ghost use Rattle.row_homes.specs.Homes.{gathered, home};
 
 use replay_shards::ReplayShard;
-use rho_term::Op;
 use space_row::Row;
 use std::alloc::{AllocError, Global};
-use term_encoder::shard_of;
-
-// The shard of a row's first channel, and 64 where it has none. Want of memory is the one error.
-fn home_of(alloc: Global, row: &Row) -> Result<u32, AllocError>
-    ensures { IfOk result (λ k. k ≡ home row.now) }
-{
-    match row.op() {
-        Op::Produce { channel, .. } => shard_of(alloc, channel),
-        Op::Consume { binds, .. } => match binds.first() {
-            Some(bind) => shard_of(alloc, &bind.channel),
-            None => Ok(64),
-        },
-    }
-}
 
 // Adds those of a shard's rows whose first channel is in the shard of this number. Want of memory is the one error.
 fn gather_one(
@@ -35,8 +20,8 @@ fn gather_one(
     ensures { OnOk result (rows.new.items ≡ rows.old.items ++ filter (λ r. eqb (home r) number) (bare shard.rows)) }
 {
     for row in shard.into_rows(alloc)? {
-        if home_of(alloc, &row)? as usize == number {
-            rows.push(row)?;
+        if row.first_shard() as usize == number {
+            rows.push(row.into_row())?;
         }
     }
     Ok(())

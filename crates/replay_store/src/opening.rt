@@ -6,7 +6,7 @@ ghost use Rattle.replay_scene.specs.Spaces.{Part};
 ghost use Rattle.replay_shards.specs.Hands.{shard_at};
 ghost use Rattle.replay_store.specs.Stores.{AreAll, AreOpened, AreOpenedShards};
 
-use replay_shards::{ReplayHeld, ReplayShard, row_shards};
+use replay_shards::{ReplayHeld, ReplayShard, ShardedRow};
 use space_row::Row;
 use std::alloc::{AllocError, Global};
 
@@ -28,8 +28,9 @@ fn bring_in(alloc: Global, held: &mut ReplayHeld, row: &Row) -> Result<(), Alloc
     ensures opened { (rows : List StoredRow) → AreOpened rows held.old → OnOk result (AreOpened (rows ++ row.now ∷ []) held.new) }
 {
     let _operation = row.op();
-    let shards = row_shards(alloc, row)?;
-    held.arrive(alloc, row.copy(alloc)?, None, shards)
+    let row = ShardedRow::from_row(alloc, row.copy(alloc)?)?;
+    let shards = row.shards();
+    held.arrive(alloc, row, None, shards)
 }
 
 // The shards in hand, in the order of their numbers. Want of memory is the one error.

@@ -8,9 +8,9 @@ use Rattle.calculus.specs.Tree.{Tree}
 use Rattle.calculus.specs.Log.{Step}
 use Rattle.calculus.specs.Rows.{Row}
 use Rattle.calculus.specs.Runs.{Deploy}
-use Rattle.group_locks.specs.Counts.{count, Each}
-use Rattle.group_locks.specs.Meaning.{Meaning, Follows, Passes}
-use Rattle.group_locks.specs.Rule.{Carries}
+use Rattle.hub_rule.specs.Counts.{count, Each}
+use Rattle.hub_rule.specs.Meaning.{Meaning, Follows, Passes}
+use Rattle.hub_rule.specs.Rule.{Carries}
 use Rattle.shard_rows.specs.Shards.{stands_in, Covers}
 use Rattle.replay_scene.specs.Spaces.{IndexTry, Part}
 use Rattle.replay_scene.specs.Entries.{Deed, arrives}

@@ -1,7 +1,7 @@
 // How a job ends.
 ghost use Rattle.std.specs.Prelude.{◌≡◌, ◌<◌, ℕ, [], true, false, None};
-ghost use Rattle.group_locks.specs.Counts.{things_of};
-ghost use Rattle.group_locks.specs.Rule.{Carries};
+ghost use Rattle.hub_rule.specs.Counts.{things_of};
+ghost use Rattle.hub_rule.specs.Rule.{Carries};
 ghost use Rattle.group_locks.specs.Seats.{home_of, held_by, since_of, due_of, hand_of, taken_by, offered_by, stops_of, AtRest};
 ghost use Rattle.replay_hub.specs.Values.{values};
 

@@ -2,8 +2,8 @@
 ghost use Rattle.std.specs.Prelude.{◌≡◌, ◌<◌, ℕ, [], ◌∷◌, true, false, None, is_some};
 ghost use Rattle.std.specs.Int.{bit_at};
 ghost use Rattle.calculus.specs.Storing.{shard};
-ghost use Rattle.group_locks.specs.Counts.{count, things_of};
-ghost use Rattle.group_locks.specs.Rule.{Carries};
+ghost use Rattle.hub_rule.specs.Counts.{count, things_of};
+ghost use Rattle.hub_rule.specs.Rule.{Carries};
 ghost use Rattle.group_locks.specs.Seats.{home_of, held_by, since_of, due_of, hand_of, taken_by, offered_by, stops_of, AtRest, HasLeave, HasRoom};
 ghost use Rattle.replay_hub.specs.declared.deed.Task.TheVariants.{Index};
 ghost use Rattle.replay_hub.specs.Values.{has_bit, values};

@@ -11,10 +11,8 @@ use event_log::LogStep;
 use name_seed::Seed;
 use price_table::Prices;
 use replay_hub::{Made, Try};
-use replay_shards::Ready;
+use replay_shards::{Ready, ShardedChannel, ShardedRow, sharded_rows};
 use replay_worker::Doing;
-use rho_term::Term;
-use space_row::Row;
 use std::alloc::{AllocError, Global};
 use std::snapshot::Snapshot;
 use step_work::{line_of, work_body};
@@ -36,9 +34,9 @@ pub(crate) fn make_step(
     prices: &Prices,
     limit: u64,
     step: &LogStep,
-    tried: &Try<Term>,
+    tried: &Try<ShardedChannel>,
     ready: Ready,
-) -> Result<Doing<Row, Term>, AllocError>
+) -> Result<Doing<ShardedRow, ShardedChannel>, AllocError>
     requires limit { limit ≤ most_limit prices.now }
     requires taken { length step.now.taken.items ≤ 16 }
     requires bound { All IsClosed ready.found.bound.items }
@@ -58,18 +56,19 @@ pub(crate) fn make_step(
     )?;
     let line = kept_line(alloc, line_of(alloc, &found)?)?;
     let next = hub_tries(alloc, next)?;
+    let offers = sharded_rows(alloc, worked.offers)?;
     let made = Made {
         step: tried.step,
         channel: Snapshot::of(&tried.channel),
         made: Snapshot::of(step),
         gone: Snapshot::of(&found.gone),
-        offers: Snapshot::of(&worked.offers),
+        offers: Snapshot::of(&offers),
         next: Snapshot::of(&next),
         price: comm + worked.price,
         fault: worked.fault,
         line,
     };
-    let tasks = with_tries(arrivals(alloc, tried.step, worked.offers)?, next)?;
+    let tasks = with_tries(arrivals(alloc, tried.step, offers)?, next)?;
     Ok(Doing {
         made,
         gone: found.gone,

@@ -1,7 +1,6 @@
-//! Shards of a replay may cross threads, and threads may share a log that is replayed.
+//! Rows, channels and shards of a replay may cross threads, and threads may share a log that is replayed.
 use crate::log_replay::LogReplay;
-use replay_shards::{ReplayHeld, ReplayShard};
-use rho_term::Term;
+use replay_shards::{ReplayHeld, ReplayShard, ShardedChannel, ShardedRow};
 
 // Takes a thing that threads may share.
 fn shares<T: Sync>(_thing: &T) {}
@@ -10,11 +9,16 @@ fn shares<T: Sync>(_thing: &T) {}
 fn crosses<T: Send + Sync>(_thing: &T) {}
 
 /// A channel may cross threads, and threads may share it. The lemmas of these proofs serve callers.
-pub fn channel_crosses(channel: &Term) {
+pub fn channel_crosses(channel: &ShardedChannel) {
     crosses(channel);
 }
 
-/// So it is of a shard.
+/// So it is of a row.
+pub fn row_crosses(row: &ShardedRow) {
+    crosses(row);
+}
+
+/// And of a shard.
 pub fn shard_crosses(shard: &ReplayShard) {
     crosses(shard);
 }

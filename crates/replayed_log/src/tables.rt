@@ -14,18 +14,15 @@ use crate::making::make_step;
 use crate::names::ReplayNames;
 use crate::tries::{hub_tries, with_tries};
 use replay_hub::{Coming, ReplayTerms, Try};
-use replay_shards::{ReplayHeld, ReplayShard, first_tries, row_shards};
+use replay_shards::{ReplayHeld, ReplayShard, ShardedChannel, ShardedRow, first_tries};
 use replay_worker::{Arriving, Doing, Looked, ReplayTables};
-use rho_term::Term;
-use space_row::Row;
 use std::alloc::{AllocError, Global};
 use std::snapshot::Snapshot;
-use term_encoder::shard_of;
 
 impl<N: ReplayNames> ReplayTerms for LogReplay<N> {
-    type Row = Row;
+    type Row = ShardedRow;
 
-    type Channel = Term;
+    type Channel = ShardedChannel;
 
     type Shard = ReplayShard;
 
@@ -59,16 +56,16 @@ impl<N: ReplayNames> ReplayTables for LogReplay<N> {
         ReplayHeld::new(alloc)
     }
 
-    fn own_shard(&self, alloc: Global, channel: &Term) -> Result<u64, AllocError> {
-        Ok(bit_of(shard_of(alloc, channel)?))
+    fn own_shard(&self, _alloc: Global, channel: &ShardedChannel) -> Result<u64, AllocError> {
+        Ok(bit_of(channel.shard()))
     }
 
     fn prepare(
         &self,
         alloc: Global,
-        coming: &Coming<Row>,
-    ) -> Result<Arriving<Row, Term>, AllocError> {
-        let shards = row_shards(alloc, &coming.row)?;
+        coming: &Coming<ShardedRow>,
+    ) -> Result<Arriving<ShardedRow, ShardedChannel>, AllocError> {
+        let shards = coming.row.shards();
         let tries = hub_tries(alloc, first_tries(alloc, &self.rig, &coming.row)?)?;
         let next = Snapshot::of(&tries);
         let tasks = with_tries(Vec::new(alloc), tries)?;
@@ -83,7 +80,7 @@ impl<N: ReplayNames> ReplayTables for LogReplay<N> {
         &self,
         alloc: Global,
         held: &mut ReplayHeld,
-        coming: Coming<Row>,
+        coming: Coming<ShardedRow>,
         shards: u64,
     ) -> Result<(), AllocError>
         requires shards { (k : ℕ) → has_bit shards k ≡ stands_in k coming.row }
@@ -98,13 +95,13 @@ impl<N: ReplayNames> ReplayTables for LogReplay<N> {
         &self,
         alloc: Global,
         held: &ReplayHeld,
-        tried: &Try<Term>,
+        tried: &Try<ShardedChannel>,
         shards: u64,
-    ) -> Result<Looked<Row, Term>, AllocError> {
+    ) -> Result<Looked<ShardedRow, ShardedChannel>, AllocError> {
         if tried.step as usize >= self.log.steps.len() {
             return Ok(Looked::Idle);
         }
-        let Some(wanted) = held.step_shards(alloc, &self.log, tried.step)? else {
+        let Some(wanted) = held.step_shards(&self.log, tried.step) else {
             return Ok(Looked::Idle);
         };
         if missing(wanted, shards) != 0 {
@@ -118,7 +115,7 @@ impl<N: ReplayNames> ReplayTables for LogReplay<N> {
         Ok(Looked::Fits(doing))
     }
 
-    fn finish(&self, held: &mut ReplayHeld, doing: &Doing<Row, Term>) {
+    fn finish(&self, held: &mut ReplayHeld, doing: &Doing<ShardedRow, ShardedChannel>) {
         held.commit_done(&self.log, doing.made.step, doing.gone.as_slice());
     }
 }

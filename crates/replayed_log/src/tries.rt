@@ -5,13 +5,14 @@ ghost use Rattle.replay_shards.specs.Ready.{index_tries};
 ghost use Rattle.replayed_log.specs.Making.{seen_tries};
 
 use replay_hub::{Coming, Task, Try};
-use replay_shards::Try as ShardTry;
-use rho_term::Term;
-use space_row::Row;
+use replay_shards::{ShardedChannel, ShardedRow, Try as ShardTry};
 use std::alloc::{AllocError, Global};
 
 /// Tries as a hub has them. Want of memory is the one error.
-pub(crate) fn hub_tries(alloc: Global, tries: Vec<ShardTry>) -> Result<Vec<Try<Term>>, AllocError>
+pub(crate) fn hub_tries(
+    alloc: Global,
+    tries: Vec<ShardTry>,
+) -> Result<Vec<Try<ShardedChannel>>, AllocError>
     ensures { IfOk result (λ v. seen_tries v.items ≡ index_tries tries.items) }
 {
     let mut own = Vec::new(alloc);
@@ -28,8 +29,8 @@ pub(crate) fn hub_tries(alloc: Global, tries: Vec<ShardTry>) -> Result<Vec<Try<T
 pub(crate) fn arrivals(
     alloc: Global,
     step: u32,
-    rows: Vec<Row>,
-) -> Result<Vec<Task<Row, Term>>, AllocError>
+    rows: Vec<ShardedRow>,
+) -> Result<Vec<Task<ShardedRow, ShardedChannel>>, AllocError>
     ensures { IfOk result (λ v. v.items ≡ each (λ r. Arrive (record { row = r; from = Some step })) rows.items) }
 {
     let mut tasks = Vec::new(alloc);
@@ -44,9 +45,9 @@ pub(crate) fn arrivals(
 
 // Adds the jobs to try steps behind others. Want of memory is the one error.
 fn push_tries(
-    tasks: Vec<Task<Row, Term>>,
-    tries: Vec<Try<Term>>,
-) -> Result<Vec<Task<Row, Term>>, AllocError>
+    tasks: Vec<Task<ShardedRow, ShardedChannel>>,
+    tries: Vec<Try<ShardedChannel>>,
+) -> Result<Vec<Task<ShardedRow, ShardedChannel>>, AllocError>
     ensures { IfOk result (λ v. v.items ≡ tasks.items ++ each (λ t. Index t) tries.items) }
 {
     let mut all = tasks;
@@ -59,9 +60,9 @@ fn push_tries(
 /// The jobs with those to try steps behind them, fewer than a hub takes at once. More are want of memory, which is the one
 /// error.
 pub(crate) fn with_tries(
-    tasks: Vec<Task<Row, Term>>,
-    tries: Vec<Try<Term>>,
-) -> Result<Vec<Task<Row, Term>>, AllocError>
+    tasks: Vec<Task<ShardedRow, ShardedChannel>>,
+    tries: Vec<Try<ShardedChannel>>,
+) -> Result<Vec<Task<ShardedRow, ShardedChannel>>, AllocError>
     ensures are { IfOk result (λ v. v.items ≡ tasks.items ++ each (λ t. Index t) tries.items) }
     ensures few { IfOk result (λ v. length v.items < 2 ^ 57) }
 {

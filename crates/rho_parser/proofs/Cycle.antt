@@ -1,5 +1,5 @@
 -- The steps of descent of the forms that hold further processes.
-use Rattle.std.proofs.Common.{◌≡◌, ◌&&◌, ◌-◌, zero, suc, not, refl, Option, arith, ◌+◌, max, map, ◌++◌, ℕ, ◌<◌, List, ◌∷◌, [], Result, Ok, Err, None, subst, sym, ap, ◌∙◌, Bool, true, false}
+use Rattle.std.proofs.Common.{◌≡◌, ◌&&◌, ◌-◌, zero, suc, not, refl, Option, arith, ◌+◌, max, map, ◌++◌, ℕ, ◌<◌, List, ◌∷◌, [], Result, Ok, Err, None, Some, subst, sym, ap, ◌∙◌, Bool, true, false}
 use Rattle.std.specs.Prelude.{IfOk, MatchResult}
 use Rattle.std.specs.declared.alloc.Global.{Global}
 use Rattle.std.specs.declared.vec.Vec.{Vec}
@@ -28,21 +28,8 @@ use Rattle.token_cursor.specs.declared.level.Level.TheVariants as levels
 use Rattle.syntax_forms.specs.declared.part.Part.{Part}
 use Rattle.token_cursor.specs.Meaning.{view}
 use Rattle.token_cursor.specs.Reading.{Makes, Turns, sees_bind, sees_member, pairs_written, pat_pairs_written}
+use Rattle.form_steps.proofs.Turning.{as_rule, chosen, tails}
 use Rattle.token_cursor.proofs.Steps.{comma, ends, faulty, rows}
-
--- the value that is made of the parts, unless memory runs out
-pub built : {T : Type 0} {free : ℕ} {ts : List Terminal} (f : T → Written) (v : Spelt) (res : Result (Part T) Fault)
-    → MatchResult res (λ p. f p.value ≡ v.tree) (λ e. e ≡ NoMemory) → IfOk res (λ p. p.height ≡ v.height)
-    → Makes free (done v) (λ p. spelt (f p.value) p.height) ts res ts
-built f v (Ok p) e g = ends v (spelt (f p.value) p.height) e g
-built f v (Err d) e g = faulty d NoMemory e no_memory
-
--- a tail, at what was read, is the tail that the production says
-pub tails : {free : ℕ} {us : List Terminal} {out : Outcome} (tail : Spelt → Rule) (v w : Spelt) → w.tree ≡ v.tree → w.height ≡ v.height
-    → Runs Tutorial free (tail w) us out → Runs Tutorial free (tail v) us out
-tails {free} {us} {out} tail v w e g r =
-    subst (λ (x : ℕ). Runs Tutorial free (tail (spelt v.tree x)) us out) g
-    (subst (λ (x : Written). Runs Tutorial free (tail (spelt x w.height)) us out) e r)
 
 -- a tail goes on with the value that is made, unless memory runs out
 pub turned : {T : Type 0} (free : ℕ) (ts : List Terminal) (tail : Spelt → Rule) (f : T → Written) (v : Spelt) (res : Result (Part T) Fault)
@@ -57,14 +44,6 @@ pub pushes : {T : Type 0} (free : ℕ) (ts : List Terminal) (tail : List Written
     → Turns free (tail (map f ps ++ (f p ∷ [])) (max h k)) (λ r. tail (map f r.value.items) r.height) ts res ts
 pushes free ts tail f ps p h k (Ok r) e g = λ out t. rows tail (map f ps ++ (f p ∷ [])) (map f r.value.items) (max h k) r.height (ap (map f) e ∙ map-append f ps (p ∷ [])) g t
 pushes free ts tail f ps p h k (Err d) e g = faulty d NoMemory e no_memory
-
--- the production that is chosen is this one
-pub chosen : {free : ℕ} {s : Sort} {ts : List Terminal} {out : Outcome} (p q : Prod s) → p ≡ q → Runs Tutorial free (rule Tutorial q) ts out → Runs Tutorial free (rule Tutorial p) ts out
-chosen {free} {s} {ts} {out} p q e h = subst (λ (x : Prod s). Runs Tutorial free (rule Tutorial x) ts out) (sym e) h
-
--- the rule is this one
-pub as_rule : {free : ℕ} {ts : List Terminal} {out : Outcome} (r q : Rule) → r ≡ q → Runs Tutorial free q ts out → Runs Tutorial free r ts out
-as_rule {free} {ts} {out} r q e h = subst (λ (x : Rule). Runs Tutorial free x ts out) (sym e) h
 
 -- a tail goes on with one more tree, unless memory runs out
 pub pushed_by : {T : Type 0} (free : ℕ) (ts : List Terminal) (tail : List Written → ℕ → Rule) (f : List T → List Written) (ps : List T) (p : Part T) (x : Written) (h k : ℕ) (res : Result (Part (Vec T Global)) Fault)
@@ -92,10 +71,6 @@ pub pat_pairs_pushed : (ps : List (Pat × Pat)) (p : Pat × Pat) (a b : Pat) →
 pat_pairs_pushed ps p a b e =
     ap (map pair_of) (map-append (λ q. (pat_written q.0, pat_written q.1)) ps (p ∷ [])) ∙ (map-append pair_of (map (λ q. (pat_written q.0, pat_written q.1)) ps) ((pat_written p.0, pat_written p.1) ∷ [])
     ∙ ap (λ q. pat_pairs_written ps ++ (pair_of (pat_written q.0, pat_written q.1) ∷ [])) e)
-
--- a height that no channel adds to
-pub flat : (h k n : ℕ) → h ≡ 0 → n ≡ max h k + 1 → n ≡ k + 1
-flat h k n e g = omega (arith, e, g)
 
 not_true : (b : Bool) → not b ≡ true → b ≡ false
 not_true false e = refl
@@ -144,11 +119,6 @@ pub passed : {free : ℕ} {r : Rule} {out : Outcome} {test : Terminal → Bool} 
     → Runs Tutorial free r (view ys) out → Runs Tutorial free (next test r) (view xs) out
 passed {free} {r} {out} {test} {xs} {ys} s e h = runs_next s (subst (λ (x : List Token). Runs Tutorial free r (view x) out) e h)
 
--- and opens a form
-pub opened_next : {free : ℕ} {r : Rule} {out : Outcome} {test : Terminal → Bool} {xs ys : List Token} → shows test (view xs) ≡ true → 0 < free → ys ≡ xs
-    → Runs Tutorial free r (view ys) out → Runs Tutorial free (opens_next test r) (view xs) out
-opened_next {free} {r} {out} {test} {xs} {ys} s z e h = runs_opens_next s z (subst (λ (x : List Token). Runs Tutorial free r (view x) out) e h)
-
 -- a further bind
 pub binds_on : {free : ℕ} {ts : List Terminal} {out : Outcome} (k : Kind) (m : Separator) (left : ℕ) (bs : List Written) (h : ℕ) → sees_bind m left ts ≡ true
     → Runs Tutorial free (rule Tutorial (Prod.binds_more k m (left - 1) bs h)) ts out → Runs Tutorial free (rule Tutorial (choose (Sort.BindsTail k m left bs h) ts)) ts out
@@ -193,3 +163,22 @@ operand_as {free} {ts} {out} l o e h = subst (λ (x : Option Level). Runs Tutori
 pub prefix_as : {free : ℕ} {ts : List Terminal} {out : Outcome} (o : Option Level) → o ≡ None
     → Runs Tutorial free (rule Tutorial (choose Sort.Pre ts)) ts out → Runs Tutorial free (rule Tutorial (choose (level_or_prefix o) ts)) ts out
 prefix_as {free} {ts} {out} o e h = subst (λ (x : Option Level). Runs Tutorial free (rule Tutorial (choose (level_or_prefix x) ts)) ts out) (sym e) h
+
+-- the operators of a level, where it is one
+pub level_as : {free : ℕ} {ts : List Terminal} {out : Outcome} (l : Level) (o : Option Level) → o ≡ Some l
+    → Runs Tutorial free (rule Tutorial (choose (sort_of l) ts)) ts out → Runs Tutorial free (rule Tutorial (choose (level_or_prefix o) ts)) ts out
+level_as {free} {ts} {out} l o e h = subst (λ (x : Option Level). Runs Tutorial free (rule Tutorial (choose (level_or_prefix x) ts)) ts out) (sym e) h
+
+-- the terminals are the same
+pub unmoved : {free : ℕ} {r : Rule} {ts us : List Terminal} {out : Outcome} → us ≡ ts → Runs Tutorial free r us out → Runs Tutorial free r ts out
+unmoved {free} {r} {ts} {us} {out} e h = subst (λ (x : List Terminal). Runs Tutorial free r x out) e h
+
+-- what comes last is read by its own production
+pub unlast : {free : ℕ} {s : Sort} {ts : List Terminal} {out : Outcome} → Runs Tutorial free (last s) ts out → Runs Tutorial free (rule Tutorial (choose s ts)) ts out
+unlast (runs_last h) = h
+unlast no_memory = no_memory
+
+-- what follows a first bind is what follows any, where fifteen more may stand
+pub first_on : {free : ℕ} {ts : List Terminal} {out : Outcome} (k : Kind) (b : Spelt) (m : Separator) → rule Tutorial (choose (Sort.FirstTail k b) ts) ≡ rule Tutorial (choose (Sort.BindsTail k m 15 (b.tree ∷ []) b.height) ts)
+    → Runs Tutorial free (last (Sort.BindsTail k m 15 (b.tree ∷ []) b.height)) ts out → Runs Tutorial free (last (Sort.FirstTail k b)) ts out
+first_on k b m e h = runs_last (as_rule _ _ e (unlast h))

@@ -22,17 +22,6 @@ pub short : {T : Type 0} (free : ℕ) (r : Rule) (ts us : List Terminal) (of : T
     → Makes free r of ts res us
 short free r ts us of res e g m = exit of res e g (subst (λ (x : Fault). Runs Tutorial free r ts (fault x us)) (sym m) no_memory)
 
--- a send, by whether it is persistent
-pub sent_by : {free : ℕ} {ts : List Terminal} {out : Outcome} (n : Spelt) (b : Bool) → b ≡ sees marks.DoubleBang ts
-    → Runs Tutorial free (rule Tutorial (Prod.sent patterns n b)) ts out → Runs Tutorial free (rule Tutorial (choose (Sort.Sent patterns n) ts)) ts out
-sent_by {free} {ts} {out} n true e r = let d : sees marks.DoubleBang ts ≡ true = sym e in rw d r
-sent_by {free} {ts} {out} n false e r = let d : sees marks.DoubleBang ts ≡ false = sym e in rw d r
-
-pub sent_tail_by : {free : ℕ} {ts : List Terminal} {out : Outcome} (n : Spelt) (b : Bool) → b ≡ sees marks.DoubleBang ts
-    → Runs Tutorial free (rule Tutorial (Prod.sent_tail patterns n b)) ts out → Runs Tutorial free (rule Tutorial (choose (Sort.SentTail patterns n) ts)) ts out
-sent_tail_by {free} {ts} {out} n true e r = let d : sees marks.DoubleBang ts ≡ true = sym e in rw d r
-sent_tail_by {free} {ts} {out} n false e r = let d : sees marks.DoubleBang ts ≡ false = sym e in rw d r
-
 -- a first pair of patterns
 pub first_pat_pair : {free : ℕ} {us : List Terminal} {out : Outcome} {ps : List (Pat × Pat)} {p : Pat × Pat} {k n : ℕ} (h m : ℕ) (a b : Pat) → p ≡ (a, b) → k ≡ max h m → ps ≡ p ∷ [] → n ≡ k
     → Runs Tutorial free (last (Sort.PPairs (pat_pairs_written ps) n)) us out
@@ -40,12 +29,3 @@ pub first_pat_pair : {free : ℕ} {us : List Terminal} {out : Outcome} {ps : Lis
 first_pat_pair {free} {us} {out} {ps} {p} {k} {n} h m a b e i f g r =
     rows (λ qs l. last (Sort.PPairs qs l)) (pair_of (pat_written a, pat_written b) ∷ []) (pat_pairs_written ps) (max h m) n
     (ap pat_pairs_written (f ∙ ap (λ q. q ∷ []) e)) (g ∙ i) r
-
--- what follows the first pattern of a block or a map
-pub pattern_closes : {free : ℕ} {ts : List Terminal} {out : Outcome} (p : Spelt) → sees marks.Colon ts ≡ false
-    → Runs Tutorial free (rule Tutorial (Prod.pbrace_close p)) ts out → Runs Tutorial free (last (Sort.PBraceTail p)) ts out
-pattern_closes p e h = runs_last (rw e h)
-
-pub pat_pair_follows : {free : ℕ} {ts : List Terminal} {out : Outcome} (p : Spelt) → sees marks.Colon ts ≡ true
-    → Runs Tutorial free (rule Tutorial (Prod.pbrace_pair p)) ts out → Runs Tutorial free (last (Sort.PBraceTail p)) ts out
-pat_pair_follows p e h = runs_last (rw e h)

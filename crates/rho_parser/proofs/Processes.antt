@@ -26,36 +26,11 @@ use Rattle.token_cursor.specs.Levels.{GoesOn, operand_of, tail_of}
 use Rattle.token_cursor.specs.Reading.{of_name, pairs_written}
 use Rattle.token_cursor.specs.declared.level.Level.{Level}
 use Rattle.syntax_forms.specs.declared.part.Part.{Part}
-use Rattle.rho_parser.proofs.Cycle.{as_rule, tails}
+use Rattle.form_steps.proofs.Turning.{as_rule}
 use Rattle.rho_lexer.specs.declared.token.Token.{Token}
 use Rattle.token_cursor.proofs.Fronts.{no_fresh}
 use Rattle.token_cursor.proofs.Steps.{rows}
 use Rattle.token_cursor.specs.Meaning.{view}
-
--- memory ran out
-pub forgets : {free : ℕ} {r : Rule} {ts us : List Terminal} (e : Fault) → e ≡ NoMemory → Runs Tutorial free r ts (fault e us)
-forgets {free} {r} {ts} {us} e m = subst (λ (x : Fault). Runs Tutorial free r ts (fault x us)) (sym m) no_memory
-
--- what follows the variable of a send
-pub sent_on : {free : ℕ} {ts : List Terminal} {out : Outcome} (t : Written) (n : Part Name) → name_written n.value ≡ t → n.height ≡ 0
-    → Runs Tutorial free (rule Tutorial (choose (Sort.Sent processes (of_name n)) ts)) ts out → Runs Tutorial free (last (Sort.Sent processes (leaf t))) ts out
-sent_on t n e g h = tails (λ v. last (Sort.Sent processes v)) (leaf t) (of_name n) e g (runs_last h)
-
--- what follows the quoted process of a send
-pub sent_after : {free : ℕ} {ts : List Terminal} {out : Outcome} (v : Spelt) (n : Part Name) → name_written n.value ≡ v.tree → n.height ≡ v.height
-    → Runs Tutorial free (rule Tutorial (choose (Sort.SentTail processes (of_name n)) ts)) ts out → Runs Tutorial free (last (Sort.SentTail processes v)) ts out
-sent_after v n e g h = tails (λ w. last (Sort.SentTail processes w)) v (of_name n) e g (runs_last h)
-
--- the mark of a send that is next
-pub sent_as : {free : ℕ} {ts : List Terminal} {out : Outcome} (side : Side) (n : Spelt) (q : Bool) → q ≡ sees marks.DoubleBang ts
-    → Runs Tutorial free (rule Tutorial (Prod.sent side n q)) ts out → Runs Tutorial free (rule Tutorial (choose (Sort.Sent side n) ts)) ts out
-sent_as {free} {ts} {out} side n true e h = let f : sees marks.DoubleBang ts ≡ true = sym e in rw f h
-sent_as {free} {ts} {out} side n false e h = let f : sees marks.DoubleBang ts ≡ false = sym e in rw f h
-
-pub sent_tail_as : {free : ℕ} {ts : List Terminal} {out : Outcome} (side : Side) (n : Spelt) (q : Bool) → q ≡ sees marks.DoubleBang ts
-    → Runs Tutorial free (rule Tutorial (Prod.sent_tail side n q)) ts out → Runs Tutorial free (rule Tutorial (choose (Sort.SentTail side n) ts)) ts out
-sent_tail_as {free} {ts} {out} side n true e h = let f : sees marks.DoubleBang ts ≡ true = sym e in rw f h
-sent_tail_as {free} {ts} {out} side n false e h = let f : sees marks.DoubleBang ts ≡ false = sym e in rw f h
 
 -- one bind
 pub alone : {free : ℕ} {ts : List Terminal} {out : Outcome} (tail : List Written → ℕ → Rule) (b : Part Bind) (bs : Part (Vec Bind Global))
@@ -97,21 +72,3 @@ fits (Err d) e l = e
 -- no operator of the level is next
 pub stops : {free : ℕ} {ts : List Terminal} (l : Level) (a : Spelt) (o : Option (Mark × BinaryOp)) → GoesOn l ts o → o ≡ None → Runs Tutorial free (last (tail_of l a)) ts (read a ts)
 stops {free} {ts} l a o g e = runs_last (as_rule _ _ ((subst (GoesOn l ts) e g) a) runs_done)
-
--- what follows the first process of a block or a map
-pub block_closes : {free : ℕ} {ts : List Terminal} {out : Outcome} (p : Spelt) → sees marks.Colon ts ≡ false
-    → Runs Tutorial free (rule Tutorial (Prod.brace_close p)) ts out → Runs Tutorial free (last (Sort.BraceTail p)) ts out
-block_closes p e h = runs_last (rw e h)
-
-pub pair_follows : {free : ℕ} {ts : List Terminal} {out : Outcome} (p : Spelt) → sees marks.Colon ts ≡ true
-    → Runs Tutorial free (rule Tutorial (Prod.brace_pair p)) ts out → Runs Tutorial free (last (Sort.BraceTail p)) ts out
-pair_follows p e h = runs_last (rw e h)
-
--- what follows a `*`: a quoted process, or a word
-pub drops_quote : {free : ℕ} {ts : List Terminal} {out : Outcome} → sees marks.At ts ≡ true
-    → Runs Tutorial free (rule Tutorial Prod.dropped_quote) ts out → Runs Tutorial free (last Sort.Dropped) ts out
-drops_quote e h = runs_last (rw e h)
-
-pub drops_word : {free : ℕ} {out : Outcome} (xs : List Token) → sees marks.At (view xs) ≡ false
-    → Runs Tutorial free (rule Tutorial Prod.dropped_word) (view xs) out → Runs Tutorial free (last Sort.Dropped) (view xs) out
-drops_word xs e h = let n = no_fresh xs in runs_last (rw (e, n) h)

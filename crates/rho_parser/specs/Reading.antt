@@ -1,9 +1,8 @@
 -- What the methods of the cycle promise of cases.
-use Rattle.std.specs.Prelude.{ℕ, List, [], map, Result}
+use Rattle.std.specs.Prelude.{ℕ, List, map, Result}
 use Rattle.std.specs.declared.alloc.Global.{Global}
 use Rattle.std.specs.declared.vec.Vec.{Vec}
 use Rattle.calculus.specs.Meaning.{case_written}
-use Rattle.calculus.specs.Written.{Written}
 use Rattle.calculus.specs.declared.process.Case.{Case}
 use Rattle.grammar.specs.declared.dialect.Dialect.TheVariants.{Tutorial}
 use Rattle.grammar.specs.declared.fault.Fault.{Fault}
@@ -11,7 +10,7 @@ use Rattle.grammar.specs.Grammar.{rule}
 use Rattle.grammar.specs.Productions.{Prod}
 use Rattle.grammar.specs.Rules.{Sort, last}
 use Rattle.grammar.specs.Terminals.{Terminal}
-use Rattle.grammar.specs.Values.{Spelt, spelt}
+use Rattle.grammar.specs.Values.{Spelt}
 use Rattle.syntax_forms.specs.declared.part.Part.{Part}
 use Rattle.token_cursor.specs.Reading.{Turns}
 
@@ -19,8 +18,3 @@ use Rattle.token_cursor.specs.Reading.{Turns}
 abbrev pub ReadsCase : ℕ → Part (Vec Case Global) → List Terminal → Result (Part (Vec Case Global)) Fault → List Terminal → Type 0
 ReadsCase free cases ts result us = (t : Spelt)
     → Turns free (rule Tutorial (Prod.case t (map case_written cases.value.items) cases.height)) (λ c. last (Sort.CaseTail t (map case_written c.value.items) c.height)) ts result us
-
--- the cases are read of a `match` whose target has this height
-abbrev pub ReadsCases : ℕ → ℕ → List Terminal → Result (Part (Vec Case Global)) Fault → List Terminal → Type 0
-ReadsCases free height ts result us = (t : Written)
-    → Turns free (rule Tutorial (Prod.case (spelt t height) [] height)) (λ c. rule Tutorial (Prod.case_end (spelt t height) (map case_written c.value.items) c.height)) ts result us

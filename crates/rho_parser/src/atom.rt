@@ -11,6 +11,8 @@ ghost use Rattle.std.specs.Prelude.{◌<◌, ◌≤◌, IfOk, MatchResult, lengt
 
 use crate::parser::Parser;
 use calculus::{Name, Proc};
+use form_steps::step::ProcessStep;
+use form_steps::{begin_atom, dropped_quote, members, plain_process, skip};
 use grammar::{Fault, Mark};
 use token_cursor::part::{Bracket, Part};
 use token_cursor::{parts, process_forms};
@@ -23,17 +25,26 @@ impl<'a> Parser<'a> {
         ensures room { IfOk result (λ p. p.height ≤ free) }
         ensures shorter { length self.new.cursor.rest.now ≤ length self.old.cursor.rest.now }
     {
-        if !self.cursor.sees(Mark::Star) {
-            return self.atom(free);
+        match begin_atom(&mut self.cursor, free) {
+            Ok(ProcessStep::Plain(plain)) => plain_process(&mut self.cursor, plain),
+            Ok(ProcessStep::Dropped) => {
+                let quoted = self.drop_form(free - 1)?;
+                dropped_quote(self.cursor.alloc, quoted)
+            }
+            Ok(ProcessStep::Group) => {
+                let inner = self.par(free - 1)?;
+                self.group(inner, free)
+            }
+            Ok(ProcessStep::Block) => {
+                let first = self.par(free - 1)?;
+                self.block(first, free)
+            }
+            Ok(ProcessStep::Members(bracket)) => {
+                let row = self.row(bracket, free - 1)?;
+                Ok(members(bracket, row))
+            }
+            Err(fault) => Err(fault),
         }
-        self.cursor.expect(Mark::Star)?;
-        if !self.cursor.sees(Mark::At) {
-            return self.cursor.dropped_word();
-        }
-        self.cursor.opens(Mark::At, 0, free)?;
-        let quoted = self.drop_form(free - 1)?;
-        let name = process_forms::quote(self.cursor.alloc, quoted)?;
-        Ok(process_forms::dropped_quote(name))
     }
 
     /// Name ::= Word | "@" Drop
@@ -51,45 +62,16 @@ impl<'a> Parser<'a> {
         process_forms::quote(self.cursor.alloc, quoted)
     }
 
-    /// Atom ::= Word | Ground | "Nil" | "(" Par Group | "{" Brace | "[" Row "]" | "Set" "(" Row ")"
+    /// What follows the first process in parentheses: the end, or the other members of a tuple.
     #[cycle(parse)]
-    pub fn atom(&mut self, free: u32) -> Result<Part<Proc>, Fault>
-        ensures reads { Gives free Sort.Atom of_proc (view self.old.cursor.rest.now) result (view self.new.cursor.rest.now) }
+    pub fn group(&mut self, inner: Part<Proc>, free: u32) -> Result<Part<Proc>, Fault>
+        requires { inner.height < free }
+        ensures reads { Gives free (Sort.Group processes (of_proc inner)) of_proc (view self.old.cursor.rest.now) result (view self.new.cursor.rest.now) }
         ensures room { IfOk result (λ p. p.height ≤ free) }
         ensures shorter { length self.new.cursor.rest.now ≤ length self.old.cursor.rest.now }
     {
-        if self.cursor.sees_word() {
-            self.cursor.atom_word()
-        } else if self.cursor.sees(Mark::Nil) {
-            self.cursor.atom_nil()
-        } else if self.cursor.sees(Mark::Open) {
-            self.atom_open(free)
-        } else if self.cursor.sees(Mark::OpenBrace) {
-            self.atom_brace(free)
-        } else if self.cursor.sees(Mark::OpenSquare) {
-            self.atom_list(free)
-        } else if self.cursor.sees(Mark::Set) {
-            self.atom_set(free)
-        } else {
-            self.cursor.atom_ground()
-        }
-    }
-
-    /// Parentheses around a process, or a tuple.
-    #[cycle(parse)]
-    pub fn atom_open(&mut self, free: u32) -> Result<Part<Proc>, Fault>
-        ensures reads { Makes free (rule Tutorial Prod.atom_open) of_proc (view self.old.cursor.rest.now) result (view self.new.cursor.rest.now) }
-        ensures room { IfOk result (λ p. p.height ≤ free) }
-        ensures shorter { length self.new.cursor.rest.now ≤ length self.old.cursor.rest.now }
-    {
-        self.cursor.opens(Mark::Open, 0, free)?;
-        let inner = self.par(free - 1)?;
-        if !self.cursor.sees(Mark::Comma) {
+        if !skip(&mut self.cursor, Mark::Comma) {
             return self.cursor.group_close(inner);
-        }
-        match self.cursor.expect(Mark::Comma) {
-            Ok(()) => {}
-            Err(fault) => return parts::give_up(inner, fault),
         }
         match self.row(Bracket::Round, free - 1) {
             Ok(row) => process_forms::tuple(inner, row),
@@ -97,36 +79,16 @@ impl<'a> Parser<'a> {
         }
     }
 
-    /// A block or a map.
+    /// What follows the first process in braces: the end, or the pairs of a map.
     #[cycle(parse)]
-    pub fn atom_brace(&mut self, free: u32) -> Result<Part<Proc>, Fault>
-        ensures reads { Makes free (rule Tutorial Prod.atom_brace) of_proc (view self.old.cursor.rest.now) result (view self.new.cursor.rest.now) }
-        ensures room { IfOk result (λ p. p.height ≤ free) }
-        ensures shorter { length self.new.cursor.rest.now ≤ length self.old.cursor.rest.now }
-    {
-        self.cursor.opens(Mark::OpenBrace, 0, free)?;
-        if self.cursor.sees(Mark::CloseBrace) {
-            return self.cursor.empty_map();
-        }
-        let inner = self.par(free - 1)?;
-        if self.cursor.sees(Mark::Colon) {
-            self.brace_pair(inner, free)
-        } else {
-            self.cursor.brace_close(inner)
-        }
-    }
-
-    /// The pairs of a map, whose first key was read.
-    #[cycle(parse)]
-    pub fn brace_pair(&mut self, inner: Part<Proc>, free: u32) -> Result<Part<Proc>, Fault>
+    pub fn block(&mut self, inner: Part<Proc>, free: u32) -> Result<Part<Proc>, Fault>
         requires { inner.height < free }
-        ensures reads { Makes free (rule Tutorial (Prod.brace_pair (of_proc inner))) of_proc (view self.old.cursor.rest.now) result (view self.new.cursor.rest.now) }
+        ensures reads { Gives free (Sort.BraceTail (of_proc inner)) of_proc (view self.old.cursor.rest.now) result (view self.new.cursor.rest.now) }
         ensures room { IfOk result (λ p. p.height ≤ free) }
         ensures shorter { length self.new.cursor.rest.now ≤ length self.old.cursor.rest.now }
     {
-        match self.cursor.expect(Mark::Colon) {
-            Ok(()) => {}
-            Err(fault) => return parts::give_up(inner, fault),
+        if !skip(&mut self.cursor, Mark::Colon) {
+            return self.cursor.brace_close(inner);
         }
         let value = match self.par(free - 1) {
             Ok(value) => value,
@@ -161,31 +123,6 @@ impl<'a> Parser<'a> {
             Ok(value) => parts::push(pairs, parts::pair(key, value)),
             Err(fault) => parts::give_up(key, fault),
         }
-    }
-
-    /// A list.
-    #[cycle(parse)]
-    pub fn atom_list(&mut self, free: u32) -> Result<Part<Proc>, Fault>
-        ensures reads { Makes free (rule Tutorial Prod.atom_list) of_proc (view self.old.cursor.rest.now) result (view self.new.cursor.rest.now) }
-        ensures room { IfOk result (λ p. p.height ≤ free) }
-        ensures shorter { length self.new.cursor.rest.now ≤ length self.old.cursor.rest.now }
-    {
-        self.cursor.opens(Mark::OpenSquare, 0, free)?;
-        let row = self.row(Bracket::Square, free - 1)?;
-        Ok(process_forms::list(row))
-    }
-
-    /// A set.
-    #[cycle(parse)]
-    pub fn atom_set(&mut self, free: u32) -> Result<Part<Proc>, Fault>
-        ensures reads { Makes free (rule Tutorial Prod.atom_set) of_proc (view self.old.cursor.rest.now) result (view self.new.cursor.rest.now) }
-        ensures room { IfOk result (λ p. p.height ≤ free) }
-        ensures shorter { length self.new.cursor.rest.now ≤ length self.old.cursor.rest.now }
-    {
-        self.cursor.opens(Mark::Set, 0, free)?;
-        self.cursor.expect(Mark::Open)?;
-        let row = self.row(Bracket::Round, free - 1)?;
-        Ok(process_forms::set(row))
     }
 
     /// Row ::= [ Par { "," Par } ], and the sign that closes it

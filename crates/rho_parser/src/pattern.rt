@@ -1,5 +1,6 @@
 //! The patterns of processes and of names.
 ghost use Rattle.calculus.specs.Meaning.{pat_written};
+ghost use Rattle.form_steps.specs.Parts.{after_channel_pattern};
 ghost use Rattle.grammar.specs.Grammar.{rule};
 ghost use Rattle.grammar.specs.Productions.{Prod};
 ghost use Rattle.grammar.specs.Rules.{Sort, last};
@@ -12,6 +13,11 @@ ghost use Rattle.std.specs.Prelude.{◌≡◌, ◌<◌, ◌≤◌, IfOk, MatchRe
 use crate::closed_form::closed_form;
 use crate::parser::Parser;
 use calculus::{NamePat, Pat};
+use form_steps::step::{PartStep, PatternStep, Sending};
+use form_steps::{
+    begin_any_send, begin_part, begin_pattern, begin_send_pattern, close_bundle_pattern,
+    close_same, member_patterns, plain_pattern, quoted_send_pattern,
+};
 use grammar::{Fault, Mark};
 use token_cursor::part::{Bracket, Part};
 use token_cursor::{parts, pattern_forms};
@@ -41,115 +47,41 @@ impl<'a> Parser<'a> {
         ensures room { IfOk result (λ p. p.height ≤ free) }
         ensures shorter { length self.new.cursor.rest.now ≤ length self.old.cursor.rest.now }
     {
-        if self.cursor.sees(Mark::New) {
-            closed_form(self.cursor.alloc, self.new_form(free))
-        } else if self.cursor.sees(Mark::If) {
-            closed_form(self.cursor.alloc, self.if_form(free))
-        } else if self.cursor.sees(Mark::Contract) {
-            closed_form(self.cursor.alloc, self.contract_form(free))
-        } else if self.cursor.sees(Mark::For) {
-            closed_form(self.cursor.alloc, self.for_form(free))
-        } else if self.cursor.sees(Mark::Match) {
-            closed_form(self.cursor.alloc, self.match_form(free))
-        } else if self.cursor.sees_bundle() {
-            self.pattern_bundle(free)
-        } else if self.cursor.sees(Mark::At) {
-            self.pattern_quote(free)
-        } else if self.cursor.sees_any_send() {
-            self.pattern_any(free)
-        } else if self.cursor.sees_send() {
-            self.pattern_word(free)
-        } else {
-            self.pattern_alternative(free)
+        match begin_part(&mut self.cursor, free) {
+            Ok(PartStep::Form(key)) => closed_form(self.cursor.alloc, self.form(key, free)),
+            Ok(PartStep::Bundle(rights)) => {
+                let body = self.pattern_par(free - 1)?;
+                close_bundle_pattern(&mut self.cursor, rights, body)
+            }
+            Ok(PartStep::Quoted) => {
+                let quoted = self.pattern_alternative(free - 1)?;
+                let channel = quoted_send_pattern(&mut self.cursor, quoted)?;
+                self.pattern_sent(channel, free)
+            }
+            Ok(PartStep::AnySend) => {
+                let any = begin_any_send(&mut self.cursor, free)?;
+                self.pattern_sent(any, free)
+            }
+            Ok(PartStep::Send) => {
+                let sending = begin_send_pattern(&mut self.cursor, free)?;
+                self.pattern_sent(sending, free)
+            }
+            Ok(PartStep::Alternative) => self.pattern_alternative(free),
+            Err(fault) => Err(fault),
         }
     }
 
-    /// Bundle ::= ( "bundle" | "bundle+" | "bundle-" | "bundle0" ) "{" PPar "}"
+    /// The arguments of a send.
     #[cycle(parse)]
-    fn pattern_bundle(&mut self, free: u32) -> Result<Part<Pat>, Fault>
-        ensures reads { Gives free (Sort.Bundle patterns) of_pat (view self.old.cursor.rest.now) result (view self.new.cursor.rest.now) }
+    pub fn pattern_sent(&mut self, sending: Sending<NamePat>, free: u32) -> Result<Part<Pat>, Fault>
+        requires { sending.channel.height < free }
+        ensures reads { Makes free (after_channel_pattern sending) of_pat (view self.old.cursor.rest.now) result (view self.new.cursor.rest.now) }
         ensures room { IfOk result (λ p. p.height ≤ free) }
         ensures shorter { length self.new.cursor.rest.now ≤ length self.old.cursor.rest.now }
     {
-        let rights = self.cursor.rights();
-        self.cursor.opens_bundle(rights, free)?;
-        self.cursor.expect(Mark::OpenBrace)?;
-        let body = self.pattern_par(free - 1)?;
-        match self.cursor.expect(Mark::CloseBrace) {
-            Ok(()) => pattern_forms::bundle_pat(self.cursor.alloc, rights, body),
-            Err(fault) => parts::give_up(body, fault),
-        }
-    }
-
-    /// A send that begins with a word.
-    #[cycle(parse)]
-    fn pattern_word(&mut self, free: u32) -> Result<Part<Pat>, Fault>
-        ensures reads { Makes free (rule Tutorial Prod.pone_word) of_pat (view self.old.cursor.rest.now) result (view self.new.cursor.rest.now) }
-        ensures room { IfOk result (λ p. p.height ≤ free) }
-        ensures shorter { length self.new.cursor.rest.now ≤ length self.old.cursor.rest.now }
-    {
-        let name = self.cursor.word()?;
-        let channel = pattern_forms::bound_channel(name);
-        self.pattern_sent(channel, free)
-    }
-
-    /// A send that begins with `_`.
-    #[cycle(parse)]
-    fn pattern_any(&mut self, free: u32) -> Result<Part<Pat>, Fault>
-        ensures reads { Makes free (rule Tutorial Prod.pone_any) of_pat (view self.old.cursor.rest.now) result (view self.new.cursor.rest.now) }
-        ensures room { IfOk result (λ p. p.height ≤ free) }
-        ensures shorter { length self.new.cursor.rest.now ≤ length self.old.cursor.rest.now }
-    {
-        self.cursor.expect(Mark::Underscore)?;
-        let channel = pattern_forms::any_channel();
-        self.pattern_sent(channel, free)
-    }
-
-    /// A send that begins with "@".
-    #[cycle(parse)]
-    fn pattern_quote(&mut self, free: u32) -> Result<Part<Pat>, Fault>
-        ensures reads { Makes free (rule Tutorial Prod.pone_quote) of_pat (view self.old.cursor.rest.now) result (view self.new.cursor.rest.now) }
-        ensures room { IfOk result (λ p. p.height ≤ free) }
-        ensures shorter { length self.new.cursor.rest.now ≤ length self.old.cursor.rest.now }
-    {
-        self.cursor.opens(Mark::At, 0, free)?;
-        let quoted = self.pattern_alternative(free - 1)?;
-        let channel = pattern_forms::quote_pat(self.cursor.alloc, quoted)?;
-        let persistent = self.cursor.sees(Mark::DoubleBang);
-        match self.cursor.expect_bang(persistent) {
-            Ok(()) => {}
-            Err(fault) => return parts::give_up(channel, fault),
-        }
-        match self.cursor.expect(Mark::Open) {
-            Ok(()) => {}
-            Err(fault) => return parts::give_up(channel, fault),
-        }
         match self.pattern_row(Bracket::Round, free - 1) {
-            Ok(args) => Ok(pattern_forms::send_pat(channel, args, persistent)),
-            Err(fault) => parts::give_up(channel, fault),
-        }
-    }
-
-    /// Sent ::= ( "!" | "!!" ) "(" [ PPar { "," PPar } ] ")", after a word or `_`
-    #[cycle(parse)]
-    fn pattern_sent(&mut self, channel: Part<NamePat>, free: u32) -> Result<Part<Pat>, Fault>
-        requires { channel.height ≡ 0 }
-        ensures reads { Gives free (Sort.Sent patterns (of_name_pat channel)) of_pat (view self.old.cursor.rest.now) result (view self.new.cursor.rest.now) }
-        ensures room { IfOk result (λ p. p.height ≤ free) }
-        ensures shorter { length self.new.cursor.rest.now ≤ length self.old.cursor.rest.now }
-    {
-        let persistent = self.cursor.sees(Mark::DoubleBang);
-        match self.cursor.opens_bang(persistent, free) {
-            Ok(()) => {}
-            Err(fault) => return parts::give_up(channel, fault),
-        }
-        match self.cursor.expect(Mark::Open) {
-            Ok(()) => {}
-            Err(fault) => return parts::give_up(channel, fault),
-        }
-        match self.pattern_row(Bracket::Round, free - 1) {
-            Ok(args) => Ok(pattern_forms::send_pat(channel, args, persistent)),
-            Err(fault) => parts::give_up(channel, fault),
+            Ok(args) => Ok(pattern_forms::send_pat(sending.channel, args, sending.persistent)),
+            Err(fault) => parts::give_up(sending, fault),
         }
     }
 
@@ -177,7 +109,7 @@ impl<'a> Parser<'a> {
 
     /// PAnd ::= PNot { "/\" PNot }
     #[cycle(parse)]
-    fn pattern_conjunction(&mut self, free: u32) -> Result<Part<Pat>, Fault>
+    pub fn pattern_conjunction(&mut self, free: u32) -> Result<Part<Pat>, Fault>
         ensures reads { Gives free Sort.PAnd of_pat (view self.old.cursor.rest.now) result (view self.new.cursor.rest.now) }
         ensures room { IfOk result (λ p. p.height ≤ free) }
         ensures shorter { length self.new.cursor.rest.now ≤ length self.old.cursor.rest.now }
@@ -199,17 +131,35 @@ impl<'a> Parser<'a> {
 
     /// PNot ::= "~" PNot | PAtom
     #[cycle(parse)]
-    fn pattern_not(&mut self, free: u32) -> Result<Part<Pat>, Fault>
+    pub fn pattern_not(&mut self, free: u32) -> Result<Part<Pat>, Fault>
         ensures reads { Gives free Sort.PNot of_pat (view self.old.cursor.rest.now) result (view self.new.cursor.rest.now) }
         ensures room { IfOk result (λ p. p.height ≤ free) }
         ensures shorter { length self.new.cursor.rest.now ≤ length self.old.cursor.rest.now }
     {
-        if !self.cursor.sees(Mark::Tilde) {
-            return self.pattern_atom(free);
+        match begin_pattern(&mut self.cursor, free) {
+            Ok(PatternStep::Plain(plain)) => plain_pattern(&mut self.cursor, plain),
+            Ok(PatternStep::Not) => {
+                let arg = self.pattern_not(free - 1)?;
+                pattern_forms::not_pat(self.cursor.alloc, arg)
+            }
+            Ok(PatternStep::Same) => {
+                let body = self.par(free - 1)?;
+                close_same(&mut self.cursor, body)
+            }
+            Ok(PatternStep::Group) => {
+                let inner = self.pattern_par(free - 1)?;
+                self.pattern_group(inner, free)
+            }
+            Ok(PatternStep::Block) => {
+                let first = self.pattern_par(free - 1)?;
+                self.pattern_block(first, free)
+            }
+            Ok(PatternStep::Members(bracket)) => {
+                let sequence = self.pattern_sequence(bracket, free - 1)?;
+                Ok(member_patterns(bracket, sequence))
+            }
+            Err(fault) => Err(fault),
         }
-        self.cursor.opens(Mark::Tilde, 0, free)?;
-        let arg = self.pattern_not(free - 1)?;
-        pattern_forms::not_pat(self.cursor.alloc, arg)
     }
 
     /// PName ::= "_" | Word | "@" PAlt

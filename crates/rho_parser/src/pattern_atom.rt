@@ -11,88 +11,23 @@ ghost use Rattle.token_cursor.specs.Reading.{Gives, Makes, Turns, bracket_of, of
 ghost use Rattle.std.specs.Prelude.{◌≡◌, ◌<◌, ◌≤◌, IfOk, MatchResult, length, map, true};
 
 use crate::parser::Parser;
-use calculus::{Pat, Simple};
+use calculus::Pat;
+use form_steps::skip;
 use grammar::{Fault, Mark};
 use token_cursor::part::{Bracket, Part, Sequence};
 use token_cursor::{parts, pattern_forms};
 
 impl<'a> Parser<'a> {
-    /// PAtom ::= "_" | "Bool" | "Int" | "String" | "Uri" | "ByteArray" | "=" Same | Word | Ground | "Nil"
-    ///   | "(" PPar Group | "{" PBrace | "[" PSeq "]" | "Set" "(" PSeq ")"
+    /// What follows the first pattern in parentheses: the end, or the other members of a tuple.
     #[cycle(parse)]
-    pub fn pattern_atom(&mut self, free: u32) -> Result<Part<Pat>, Fault>
-        ensures reads { Gives free Sort.PAtom of_pat (view self.old.cursor.rest.now) result (view self.new.cursor.rest.now) }
+    pub fn pattern_group(&mut self, first: Part<Pat>, free: u32) -> Result<Part<Pat>, Fault>
+        requires { first.height < free }
+        ensures reads { Gives free (Sort.Group patterns (of_pat first)) of_pat (view self.old.cursor.rest.now) result (view self.new.cursor.rest.now) }
         ensures room { IfOk result (λ p. p.height ≤ free) }
         ensures shorter { length self.new.cursor.rest.now ≤ length self.old.cursor.rest.now }
     {
-        if self.cursor.sees_word() {
-            self.cursor.pat_word()
-        } else if self.cursor.sees(Mark::Underscore) {
-            self.cursor.pat_any()
-        } else if self.cursor.sees(Mark::Bool) {
-            self.cursor.pat_type(Simple::Bool)
-        } else if self.cursor.sees(Mark::Int) {
-            self.cursor.pat_type(Simple::Int)
-        } else if self.cursor.sees(Mark::String) {
-            self.cursor.pat_type(Simple::Str)
-        } else if self.cursor.sees(Mark::Uri) {
-            self.cursor.pat_type(Simple::Uri)
-        } else if self.cursor.sees(Mark::ByteArray) {
-            self.cursor.pat_type(Simple::Bytes)
-        } else if self.cursor.sees(Mark::Assign) {
-            self.pattern_same(free)
-        } else if self.cursor.sees(Mark::Nil) {
-            self.cursor.pat_nil()
-        } else if self.cursor.sees(Mark::Open) {
-            self.pattern_open(free)
-        } else if self.cursor.sees(Mark::OpenBrace) {
-            self.pattern_brace(free)
-        } else if self.cursor.sees(Mark::OpenSquare) {
-            self.pattern_list(free)
-        } else if self.cursor.sees(Mark::Set) {
-            self.pattern_set(free)
-        } else {
-            self.cursor.pat_ground()
-        }
-    }
-
-    /// A `=` and a process that is to be the same.
-    #[cycle(parse)]
-    fn pattern_same(&mut self, free: u32) -> Result<Part<Pat>, Fault>
-        ensures reads { Makes free (rule Tutorial Prod.patom_same) of_pat (view self.old.cursor.rest.now) result (view self.new.cursor.rest.now) }
-        ensures room { IfOk result (λ p. p.height ≤ free) }
-        ensures shorter { length self.new.cursor.rest.now ≤ length self.old.cursor.rest.now }
-    {
-        self.cursor.opens(Mark::Assign, 0, free)?;
-        if self.cursor.sees(Mark::Star) {
-            return self.cursor.same_drop();
-        }
-        if !self.cursor.sees(Mark::OpenBrace) {
-            return self.cursor.same_word();
-        }
-        self.cursor.expect(Mark::OpenBrace)?;
-        let body = self.par(free - 1)?;
-        match self.cursor.expect(Mark::CloseBrace) {
-            Ok(()) => pattern_forms::same(self.cursor.alloc, body),
-            Err(fault) => parts::give_up(body, fault),
-        }
-    }
-
-    /// Parentheses around a pattern, or a tuple of patterns.
-    #[cycle(parse)]
-    fn pattern_open(&mut self, free: u32) -> Result<Part<Pat>, Fault>
-        ensures reads { Makes free (rule Tutorial Prod.patom_open) of_pat (view self.old.cursor.rest.now) result (view self.new.cursor.rest.now) }
-        ensures room { IfOk result (λ p. p.height ≤ free) }
-        ensures shorter { length self.new.cursor.rest.now ≤ length self.old.cursor.rest.now }
-    {
-        self.cursor.opens(Mark::Open, 0, free)?;
-        let first = self.pattern_par(free - 1)?;
-        if !self.cursor.sees(Mark::Comma) {
+        if !skip(&mut self.cursor, Mark::Comma) {
             return self.cursor.pattern_close(first);
-        }
-        match self.cursor.expect(Mark::Comma) {
-            Ok(()) => {}
-            Err(fault) => return parts::give_up(first, fault),
         }
         match self.pattern_row(Bracket::Round, free - 1) {
             Ok(row) => pattern_forms::tuple_pat(first, row),
@@ -121,35 +56,10 @@ impl<'a> Parser<'a> {
         Ok(members)
     }
 
-    /// A list.
-    #[cycle(parse)]
-    fn pattern_list(&mut self, free: u32) -> Result<Part<Pat>, Fault>
-        ensures reads { Makes free (rule Tutorial Prod.patom_list) of_pat (view self.old.cursor.rest.now) result (view self.new.cursor.rest.now) }
-        ensures room { IfOk result (λ p. p.height ≤ free) }
-        ensures shorter { length self.new.cursor.rest.now ≤ length self.old.cursor.rest.now }
-    {
-        self.cursor.opens(Mark::OpenSquare, 0, free)?;
-        let members = self.pattern_sequence(Bracket::Square, free - 1)?;
-        Ok(pattern_forms::list_pat(members))
-    }
-
-    /// A set.
-    #[cycle(parse)]
-    fn pattern_set(&mut self, free: u32) -> Result<Part<Pat>, Fault>
-        ensures reads { Makes free (rule Tutorial Prod.patom_set) of_pat (view self.old.cursor.rest.now) result (view self.new.cursor.rest.now) }
-        ensures room { IfOk result (λ p. p.height ≤ free) }
-        ensures shorter { length self.new.cursor.rest.now ≤ length self.old.cursor.rest.now }
-    {
-        self.cursor.opens(Mark::Set, 0, free)?;
-        self.cursor.expect(Mark::Open)?;
-        let members = self.pattern_sequence(Bracket::Round, free - 1)?;
-        Ok(pattern_forms::set_pat(members))
-    }
-
     /// PSeq ::= [ PPar { "," PPar } ] [ [","] "..." ( Word | "_" ) ], with the comma only after a PPar, and the
     /// sign that closes it
     #[cycle(parse)]
-    fn pattern_sequence(&mut self, bracket: Bracket, free: u32) -> Result<Part<Sequence>, Fault>
+    pub fn pattern_sequence(&mut self, bracket: Bracket, free: u32) -> Result<Part<Sequence>, Fault>
         ensures reads { Gives free (Sort.Seq (bracket_of bracket)) of_sequence (view self.old.cursor.rest.now) result (view self.new.cursor.rest.now) }
         ensures room { IfOk result (λ p. p.height ≤ free) }
         ensures shorter { length self.new.cursor.rest.now ≤ length self.old.cursor.rest.now }
@@ -170,40 +80,16 @@ impl<'a> Parser<'a> {
         self.cursor.sequence_end(bracket, pats)
     }
 
-    /// A map, or a pattern in braces.
+    /// What follows the first pattern in braces: the end, or the pairs of a map and its remainder.
     #[cycle(parse)]
-    fn pattern_brace(&mut self, free: u32) -> Result<Part<Pat>, Fault>
-        ensures reads { Makes free (rule Tutorial Prod.patom_brace) of_pat (view self.old.cursor.rest.now) result (view self.new.cursor.rest.now) }
-        ensures room { IfOk result (λ p. p.height ≤ free) }
-        ensures shorter { length self.new.cursor.rest.now ≤ length self.old.cursor.rest.now }
-    {
-        self.cursor.opens(Mark::OpenBrace, 0, free)?;
-        if self.cursor.sees(Mark::CloseBrace) {
-            return self.cursor.empty_map_pat();
-        }
-        if self.cursor.sees(Mark::Ellipsis) {
-            return self.cursor.rest_map_pat();
-        }
-        let first = self.pattern_par(free - 1)?;
-        if self.cursor.sees(Mark::Colon) {
-            self.pattern_pairs(first, free)
-        } else {
-            self.cursor.pattern_brace_close(first)
-        }
-    }
-
-    /// PMap ::= [ PPar ":" PPar { "," PPar ":" PPar } ] [ [","] "..." ( Word | "_" ) ], with the comma only
-    /// after a pair, after its first key
-    #[cycle(parse)]
-    fn pattern_pairs(&mut self, first: Part<Pat>, free: u32) -> Result<Part<Pat>, Fault>
+    pub fn pattern_block(&mut self, first: Part<Pat>, free: u32) -> Result<Part<Pat>, Fault>
         requires { first.height < free }
-        ensures reads { Makes free (rule Tutorial (Prod.pbrace_pair (of_pat first))) of_pat (view self.old.cursor.rest.now) result (view self.new.cursor.rest.now) }
+        ensures reads { Gives free (Sort.PBraceTail (of_pat first)) of_pat (view self.old.cursor.rest.now) result (view self.new.cursor.rest.now) }
         ensures room { IfOk result (λ p. p.height ≤ free) }
         ensures shorter { length self.new.cursor.rest.now ≤ length self.old.cursor.rest.now }
     {
-        match self.cursor.expect(Mark::Colon) {
-            Ok(()) => {}
-            Err(fault) => return parts::give_up(first, fault),
+        if !skip(&mut self.cursor, Mark::Colon) {
+            return self.cursor.pattern_brace_close(first);
         }
         let value = match self.pattern_par(free - 1) {
             Ok(value) => value,
@@ -219,7 +105,7 @@ impl<'a> Parser<'a> {
 
     /// A comma and one more pair.
     #[cycle(parse)]
-    fn pattern_pairs_more(
+    pub fn pattern_pairs_more(
         &mut self,
         pairs: Part<Vec<(Pat, Pat)>>,
         free: u32,

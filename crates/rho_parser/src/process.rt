@@ -1,5 +1,6 @@
 //! Processes in parallel, and the forms that end in a process, a row or a block.
 ghost use Rattle.calculus.specs.Meaning.{proc_written};
+ghost use Rattle.form_steps.specs.Parts.{after_channel, form_sort};
 ghost use Rattle.grammar.specs.Grammar.{rule};
 ghost use Rattle.grammar.specs.Productions.{Prod};
 ghost use Rattle.grammar.specs.Rules.{Sort, last};
@@ -11,6 +12,8 @@ ghost use Rattle.std.specs.Prelude.{◌≡◌, ◌<◌, ◌≤◌, IfOk, MatchRe
 
 use crate::parser::Parser;
 use calculus::{Name, Proc};
+use form_steps::step::{FormKey, Sending, TermStep};
+use form_steps::{begin_send, begin_term, close_bundle, leading_form, quoted_send};
 use grammar::{Fault, Mark};
 use token_cursor::part::{Bracket, Part};
 use token_cursor::{Level, parts, process_forms};
@@ -40,14 +43,25 @@ impl<'a> Parser<'a> {
         ensures room { IfOk result (λ p. p.height ≤ free) }
         ensures shorter { length self.new.cursor.rest.now ≤ length self.old.cursor.rest.now }
     {
-        if self.cursor.sees(Mark::New) {
-            self.new_form(free)
-        } else if self.cursor.sees(Mark::If) {
-            self.if_form(free)
-        } else if self.cursor.sees(Mark::Contract) {
-            self.contract_form(free)
-        } else {
-            self.two(free)
+        match leading_form(&self.cursor) {
+            Some(key) => self.form(key, free),
+            None => self.two(free),
+        }
+    }
+
+    /// A form that begins with this key.
+    #[cycle(parse)]
+    pub fn form(&mut self, key: FormKey, free: u32) -> Result<Part<Proc>, Fault>
+        ensures reads { Gives free (form_sort key) of_proc (view self.old.cursor.rest.now) result (view self.new.cursor.rest.now) }
+        ensures room { IfOk result (λ p. p.height ≤ free) }
+        ensures shorter { length self.new.cursor.rest.now ≤ length self.old.cursor.rest.now }
+    {
+        match key {
+            FormKey::New => self.new_form(free),
+            FormKey::If => self.if_form(free),
+            FormKey::Contract => self.contract_form(free),
+            FormKey::For => self.for_form(free),
+            FormKey::Match => self.match_form(free),
         }
     }
 
@@ -120,84 +134,37 @@ impl<'a> Parser<'a> {
         ensures room { IfOk result (λ p. p.height ≤ free) }
         ensures shorter { length self.new.cursor.rest.now ≤ length self.old.cursor.rest.now }
     {
-        if self.cursor.sees(Mark::For) {
-            self.for_form(free)
-        } else if self.cursor.sees(Mark::Match) {
-            self.match_form(free)
-        } else if self.cursor.sees_bundle() {
-            self.bundle(free)
-        } else if self.cursor.sees(Mark::At) {
-            self.two_quote(free)
-        } else if self.cursor.sees_send() {
-            self.two_word(free)
-        } else {
-            self.level(Level::Or, free)
+        match begin_term(&mut self.cursor, free) {
+            Ok(TermStep::Form(key)) => self.form(key, free),
+            Ok(TermStep::Bundle(rights)) => {
+                let body = self.par(free - 1)?;
+                close_bundle(&mut self.cursor, rights, body)
+            }
+            Ok(TermStep::Quoted) => {
+                let quoted = self.drop_form(free - 1)?;
+                let channel = quoted_send(&mut self.cursor, quoted)?;
+                self.sent(channel, free)
+            }
+            Ok(TermStep::Send) => {
+                let sending = begin_send(&mut self.cursor, free)?;
+                self.sent(sending, free)
+            }
+            Ok(TermStep::Chain) => self.level(Some(Level::Or), free),
+            Err(fault) => Err(fault),
         }
     }
 
-    /// A send on a variable.
+    /// The arguments of a send.
     #[cycle(parse)]
-    pub fn two_word(&mut self, free: u32) -> Result<Part<Proc>, Fault>
-        ensures reads { Makes free (rule Tutorial Prod.two_word) of_proc (view self.old.cursor.rest.now) result (view self.new.cursor.rest.now) }
+    pub fn sent(&mut self, sending: Sending<Name>, free: u32) -> Result<Part<Proc>, Fault>
+        requires { sending.channel.height < free }
+        ensures reads { Makes free (after_channel sending) of_proc (view self.old.cursor.rest.now) result (view self.new.cursor.rest.now) }
         ensures room { IfOk result (λ p. p.height ≤ free) }
         ensures shorter { length self.new.cursor.rest.now ≤ length self.old.cursor.rest.now }
     {
-        let name = self.cursor.word()?;
-        let channel = process_forms::channel(name);
-        let persistent = self.cursor.sees(Mark::DoubleBang);
-        match self.cursor.opens_bang(persistent, free) {
-            Ok(()) => {}
-            Err(fault) => return parts::give_up(channel, fault),
-        }
-        match self.cursor.expect(Mark::Open) {
-            Ok(()) => {}
-            Err(fault) => return parts::give_up(channel, fault),
-        }
         match self.row(Bracket::Round, free - 1) {
-            Ok(args) => Ok(process_forms::send(channel, args, persistent)),
-            Err(fault) => parts::give_up(channel, fault),
-        }
-    }
-
-    /// A send on a quoted process, which is opened at the `@`.
-    #[cycle(parse)]
-    pub fn two_quote(&mut self, free: u32) -> Result<Part<Proc>, Fault>
-        ensures reads { Makes free (rule Tutorial Prod.two_quote) of_proc (view self.old.cursor.rest.now) result (view self.new.cursor.rest.now) }
-        ensures room { IfOk result (λ p. p.height ≤ free) }
-        ensures shorter { length self.new.cursor.rest.now ≤ length self.old.cursor.rest.now }
-    {
-        self.cursor.opens(Mark::At, 0, free)?;
-        let quoted = self.drop_form(free - 1)?;
-        let channel = process_forms::quote(self.cursor.alloc, quoted)?;
-        let persistent = self.cursor.sees(Mark::DoubleBang);
-        match self.cursor.expect_bang(persistent) {
-            Ok(()) => {}
-            Err(fault) => return parts::give_up(channel, fault),
-        }
-        match self.cursor.expect(Mark::Open) {
-            Ok(()) => {}
-            Err(fault) => return parts::give_up(channel, fault),
-        }
-        match self.row(Bracket::Round, free - 1) {
-            Ok(args) => Ok(process_forms::send(channel, args, persistent)),
-            Err(fault) => parts::give_up(channel, fault),
-        }
-    }
-
-    /// Bundle ::= ( "bundle" | "bundle+" | "bundle-" | "bundle0" ) "{" Par "}"
-    #[cycle(parse)]
-    pub fn bundle(&mut self, free: u32) -> Result<Part<Proc>, Fault>
-        ensures reads { Gives free (Sort.Bundle processes) of_proc (view self.old.cursor.rest.now) result (view self.new.cursor.rest.now) }
-        ensures room { IfOk result (λ p. p.height ≤ free) }
-        ensures shorter { length self.new.cursor.rest.now ≤ length self.old.cursor.rest.now }
-    {
-        let rights = self.cursor.rights();
-        self.cursor.opens_bundle(rights, free)?;
-        self.cursor.expect(Mark::OpenBrace)?;
-        let body = self.par(free - 1)?;
-        match self.cursor.expect(Mark::CloseBrace) {
-            Ok(()) => process_forms::bundle(self.cursor.alloc, rights, body),
-            Err(fault) => parts::give_up(body, fault),
+            Ok(args) => Ok(process_forms::send(sending.channel, args, sending.persistent)),
+            Err(fault) => parts::give_up(sending, fault),
         }
     }
 }

@@ -5,13 +5,14 @@ ghost use Rattle.grammar.specs.Productions.{Prod};
 ghost use Rattle.grammar.specs.Rules.{Sort, last, separator_mark, sign};
 ghost use Rattle.grammar.specs.declared.dialect.Dialect.TheVariants.{Tutorial};
 ghost use Rattle.token_cursor.specs.Meaning.{view};
-ghost use Rattle.rho_parser.specs.Reading.{ReadsCase, ReadsCases};
+ghost use Rattle.rho_parser.specs.Reading.{ReadsCase};
 ghost use Rattle.token_cursor.specs.Reading.{Gives, Makes, Turns, of_bind, of_left, of_proc, separator_of};
 ghost use Rattle.grammar.specs.Rules as separators;
 ghost use Rattle.std.specs.Prelude.{◌<◌, ◌≤◌, IfOk, MatchResult, ℕ, length, map};
 
 use crate::parser::Parser;
 use calculus::{Bind, Case, Kind, Proc};
+use form_steps::{next_separator, skip};
 use grammar::{Fault, Mark};
 use token_cursor::part::{Left, Part, Separator};
 use token_cursor::{Level, parts, process_forms};
@@ -30,52 +31,12 @@ impl<'a> Parser<'a> {
         let kind = self.cursor.arrow();
         self.cursor.expect_arrow(kind)?;
         let channel = self.name(free - 1)?;
-        self.first_tail(kind, process_forms::bind(left, channel), free)
+        let first = parts::start(self.cursor.alloc, process_forms::bind(left, channel))?;
+        let separator = next_separator(&self.cursor);
+        self.binds_tail(kind, separator, 15, first, free)
     }
 
-    /// What follows a first bind.
-    #[cycle(parse)]
-    pub fn first_tail(
-        &mut self,
-        kind: Kind,
-        bind: Part<Bind>,
-        free: u32,
-    ) -> Result<Part<Proc>, Fault>
-        requires { bind.height < free }
-        ensures reads { Gives free (Sort.FirstTail kind (of_bind bind)) of_proc (view self.old.cursor.rest.now) result (view self.new.cursor.rest.now) }
-        ensures room { IfOk result (λ p. p.height ≤ free) }
-        ensures shorter { length self.new.cursor.rest.now ≤ length self.old.cursor.rest.now }
-    {
-        let first = parts::start(self.cursor.alloc, bind)?;
-        if self.cursor.sees(Mark::Semicolon) {
-            self.more_binds(kind, Separator::Semicolon, first, free)
-        } else if self.cursor.sees(Mark::Ampersand) {
-            self.more_binds(kind, Separator::Ampersand, first, free)
-        } else {
-            self.body(kind, first, free)
-        }
-    }
-
-    /// A separator, a second bind, and what follows it.
-    #[cycle(parse)]
-    pub fn more_binds(
-        &mut self,
-        kind: Kind,
-        separator: Separator,
-        first: Part<Vec<Bind>>,
-        free: u32,
-    ) -> Result<Part<Proc>, Fault>
-        requires { first.height < free }
-        ensures reads { Makes free (sign (separator_mark (separator_of separator)) (last (Sort.Binds kind (separator_of separator) 14 (map bind_written first.value.items) first.height))) of_proc (view self.old.cursor.rest.now) result (view self.new.cursor.rest.now) }
-        ensures room { IfOk result (λ p. p.height ≤ free) }
-        ensures shorter { length self.new.cursor.rest.now ≤ length self.old.cursor.rest.now }
-    {
-        self.cursor.expect_separator(separator)?;
-        let binds = self.next_bind(kind, first, free)?;
-        self.binds_tail(kind, separator, 14, binds, free)
-    }
-
-    /// Further binds, of which so many more may stand, and the body.
+    /// Further binds, of which so many more may stand and which are of the kind of the first, and the body.
     #[cycle(parse)]
     pub fn binds_tail(
         &mut self,
@@ -92,44 +53,12 @@ impl<'a> Parser<'a> {
     {
         if self.cursor.sees_bind(separator, more) {
             self.cursor.expect_separator(separator)?;
-            let all = self.next_bind(kind, binds, free)?;
+            let left = self.left(free - 1)?;
+            self.cursor.expect_arrow(kind)?;
+            let channel = self.name(free - 1)?;
+            let all = parts::push(binds, process_forms::bind(left, channel))?;
             return self.binds_tail(kind, separator, more - 1, all, free);
         }
-        self.body(kind, binds, free)
-    }
-
-    /// One more bind, of the kind of the first.
-    #[cycle(parse)]
-    pub fn next_bind(
-        &mut self,
-        kind: Kind,
-        binds: Part<Vec<Bind>>,
-        free: u32,
-    ) -> Result<Part<Vec<Bind>>, Fault>
-        requires { binds.height < free }
-        ensures reads { (m : separators.Separator) (left : ℕ) → Turns free (rule Tutorial (Prod.binds kind m left (map bind_written binds.value.items) binds.height)) (λ b. last (Sort.BindsTail kind m left (map bind_written b.value.items) b.height)) (view self.old.cursor.rest.now) result (view self.new.cursor.rest.now) }
-        ensures room { IfOk result (λ p. p.height < free) }
-        ensures shorter { MatchResult result (λ _. length self.new.cursor.rest.now < length self.old.cursor.rest.now) (λ _. length self.new.cursor.rest.now ≤ length self.old.cursor.rest.now) }
-    {
-        let left = self.left(free - 1)?;
-        self.cursor.expect_arrow(kind)?;
-        let channel = self.name(free - 1)?;
-        parts::push(binds, process_forms::bind(left, channel))
-    }
-
-    /// The body of a receive.
-    #[cycle(parse)]
-    pub fn body(
-        &mut self,
-        kind: Kind,
-        binds: Part<Vec<Bind>>,
-        free: u32,
-    ) -> Result<Part<Proc>, Fault>
-        requires { binds.height < free }
-        ensures reads { Gives free (Sort.Body kind (map bind_written binds.value.items) binds.height) of_proc (view self.old.cursor.rest.now) result (view self.new.cursor.rest.now) }
-        ensures room { IfOk result (λ p. p.height ≤ free) }
-        ensures shorter { length self.new.cursor.rest.now ≤ length self.old.cursor.rest.now }
-    {
         self.cursor.expect(Mark::Close)?;
         self.cursor.expect(Mark::OpenBrace)?;
         let body = self.par(free - 1)?;
@@ -147,35 +76,21 @@ impl<'a> Parser<'a> {
         ensures shorter { length self.new.cursor.rest.now ≤ length self.old.cursor.rest.now }
     {
         self.cursor.opens(Mark::Match, 0, free)?;
-        let target = self.level(Level::Or, free - 1)?;
+        let target = self.level(Some(Level::Or), free - 1)?;
         match self.cursor.expect(Mark::OpenBrace) {
             Ok(()) => {}
             Err(fault) => return parts::give_up(target, fault),
         }
-        let cases = match self.cases(target.height, free) {
-            Ok(cases) => cases,
-            Err(fault) => return parts::give_up(target, fault),
-        };
-        match self.cursor.expect(Mark::CloseBrace) {
-            Ok(()) => process_forms::matches(self.cursor.alloc, target.value, cases),
-            Err(fault) => parts::give_up(target, fault),
+        let mut cases = process_forms::no_cases(self.cursor.alloc, target.height);
+        'each: loop {
+            cases = match self.case(cases, free) {
+                Ok(cases) => cases,
+                Err(fault) => return parts::give_up(target, fault),
+            };
+            if skip(&mut self.cursor, Mark::CloseBrace) {
+                return process_forms::matches(self.cursor.alloc, target.value, cases);
+            }
         }
-    }
-
-    /// The cases of a `match` whose target has this height.
-    #[cycle(parse)]
-    pub fn cases(&mut self, height: u32, free: u32) -> Result<Part<Vec<Case>>, Fault>
-        requires { height < free }
-        ensures reads { ReadsCases free height (view self.old.cursor.rest.now) result (view self.new.cursor.rest.now) }
-        ensures room { IfOk result (λ p. p.height < free) }
-        ensures shorter { length self.new.cursor.rest.now ≤ length self.old.cursor.rest.now }
-    {
-        let none = process_forms::no_cases(self.cursor.alloc, height);
-        let mut cases = self.case(none, free)?;
-        while !self.cursor.sees(Mark::CloseBrace) {
-            cases = self.case(cases, free)?;
-        }
-        Ok(cases)
     }
 
     /// Case ::= POne "=>" One, where POne doesn't begin with "-"

@@ -7,7 +7,7 @@ ghost use Rattle.replay_store.specs.Stores.{AreAll};
 use crate::bodies::{Coming, Ended, add_first, add_offers, in_order, offers};
 use calculus::Digest;
 use event_log::Log;
-use replay_shards::{ReplayHeld, ReplayShard, Try, first_tries, row_shards};
+use replay_shards::{ReplayHeld, ReplayShard, ShardedRow, Try, first_tries};
 use replay_space::Rig;
 use replay_store::rows_of;
 use space_row::Row;
@@ -124,10 +124,11 @@ fn bring_one(
         return Err(LineFault::Field);
     }
     let coming = jobs.coming.swap_remove(place);
-    let shards = row_shards(alloc, &coming.row)?;
-    let tries = first_tries(alloc, rig, &coming.row)?;
+    let row = ShardedRow::from_row(alloc, coming.row)?;
+    let tries = first_tries(alloc, rig, &row)?;
     add_tries(&mut jobs.tries, tries)?;
-    held.arrive(alloc, coming.row, coming.from, shards)?;
+    let shards = row.shards();
+    held.arrive(alloc, row, coming.from, shards)?;
     Ok(())
 }
 
@@ -177,7 +178,7 @@ fn try_step(
     if step as usize >= log.steps.len() {
         return Ok(None);
     }
-    if held.step_shards(alloc, log, step)?.is_none() {
+    if held.step_shards(log, step).is_none() {
         return Ok(None);
     }
     let Some(ready) = held.possible(alloc, rig, log, step)? else {

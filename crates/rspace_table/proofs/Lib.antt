@@ -3,6 +3,5 @@ pub mod Shown
 pub mod Changes
 pub mod Searching
 pub mod Telling
-pub mod Gathered
 pub mod Spread
 pub mod InHand

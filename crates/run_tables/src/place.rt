@@ -1,4 +1,4 @@
-use rho_main::{Status, run};
+use program_calls::{Ended, call};
 use rho_outside::{MemShelf, MemSink, OpenGate, Shelf};
 use std::alloc::Global;
 use std::str;
@@ -50,14 +50,10 @@ impl Place {
         rt: &R,
         alloc: Global,
         text: &str,
-    ) -> Result<Status, LineFault> {
-        let mut words = Vec::new(alloc);
-        for word in text.split(' ') {
-            words.push(String::from_str(alloc, word)?)?;
-        }
+    ) -> Result<Ended, LineFault> {
         self.out = MemSink::new(alloc);
         let (shelf, out) = (&mut self.shelf, &mut self.out);
-        Ok(run(rt, alloc, words.as_slice(), shelf, out, &OpenGate))
+        Ok(call(rt, alloc, text, shelf, out, &OpenGate)?)
     }
 
     pub fn deploy<R: Threads + Wait + Sync>(
@@ -65,7 +61,7 @@ impl Place {
         rt: &R,
         alloc: Global,
         limit: &str,
-    ) -> Result<Status, LineFault> {
+    ) -> Result<Ended, LineFault> {
         let text = format!(in alloc;
             "deploy d --state s --prices p --limit {limit} --log l --next n"
         )?;
@@ -76,32 +72,27 @@ impl Place {
         &mut self,
         rt: &R,
         alloc: Global,
-    ) -> Result<Status, LineFault> {
+    ) -> Result<Ended, LineFault> {
         self.run(rt, alloc, "replay d --state s --prices p --log l --next m")
     }
 
     /// What a call came to, by the names of what is to be shown, with `+` between them.
-    pub fn told(
-        &mut self,
-        alloc: Global,
-        status: &Status,
-        names: &str,
-    ) -> Result<String, LineFault> {
+    pub fn told(&mut self, alloc: Global, ended: &Ended, names: &str) -> Result<String, LineFault> {
         let mut told = String::new(alloc);
         for name in names.split('+') {
             if !told.is_empty() {
                 told.push_str(" | ")?;
             }
-            told.push_str(self.shown(alloc, status, name)?.as_str())?;
+            told.push_str(self.shown(alloc, ended, name)?.as_str())?;
         }
         Ok(told)
     }
 
-    fn shown(&mut self, alloc: Global, status: &Status, name: &str) -> Result<String, LineFault> {
+    fn shown(&mut self, alloc: Global, ended: &Ended, name: &str) -> Result<String, LineFault> {
         match name {
-            "status" => Ok(format!(in alloc; "{status:?}")?),
-            "code" => Ok(format!(in alloc; "{}", status.code())?),
-            "message" => text_of(alloc, status.message(alloc)?.as_slice()),
+            "status" => Ok(String::from_str(alloc, ended.shown.as_str())?),
+            "code" => Ok(format!(in alloc; "{}", ended.code)?),
+            "message" => text_of(alloc, ended.message.as_slice()),
             "out" => {
                 let text = text_of(alloc, self.out.bytes.as_slice())?;
                 Ok(format!(in alloc; "{text:?}")?)

@@ -25,8 +25,8 @@ pub fn deploy<R: Threads + Wait + Sync>(
     let (shown, fields) = fields.split_once(' ').ok_or(LineFault::Field)?;
     let (limit, source) = fields.split_once(' ').ok_or(LineFault::Field)?;
     let mut place = place_of(alloc, source)?;
-    let status = place.deploy(rt, alloc, limit)?;
-    place.told(alloc, &status, shown)
+    let ended = place.deploy(rt, alloc, limit)?;
+    place.told(alloc, &ended, shown)
 }
 
 /// A deploy of given inputs. The fields are what is shown, and then with `<>` between them the state, the prices, the
@@ -49,8 +49,8 @@ pub fn deploy_of<R: Threads + Wait + Sync>(
         prices.as_slice(),
         source.as_slice(),
     )?;
-    let status = place.deploy(rt, alloc, limit)?;
-    place.told(alloc, &status, shown)
+    let ended = place.deploy(rt, alloc, limit)?;
+    place.told(alloc, &ended, shown)
 }
 
 /// A deploy of which one call of the shelf fails. The fields are its number, what is shown, the limit and the source.
@@ -64,8 +64,8 @@ pub fn deploy_failing<R: Threads + Wait + Sync>(
     let (limit, source) = fields.split_once(' ').ok_or(LineFault::Field)?;
     let mut place = place_of(alloc, source)?;
     place.fail_at(u64::from(number(call)?))?;
-    let status = place.deploy(rt, alloc, limit)?;
-    place.told(alloc, &status, shown)
+    let ended = place.deploy(rt, alloc, limit)?;
+    place.told(alloc, &ended, shown)
 }
 
 /// A deploy and the replay of its log. The fields are what is shown of the replay, the limit and the source. The status of
@@ -81,7 +81,7 @@ pub fn deploy_and_replay<R: Threads + Wait + Sync>(
     let deployed = place.deploy(rt, alloc, limit)?;
     let replayed = place.replay(rt, alloc)?;
     let told = place.told(alloc, &replayed, shown)?;
-    Ok(format!(in alloc; "{deployed:?}, then {told}")?)
+    Ok(format!(in alloc; "{}, then {told}", deployed.shown)?)
 }
 
 /// A replay. The fields are what is shown, the digits of the log, and the source.
@@ -94,6 +94,6 @@ pub fn replay<R: Threads + Wait + Sync>(
     let (log, source) = fields.split_once(' ').ok_or(LineFault::Field)?;
     let mut place = place_of(alloc, source)?;
     place.set(alloc, "l", hex_bytes(alloc, log)?.as_slice())?;
-    let status = place.replay(rt, alloc)?;
-    place.told(alloc, &status, shown)
+    let ended = place.replay(rt, alloc)?;
+    place.told(alloc, &ended, shown)
 }

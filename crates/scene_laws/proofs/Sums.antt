@@ -4,9 +4,9 @@ use Rattle.std.specs.Prelude.{slice_get}
 use Rattle.std.specs.List.{All}
 use Rattle.std.proofs.lemmas.Bool.Decides.{nat_tests}
 use Rattle.std.proofs.lemmas.List.Elements.{All-head, All-tail}
-use Rattle.group_locks.specs.Counts.{one_if, count, once_below, total, all_of, Each}
-use Rattle.group_locks.specs.Rule.{cost}
-use Rattle.group_locks.proofs.Sums.{total_both, each_more}
+use Rattle.hub_rule.specs.Counts.{one_if, count, once_below, total, all_of, Each}
+use Rattle.hub_rule.specs.Rule.{cost}
+use Rattle.hub_rule.proofs.Sums.{total_both, each_more}
 
 -- f of each, as often as the number of its place is counted; the first place has the number b
 abbrev weighted : {E : Type 0} → (E → ℕ) → ℕ → List E → (ℕ → ℕ) → ℕ

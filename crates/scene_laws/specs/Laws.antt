@@ -1,7 +1,7 @@
 -- Sums over the entries that seats drew. The law stands in the contract of a public function that does nothing.
 use Rattle.std.specs.Prelude.{◌≡◌, ℕ, List, Some, length, slice_get}
-use Rattle.group_locks.specs.Counts.{count, once_below, total, Each}
-use Rattle.group_locks.specs.Rule.{cost}
+use Rattle.hub_rule.specs.Counts.{count, once_below, total, Each}
+use Rattle.hub_rule.specs.Rule.{cost}
 
 -- where entries with their numbers have each number once, and each is the one at its place, they cost what all entries cost
 abbrev pub NumberedEntriesAddUp : Type 0 → Type 0

@@ -7,7 +7,7 @@ use Rattle.atomic_table.proofs.send_lease.SendLease.TheSendSync.{the_sync as lea
 use Rattle.atomic_table.proofs.shared.Seat.TheSendSync.{the_send as token-send}
 use Rattle.atomic_table.proofs.shared.Shared.TheSendSync.{the_sync as shared-sync}
 use Rattle.sent_rows.proofs.Crossing.{row-send, row-sync}
-use Rattle.group_locks.specs.contracts.slot.Slot as Slot
+use Rattle.hub_rule.specs.contracts.slot.Slot as Slot
 use Rattle.group_locks.specs.contracts.state.SeatState as State
 use Rattle.group_locks.specs.contracts.seat.Seat as Seat
 use Rattle.group_locks.specs.contracts.hub.Hub as Hub

@@ -22,9 +22,10 @@ last_code (r ∷ q ∷ qs) = last_code (q ∷ qs)
 abbrev pub AreIds : BTreeSet (List ℕ) → List (List ℕ) → Type 0
 AreIds set xs = (x : List ℕ) → contains byte_cmp set x ≡ is_one_of x xs
 
--- rows in the order of a state, with their ids and the code of the last
+-- rows in the order of a state, with their codes and ids and the code of the last
 pub record IsInHand (s : RowsRead) : Type 0 where
   pub order : AreInOrder s.rows.items
+  pub codes : each (λ c. c.now) s.codes.items ≡ each row_code s.rows.items
   pub ids : AreIds s.ids (each (λ r. r.id) s.rows.items)
   pub last : s.last.now ≡ last_code s.rows.items
 

@@ -23,10 +23,11 @@ use std::collections::BTreeSet;
 /// No row's code has fewer bytes: a first byte, an id, a channel without parts, a flag and the number of arguments.
 const LEAST_LENGTH: usize = 42;
 
-// Rows that were read, their ids, and the code of the last one.
+// Rows that were read, their codes and ids, and the code of the last one.
 #[derive(Drop)]
 pub(crate) struct RowsRead<'a> {
     pub(crate) rows: Vec<Row>,
+    pub(crate) codes: Vec<&'a [u8]>,
     pub(crate) ids: BTreeSet<[u8; 32]>,
     pub(crate) last: &'a [u8],
 }
@@ -47,6 +48,7 @@ impl<'a> RowsRead<'a> {
             return Ok(false);
         }
         self.rows.push(row)?;
+        self.codes.push(code)?;
         self.last = code;
         Ok(true)
     }
@@ -131,30 +133,32 @@ fn add_id(ids: &mut BTreeSet<[u8; 32]>, id: &Digest) -> Result<bool, AllocError>
     Ok(new)
 }
 
-// A list for so many rows, with room for those that these bytes may have.
-fn list_of_rows(alloc: Global, number: u64, bytes: &[u8]) -> Vec<Row>
+// A list with an item for each of so many rows to come, with room for those that these bytes may have.
+fn list_for_rows<T>(alloc: Global, number: u64, bytes: &[u8]) -> Vec<T>
     ensures { result.items ≡ [] }
 {
     let most = bytes.len() / LEAST_LENGTH;
     with_room(alloc, number.min(most as u64) as usize)
 }
 
-// So many rows at the front of what follows the header in a text of `whole` bytes, and what is left.
+// So many rows at the front of what follows the header in a text of `whole` bytes, their codes, and what is left.
 pub(crate) fn take_rows<'a>(
     alloc: Global,
     whole: usize,
     bytes: &'a [u8],
     number: u64,
-) -> Result<(Vec<Row>, &'a [u8]), StateFault>
+) -> Result<(Vec<Row>, Vec<&'a [u8]>, &'a [u8]), StateFault>
     ensures order { IfOk result (λ p. AreInOrder p.0.items) }
     ensures number { IfOk result (λ p. length p.0.items ≡ number) }
-    ensures is { IfOk result (λ p. bytes.now ≡ joined (map code_of_row p.0.items) ++ p.1.now) }
+    ensures codes { IfOk result (λ p. map (λ c. c.now) p.1.items ≡ map code_of_row p.0.items) }
+    ensures is { IfOk result (λ p. bytes.now ≡ joined (map code_of_row p.0.items) ++ p.2.now) }
     ensures tells { IfErr result (λ e. IsOfRows e) }
     ensures cut { (at : ℕ) → result ≡ Err (Short at) → (at ≡ whole) × AreCut number bytes.now }
     ensures wrong { (at : ℕ) → result ≡ Err (NotCanonical at) → length bytes.now < 2 ^ 32 → length bytes.now ≤ whole → AreWrong whole at number bytes.now }
 {
     let mut read = RowsRead {
-        rows: list_of_rows(alloc, number, bytes),
+        rows: list_for_rows(alloc, number, bytes),
+        codes: list_for_rows(alloc, number, bytes),
         ids: BTreeSet::new(alloc),
         last: &[],
     };
@@ -165,5 +169,5 @@ pub(crate) fn take_rows<'a>(
             Err(fault) => return Err(fault),
         }
     }
-    Ok((read.rows, left))
+    Ok((read.rows, read.codes, left))
 }

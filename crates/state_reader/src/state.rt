@@ -1,6 +1,7 @@
 // The reading of a whole state.
 ghost use Rattle.std.specs.Prelude.{◌≡◌, ◌<◌, ◌^◌, [], length, List, ℕ, map, true, IfOk, IfErr, MatchOption};
 ghost use Rattle.std.specs.Str.{bytes_eq};
+ghost use Rattle.calculus.specs.Rows.{row_code as code_of_row};
 ghost use Rattle.calculus.specs.Steps.{differ};
 ghost use Rattle.events.specs.Events.{first_ids};
 ghost use Rattle.states.specs.States.{state_text};
@@ -14,7 +15,7 @@ use crate::fault::StateFault;
 use crate::header::take_header;
 use crate::read::take_rows;
 use calculus::Digest;
-use checkpoint::{Checkpoint, marked_tree};
+use checkpoint::{Checkpoint, coded_tree};
 use least_step::{LeastStep, first_reducible};
 use space_row::Row;
 use std::alloc::{AllocError, Global};
@@ -33,10 +34,14 @@ fn are_equal(a: &Digest, b: &Digest) -> bool
     *a == *b
 }
 
-// The rows of a text and the root that it tells. Whether that is their root and whether they allow a step is
+// The rows of a text, their codes, and the root that it tells. Whether that is their root and whether they allow a step is
 // not looked at.
-fn read_order(alloc: Global, bytes: &[u8]) -> Result<(Vec<Row>, Digest), StateFault>
-    ensures is { IfOk result (λ p. Begins bytes.now p.1.0 (length p.0.items) p.0.items []) }
+fn read_order<'a>(
+    alloc: Global,
+    bytes: &'a [u8],
+) -> Result<(Vec<Row>, Vec<&'a [u8]>, Digest), StateFault>
+    ensures is { IfOk result (λ p. Begins bytes.now p.2.0 (length p.0.items) p.0.items []) }
+    ensures codes { IfOk result (λ p. map (λ c. c.now) p.1.items ≡ map code_of_row p.0.items) }
     ensures tells { IfErr result (λ e. IsOfRows e) }
     ensures short { (at : ℕ) → result ≡ Err (Short at) → (at ≡ length bytes.now) × EndsEarly bytes.now }
     ensures wrong { (at : ℕ) → result ≡ Err (NotCanonical at) → length bytes.now < 2 ^ 32 → IsWrongAt at bytes.now }
@@ -45,7 +50,7 @@ fn read_order(alloc: Global, bytes: &[u8]) -> Result<(Vec<Row>, Digest), StateFa
         Ok(header) => header,
         Err(fault) => return Err(fault),
     };
-    let (rows, others) = match take_rows(alloc, bytes.len(), left, number) {
+    let (rows, codes, others) = match take_rows(alloc, bytes.len(), left, number) {
         Ok(read) => read,
         Err(fault) => return Err(fault),
     };
@@ -53,7 +58,7 @@ fn read_order(alloc: Global, bytes: &[u8]) -> Result<(Vec<Row>, Digest), StateFa
         let at = bytes.len().saturating_sub(others.len());
         return Err(StateFault::NotCanonical { at });
     }
-    Ok((rows, root))
+    Ok((rows, codes, root))
 }
 
 /// The checkpoint of the state whose text these bytes are.
@@ -64,11 +69,11 @@ pub fn read_state(alloc: Global, bytes: &[u8]) -> Result<Checkpoint, StateFault>
     ensures read { IfOk result (λ rows. bytes.now ≡ state_text rows) }
     ensures refused { IfErr result (IsRefused bytes.now) }
 {
-    let (rows, stored) = match read_order(alloc, bytes) {
+    let (rows, codes, stored) = match read_order(alloc, bytes) {
         Ok(read) => read,
         Err(fault) => return Err(fault),
     };
-    let (tree, marks) = marked_tree(alloc, rows.as_slice())?;
+    let (tree, marks) = coded_tree(alloc, rows.as_slice(), codes)?;
     let found = tree.root();
     if !are_equal(&found, &stored) {
         return Err(StateFault::WrongRoot { stored, found });

@@ -13,10 +13,10 @@ use Rattle.code_faults.specs.Texts.{HasForm}
 use Rattle.code_faults.specs.declared.sort.TextKind.TheVariants as kind
 use Rattle.code_faults.proofs.Forms.{two-codes}
 
-one-code : (x d : List ℕ) {b : List ℕ} → b ≡ x ++ d → b ≡ (x ++ []) ++ d
+pub one-code : (x d : List ℕ) {b : List ℕ} → b ≡ x ++ d → b ≡ (x ++ []) ++ d
 one-code x d e = e ∙ ap (λ (zs : List ℕ). zs ++ d) (sym (append-nil x))
 
-tagged : (tag k : ℕ) {a bs : List ℕ} → tag ≡ k → a ≡ bs → tag ∷ a ≡ k ∷ bs
+pub tagged : (tag k : ℕ) {a bs : List ℕ} → tag ≡ k → a ≡ bs → tag ∷ a ≡ k ∷ bs
 tagged tag k {a = a} e f = ap (λ (x : ℕ). x ∷ a) e ∙ ap (λ (zs : List ℕ). k ∷ zs) f
 
 pub list-form : {v : Scope} {room : ℕ} (ts : List Tree) {a c : List ℕ} (tag : ℕ) → tag ≡ 0x20 → Reads (row_of term) v room (many row ts) a c → Reads part v (room + 1) (many list ts) (tag ∷ a) c

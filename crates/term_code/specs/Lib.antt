@@ -1,1 +1,2 @@
+pub mod Outcomes
 pub use Rattle.term_encoder.specs.Sizes

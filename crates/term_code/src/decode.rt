@@ -1,30 +1,25 @@
-// Reading of codes: one method for each sort of constituent.
-ghost use Rattle.std.specs.Prelude.{◌≡◌, ◌∷◌, ◌++◌, ◌≤◌, ◌<◌, ◌+◌, ◌^◌, ◌⊎◌, length, map, IfOk, IfErr, replicate, true, false, ℕ};
+// Reading of codes.
+ghost use Rattle.std.specs.Prelude.{◌≡◌, ◌++◌, ◌≤◌, ◌<◌, ◌^◌, ◌⊎◌, length, IfOk, IfErr, true, ℕ};
 ghost use Rattle.std.specs.Result.{IsErrAnd};
 ghost use Rattle.calculus.specs.Code.{code};
-ghost use Rattle.calculus.specs.Form.{IsClosed, term, part, a_bind, a_case, pat, row_of, pair_of};
+ghost use Rattle.calculus.specs.Form.{IsClosed, name_pat, term, row_of};
 ghost use Rattle.calculus.specs.Shape.{many};
 ghost use Rattle.calculus.specs.Size.{height};
 ghost use Rattle.calculus.specs.Tree.{Tree, row};
 ghost use Rattle.calculus.specs.Variables.{bound};
-ghost use Rattle.rho_term.specs.Normal.{IsOrdered};
-ghost use Rattle.rho_term.specs.Parts.{part_tree, pair_tree, bind_tree, case_tree};
 ghost use Rattle.code_faults.specs.Scopes.{scope_of, senses_of};
-ghost use Rattle.code_faults.specs.Reading.{Reads, ReadsBag};
-ghost use Rattle.code_faults.specs.Beginning.{HasPlace, Goes, Begun, BegunRow, BegunBag};
-ghost use Rattle.code_faults.specs.Refusing.{Refuses, RefusesRow, RefusesBag};
-ghost use Rattle.code_faults.specs.Tags.{is_form_tag};
-ghost use Rattle.code_faults.specs.declared.sort.Sense.TheVariants.{Name};
+ghost use Rattle.code_faults.specs.Reading.{Reads};
+ghost use Rattle.code_faults.specs.Beginning.{HasPlace, Goes, Begun, BegunRow};
+ghost use Rattle.code_faults.specs.Refusing.{Refuses, RefusesRow};
 ghost use Rattle.code_faults.specs.declared.fault.CodeFault.TheVariants.{Short, NotCanonical, TooDeep, NoMemory};
 ghost use Rattle.code_faults.specs.Readable.{IsReadable, IsCutCode, at_end, IsBegun, IsBegunTo, IsCodeUpTo};
-ghost use Rattle.code_faults.specs.Blaming.{Wrong, InTree, InRow, InBag, IsWrongAt, IsDeepAt, IsNamelessAt};
+ghost use Rattle.code_faults.specs.Blaming.{Wrong, InTree, InRow, IsWrongAt, IsDeepAt, IsNamelessAt};
 
-use crate::patterns::{read_name_pats, read_pat};
-use code_faults::{CodeFault, ReadFault, Sense, TextKind};
-use code_fields::reader::{is_form, lacks_room};
-use code_fields::{Reader, check_order};
-use rho_term::{Part, Term, TermBind, TermCase};
-use std::alloc::{AllocError, Global};
+use crate::{patterns, terms};
+use code_faults::{CodeFault, ReadFault, Sense};
+use code_fields::Reader;
+use rho_term::{Term, TermPat};
+use std::alloc::Global;
 
 /// The closed process, of height at most 400, whose code is exactly these bytes.
 ///
@@ -90,7 +85,6 @@ fn at_end(fault: ReadFault, len: usize) -> CodeFault
 }
 
 /// A process.
-#[cycle(read)]
 pub fn read_term<'a>(
     reader: &mut Reader<'a>,
     scope: &Vec<Sense>,
@@ -101,129 +95,10 @@ pub fn read_term<'a>(
     ensures refuses { IfErr result (λ e. Refuses true term (scope_of scope.now.items) room e reader.old.input.now) }
     ensures begun { IfErr result (λ e. HasPlace e → Goes e (Begun true term (scope_of scope.now.items) room reader.old.input.now)) }
 {
-    let count = reader.number(0, u32::MAX)?;
-    let mut parts = reader.list(count);
-    let mut last: &'a [u8] = &[];
-    for _i in 0..count {
-        let start = reader.input;
-        let tag = reader.byte()?;
-        if lacks_room(room, is_form(tag)) {
-            return Err(ReadFault::TooDeep { at: start.len() });
-        }
-        check_order(last, start)?;
-        let part = read_part(reader, tag, scope, room)?;
-        parts.push(part)?;
-        last = reader.read_since(start, last)?;
-    }
-    Ok(Term::from_sorted(parts))
-}
-
-// The part that goes on so after its tag, which is that of no form where none has room.
-#[cycle(read)]
-pub(crate) fn read_part(
-    reader: &mut Reader<'_>,
-    tag: u8,
-    scope: &Vec<Sense>,
-    room: u32,
-) -> Result<Part, ReadFault>
-    requires { room ≡ 0 → is_form_tag tag ≡ false }
-    ensures reads { IfOk result (λ p. Reads part (scope_of scope.now.items) room (part_tree p) (tag ∷ reader.old.input.now) reader.new.input.now) }
-    ensures ordered { IfOk result (λ p. IsOrdered (part_tree p)) }
-    ensures wrong { IfErr result (λ e. Wrong (InTree true part (scope_of scope.now.items) room) e (tag ∷ reader.old.input.now)) }
-    ensures refuses { IfErr result (λ e. Refuses true part (scope_of scope.now.items) room e (tag ∷ reader.old.input.now)) }
-    ensures begun { IfErr result (λ e. HasPlace e → Goes e (Begun true part (scope_of scope.now.items) room (tag ∷ reader.old.input.now))) }
-{
-    match tag {
-        0x15 => Ok(Part::Fresh(reader.digest()?)),
-        0x16 => Ok(Part::Var(reader.variable(scope, Sense::Process)?)),
-        0x17 => Ok(Part::NameVar(reader.variable(scope, Sense::Name)?)),
-        _ => {
-            if is_form(tag) {
-                read_form(reader, tag, scope, room - 1)
-            } else {
-                Ok(Part::Ground(reader.ground(tag)?))
-            }
-        }
-    }
-}
-
-#[cycle(read)]
-fn read_form(
-    reader: &mut Reader<'_>,
-    tag: u8,
-    scope: &Vec<Sense>,
-    room: u32,
-) -> Result<Part, ReadFault>
-    requires { is_form_tag tag ≡ true }
-    ensures reads { IfOk result (λ p. Reads part (scope_of scope.now.items) (room + 1) (part_tree p) (tag ∷ reader.old.input.now) reader.new.input.now) }
-    ensures ordered { IfOk result (λ p. IsOrdered (part_tree p)) }
-    ensures wrong { IfErr result (λ e. Wrong (InTree true part (scope_of scope.now.items) (room + 1)) e (tag ∷ reader.old.input.now)) }
-    ensures refuses { IfErr result (λ e. Refuses true part (scope_of scope.now.items) (room + 1) e (tag ∷ reader.old.input.now)) }
-    ensures begun { IfErr result (λ e. HasPlace e → Goes e (Begun true part (scope_of scope.now.items) (room + 1) (tag ∷ reader.old.input.now))) }
-{
-    match tag {
-        0x20 => Ok(Part::List(read_terms(reader, 0, scope, room)?)),
-        0x21 => Ok(Part::Tuple(read_terms(reader, 1, scope, room)?)),
-        0x22 => Ok(Part::Set(read_members(reader, scope, room)?)),
-        0x23 => Ok(Part::Map(read_pairs(reader, scope, room)?)),
-        0x30 => {
-            let persistent = reader.boolean()?;
-            let channel = read_term(reader, scope, room)?;
-            let args = read_terms(reader, 0, scope, room)?;
-            Ok(Part::Send {
-                channel,
-                args,
-                persistent,
-            })
-        }
-        0x31 => {
-            let kind = reader.kind()?;
-            let mut inner = copy_of(reader.alloc, scope)?;
-            let binds = read_binds(reader, scope, &mut inner, room)?;
-            let body = read_term(reader, &inner, room)?;
-            Ok(Part::Receive { kind, binds, body })
-        }
-        0x32 => {
-            let names = reader.origins()?;
-            let inner = under_names(reader.alloc, scope, names.len())?;
-            let body = read_term(reader, &inner, room)?;
-            Ok(Part::New { names, body })
-        }
-        0x33 => {
-            let target = read_term(reader, scope, room)?;
-            let cases = read_cases(reader, scope, room)?;
-            Ok(Part::Match { target, cases })
-        }
-        0x34 => {
-            let rights = reader.rights()?;
-            let body = read_term(reader, scope, room)?;
-            Ok(Part::Bundle { rights, body })
-        }
-        0x40 => {
-            let op = reader.unary_op()?;
-            let arg = read_term(reader, scope, room)?;
-            Ok(Part::Unary { op, arg })
-        }
-        0x41 => {
-            let op = reader.binary_op()?;
-            let left = read_term(reader, scope, room)?;
-            let right = read_term(reader, scope, room)?;
-            Ok(Part::Binary { op, left, right })
-        }
-        0x42 => {
-            let name = reader.text(TextKind::Word)?;
-            let target = read_term(reader, scope, room)?;
-            let args = read_terms(reader, 0, scope, room)?;
-            Ok(Part::Method { name, target, args })
-        }
-        _ => Err(ReadFault::NotCanonical {
-            at: reader.last_place(),
-        }),
-    }
+    terms::read_term(reader, scope, room)
 }
 
 /// At least so many processes.
-#[cycle(read)]
 pub fn read_terms(
     reader: &mut Reader<'_>,
     least: u32,
@@ -236,134 +111,21 @@ pub fn read_terms(
     ensures refuses { IfErr result (λ e. RefusesRow true term (scope_of scope.now.items) room least 0xFFFFFFFF e reader.old.input.now) }
     ensures begun { IfErr result (λ e. HasPlace e → Goes e (BegunRow true term (scope_of scope.now.items) room least 0xFFFFFFFF reader.old.input.now)) }
 {
-    let count = reader.number(least, u32::MAX)?;
-    let mut terms = reader.list(count);
-    for _i in 0..count {
-        let term = read_term(reader, scope, room)?;
-        terms.push(term)?;
-    }
-    Ok(terms)
+    terms::read_terms(reader, least, scope, room)
 }
 
-// Processes whose codes ascend.
-#[cycle(read)]
-fn read_members<'a>(
-    reader: &mut Reader<'a>,
-    scope: &Vec<Sense>,
-    room: u32,
-) -> Result<Vec<Term>, ReadFault>
-    ensures reads { IfOk result (λ ts. ReadsBag term (scope_of scope.now.items) room ts.items reader.old.input.now reader.new.input.now) }
-    ensures wrong { IfErr result (λ e. Wrong (InBag term (scope_of scope.now.items) room) e reader.old.input.now) }
-    ensures refuses { IfErr result (λ e. RefusesBag term (scope_of scope.now.items) room e reader.old.input.now) }
-    ensures begun { IfErr result (λ e. HasPlace e → Goes e (BegunBag term (scope_of scope.now.items) room reader.old.input.now)) }
-{
-    let count = reader.number(0, u32::MAX)?;
-    let mut terms = reader.list(count);
-    let mut last: &'a [u8] = &[];
-    for _i in 0..count {
-        let start = reader.input;
-        check_order(last, start)?;
-        let term = read_term(reader, scope, room)?;
-        last = reader.read_since(start, last)?;
-        terms.push(term)?;
-    }
-    Ok(terms)
-}
-
-// Pairs whose codes ascend.
-#[cycle(read)]
-fn read_pairs<'a>(
-    reader: &mut Reader<'a>,
-    scope: &Vec<Sense>,
-    room: u32,
-) -> Result<Vec<(Term, Term)>, ReadFault>
-    ensures reads { IfOk result (λ ps. ReadsBag (pair_of term) (scope_of scope.now.items) room (map pair_tree ps.items) reader.old.input.now reader.new.input.now) }
-    ensures wrong { IfErr result (λ e. Wrong (InBag (pair_of term) (scope_of scope.now.items) room) e reader.old.input.now) }
-    ensures refuses { IfErr result (λ e. RefusesBag (pair_of term) (scope_of scope.now.items) room e reader.old.input.now) }
-    ensures begun { IfErr result (λ e. HasPlace e → Goes e (BegunBag (pair_of term) (scope_of scope.now.items) room reader.old.input.now)) }
-{
-    let count = reader.number(0, u32::MAX)?;
-    let mut pairs = reader.list(count);
-    let mut last: &'a [u8] = &[];
-    for _i in 0..count {
-        let start = reader.input;
-        check_order(last, start)?;
-        let key = read_term(reader, scope, room)?;
-        let value = read_term(reader, scope, room)?;
-        last = reader.read_since(start, last)?;
-        pairs.push((key, value))?;
-    }
-    Ok(pairs)
-}
-
-// 1 to 16 binds. What their patterns bind is added to `found`.
-#[cycle(read)]
-fn read_binds(
+/// Patterns of names. What they bind is added to `found`.
+pub fn read_name_pats(
     reader: &mut Reader<'_>,
     scope: &Vec<Sense>,
     found: &mut Vec<Sense>,
     room: u32,
-) -> Result<Vec<TermBind>, ReadFault>
-    ensures reads { IfOk result (λ bs. Reads (row_of a_bind) (scope_of scope.now.items) room (many row (map bind_tree bs.items)) reader.old.input.now reader.new.input.now) }
-    ensures bound { IfOk result (λ bs. senses_of found.new.items ≡ senses_of found.old.items ++ bound (many row (map bind_tree bs.items))) }
-    ensures some { IfOk result (λ bs. 1 ≤ length bs.items) }
-    ensures few { IfOk result (λ bs. length bs.items ≤ 16) }
-    ensures wrong { IfErr result (λ e. Wrong (InRow true a_bind (scope_of scope.now.items) room 1 16) e reader.old.input.now) }
-    ensures refuses { IfErr result (λ e. RefusesRow true a_bind (scope_of scope.now.items) room 1 16 e reader.old.input.now) }
-    ensures begun { IfErr result (λ e. HasPlace e → Goes e (BegunRow true a_bind (scope_of scope.now.items) room 1 16 reader.old.input.now)) }
+) -> Result<Vec<TermPat>, ReadFault>
+    ensures reads { IfOk result (λ ts. Reads (row_of name_pat) (scope_of scope.now.items) room (many row ts.items) reader.old.input.now reader.new.input.now) }
+    ensures bound { IfOk result (λ ts. senses_of found.new.items ≡ senses_of found.old.items ++ bound (many row ts.items)) }
+    ensures wrong { IfErr result (λ e. Wrong (InRow true name_pat (scope_of scope.now.items) room 0 0xFFFFFFFF) e reader.old.input.now) }
+    ensures refuses { IfErr result (λ e. RefusesRow true name_pat (scope_of scope.now.items) room 0 0xFFFFFFFF e reader.old.input.now) }
+    ensures begun { IfErr result (λ e. HasPlace e → Goes e (BegunRow true name_pat (scope_of scope.now.items) room 0 0xFFFFFFFF reader.old.input.now)) }
 {
-    let count = reader.number(1, 16)?;
-    let mut binds = reader.list(count);
-    for _i in 0..count {
-        let channel = read_term(reader, scope, room)?;
-        let pats = read_name_pats(reader, scope, found, room)?;
-        let rest = reader.bound_remainder(true, found)?;
-        binds.push(TermBind {
-            pats,
-            rest,
-            channel,
-        })?;
-    }
-    Ok(binds)
-}
-
-// At least one case.
-#[cycle(read)]
-fn read_cases(
-    reader: &mut Reader<'_>,
-    scope: &Vec<Sense>,
-    room: u32,
-) -> Result<Vec<TermCase>, ReadFault>
-    ensures reads { IfOk result (λ cs. Reads (row_of a_case) (scope_of scope.now.items) room (many row (map case_tree cs.items)) reader.old.input.now reader.new.input.now) }
-    ensures some { IfOk result (λ cs. 1 ≤ length cs.items) }
-    ensures wrong { IfErr result (λ e. Wrong (InRow true a_case (scope_of scope.now.items) room 1 0xFFFFFFFF) e reader.old.input.now) }
-    ensures refuses { IfErr result (λ e. RefusesRow true a_case (scope_of scope.now.items) room 1 0xFFFFFFFF e reader.old.input.now) }
-    ensures begun { IfErr result (λ e. HasPlace e → Goes e (BegunRow true a_case (scope_of scope.now.items) room 1 0xFFFFFFFF reader.old.input.now)) }
-{
-    let count = reader.number(1, u32::MAX)?;
-    let mut cases = reader.list(count);
-    for _i in 0..count {
-        let mut inner = copy_of(reader.alloc, scope)?;
-        let pat = read_pat(reader, true, scope, &mut inner, room)?;
-        let body = read_term(reader, &inner, room)?;
-        cases.push(TermCase { pat, body })?;
-    }
-    Ok(cases)
-}
-
-fn copy_of(alloc: Global, scope: &Vec<Sense>) -> Result<Vec<Sense>, AllocError>
-    ensures { IfOk result (λ v. v.items ≡ scope.now.items) }
-{
-    Vec::from_slice(alloc, scope.as_slice())
-}
-
-// The scope of the body of a `new` of so many names.
-fn under_names(alloc: Global, scope: &Vec<Sense>, count: usize) -> Result<Vec<Sense>, AllocError>
-    ensures { IfOk result (λ v. v.items ≡ scope.now.items ++ replicate count Name) }
-{
-    let mut inner = copy_of(alloc, scope)?;
-    for _i in 0..count {
-        inner.push(Sense::Name)?;
-    }
-    Ok(inner)
+    patterns::read_name_pats(reader, scope, found, room)
 }

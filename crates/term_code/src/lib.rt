@@ -3,9 +3,9 @@
 
 mod decode;
 mod patterns;
+mod terms;
 
 pub use code_faults::{CodeFault, ReadFault, Sense};
 pub use code_fields::{Reader, check_order};
-pub use decode::{decode_term, read_term, read_terms};
-pub use patterns::read_name_pats;
+pub use decode::{decode_term, read_name_pats, read_term, read_terms};
 pub use term_encoder::{code_len, encode_part, encode_term, group_key, shard_of};

@@ -1,21 +1,14 @@
 // Reading of patterns in codes.
-ghost use Rattle.std.specs.Prelude.{◌≡◌, ◌∷◌, ◌++◌, ◌-◌, ◌≤◌, ◌+◌, ◌<◌, [], cond, length, map, true, false, List, ℕ, IfOk, IfErr, IfSome, IfNone};
-ghost use Rattle.calculus.specs.Form.{pat, name_pat, pat_part, row_of, pair_of};
-ghost use Rattle.calculus.specs.Shape.{many};
-ghost use Rattle.calculus.specs.Tree.{row};
-ghost use Rattle.calculus.specs.Variables.{bound};
-ghost use Rattle.rho_term.specs.Normal.{IsOrdered};
+ghost use Rattle.std.specs.Prelude.{◌≡◌, ◌∷◌, ◌-◌, ◌≤◌, ◌+◌, ◌<◌, [], cond, map, true, false, List, ℕ, IfOk, IfErr, IfSome, IfNone};
+ghost use Rattle.calculus.specs.Form.{pat, name_pat, pat_part, pair_of};
 ghost use Rattle.rho_term.specs.Parts.{pat_part_tree, pair_tree};
 ghost use Rattle.code_faults.specs.Scopes.{scope_of, senses_of};
-ghost use Rattle.code_faults.specs.Reading.{Reads};
-ghost use Rattle.code_faults.specs.Beginning.{HasPlace, Goes, Begun, BegunRow};
-ghost use Rattle.code_faults.specs.Refusing.{Refuses, RefusesRow};
 ghost use Rattle.code_faults.specs.Tags.{is_pat_form_tag};
 ghost use Rattle.code_faults.specs.Wide.{is_wide_tag};
-ghost use Rattle.code_faults.specs.Blaming.{Wrong, InTree, InRow};
 ghost use Rattle.code_faults.specs.declared.fault.ReadFault.TheVariants.{NotCanonical};
+ghost use Rattle.term_code.specs.Outcomes.{Comes, Fails, FailsRow, ReadsPat, ReadsPatPart, ReadsPats};
 
-use crate::decode::{read_part, read_term};
+use crate::terms::{read_part, read_term};
 use code_faults::{ReadFault, Sense};
 use code_fields::Reader;
 use code_fields::reader::lacks_room;
@@ -81,12 +74,7 @@ pub(crate) fn read_pat(
     found: &mut Vec<Sense>,
     room: u32,
 ) -> Result<TermPat, ReadFault>
-    ensures reads { IfOk result (λ t. Reads pat (scope_of scope.now.items) room t reader.old.input.now reader.new.input.now) }
-    ensures bound { IfOk result (λ t. senses_of found.new.items ≡ senses_of found.old.items ++ bound t) }
-    ensures wrong { IfErr result (λ e. Wrong (InTree binds pat (scope_of scope.now.items) room) e reader.old.input.now) }
-    ensures refuses { IfErr result (λ e. Refuses binds pat (scope_of scope.now.items) room e reader.old.input.now) }
-    ensures free { binds ≡ false → IfOk result (λ t. bound t ≡ []) }
-    ensures begun { IfErr result (λ e. HasPlace e → Goes e (Begun binds pat (scope_of scope.now.items) room reader.old.input.now)) }
+    ensures { Comes result (λ t. ReadsPat binds pat (scope_of scope.now.items) room (senses_of found.old.items) (senses_of found.new.items) reader.old.input.now reader.new.input.now t) (Fails binds pat (scope_of scope.now.items) room reader.old.input.now) }
 {
     let count = reader.number(0, 9)?;
     let mut parts = reader.list(count);
@@ -113,12 +101,7 @@ pub(crate) fn read_name_pat(
     found: &mut Vec<Sense>,
     room: u32,
 ) -> Result<TermPat, ReadFault>
-    ensures reads { IfOk result (λ t. Reads name_pat (scope_of scope.now.items) room t reader.old.input.now reader.new.input.now) }
-    ensures bound { IfOk result (λ t. senses_of found.new.items ≡ senses_of found.old.items ++ bound t) }
-    ensures wrong { IfErr result (λ e. Wrong (InTree binds name_pat (scope_of scope.now.items) room) e reader.old.input.now) }
-    ensures refuses { IfErr result (λ e. Refuses binds name_pat (scope_of scope.now.items) room e reader.old.input.now) }
-    ensures free { binds ≡ false → IfOk result (λ t. bound t ≡ []) }
-    ensures begun { IfErr result (λ e. HasPlace e → Goes e (Begun binds name_pat (scope_of scope.now.items) room reader.old.input.now)) }
+    ensures { Comes result (λ t. ReadsPat binds name_pat (scope_of scope.now.items) room (senses_of found.old.items) (senses_of found.new.items) reader.old.input.now reader.new.input.now t) (Fails binds name_pat (scope_of scope.now.items) room reader.old.input.now) }
 {
     match after_name_variable(binds, reader.input) {
         Some(others) => {
@@ -143,13 +126,7 @@ fn read_pat_part(
     room: u32,
 ) -> Result<PatPart, ReadFault>
     requires { room ≡ 0 → is_pat_form_tag tag ≡ false }
-    ensures reads { IfOk result (λ p. Reads pat_part (scope_of scope.now.items) room (pat_part_tree p) (tag ∷ reader.old.input.now) reader.new.input.now) }
-    ensures ordered { IfOk result (λ p. IsOrdered (pat_part_tree p)) }
-    ensures bound { IfOk result (λ p. senses_of found.new.items ≡ senses_of found.old.items ++ bound (pat_part_tree p)) }
-    ensures wrong { IfErr result (λ e. Wrong (InTree binds pat_part (scope_of scope.now.items) room) e (tag ∷ reader.old.input.now)) }
-    ensures refuses { IfErr result (λ e. Refuses binds pat_part (scope_of scope.now.items) room e (tag ∷ reader.old.input.now)) }
-    ensures free { binds ≡ false → IfOk result (λ p. bound (pat_part_tree p) ≡ []) }
-    ensures begun { IfErr result (λ e. HasPlace e → Goes e (Begun binds pat_part (scope_of scope.now.items) room (tag ∷ reader.old.input.now))) }
+    ensures { Comes result (λ p. ReadsPatPart binds pat_part (scope_of scope.now.items) room (senses_of found.old.items) (senses_of found.new.items) (tag ∷ reader.old.input.now) reader.new.input.now (pat_part_tree p)) (Fails binds pat_part (scope_of scope.now.items) room (tag ∷ reader.old.input.now)) }
 {
     match tag {
         0x50 => {
@@ -188,13 +165,7 @@ fn read_pat_form(
 ) -> Result<PatPart, ReadFault>
     requires form { is_pat_form_tag tag ≡ true }
     requires not_closed { (0x31 ≤ tag) → (tag ≤ 0x33) → ⊥ }
-    ensures reads { IfOk result (λ p. Reads pat_part (scope_of scope.now.items) (room + 1) (pat_part_tree p) (tag ∷ reader.old.input.now) reader.new.input.now) }
-    ensures ordered { IfOk result (λ p. IsOrdered (pat_part_tree p)) }
-    ensures bound { IfOk result (λ p. senses_of found.new.items ≡ senses_of found.old.items ++ bound (pat_part_tree p)) }
-    ensures wrong { IfErr result (λ e. Wrong (InTree binds pat_part (scope_of scope.now.items) (room + 1)) e (tag ∷ reader.old.input.now)) }
-    ensures refuses { IfErr result (λ e. Refuses binds pat_part (scope_of scope.now.items) (room + 1) e (tag ∷ reader.old.input.now)) }
-    ensures free { binds ≡ false → IfOk result (λ p. bound (pat_part_tree p) ≡ []) }
-    ensures begun { IfErr result (λ e. HasPlace e → Goes e (Begun binds pat_part (scope_of scope.now.items) (room + 1) (tag ∷ reader.old.input.now))) }
+    ensures { Comes result (λ p. ReadsPatPart binds pat_part (scope_of scope.now.items) (room + 1) (senses_of found.old.items) (senses_of found.new.items) (tag ∷ reader.old.input.now) reader.new.input.now (pat_part_tree p)) (Fails binds pat_part (scope_of scope.now.items) (room + 1) (tag ∷ reader.old.input.now)) }
 {
     match tag {
         0x20 => {
@@ -253,11 +224,7 @@ fn read_free_pat(
     scope: &Vec<Sense>,
     room: u32,
 ) -> Result<TermPat, ReadFault>
-    ensures reads { IfOk result (λ t. Reads pat (scope_of scope.now.items) room t reader.old.input.now reader.new.input.now) }
-    ensures bound { IfOk result (λ t. bound t ≡ []) }
-    ensures wrong { IfErr result (λ e. Wrong (InTree false pat (scope_of scope.now.items) room) e reader.old.input.now) }
-    ensures refuses { IfErr result (λ e. Refuses false pat (scope_of scope.now.items) room e reader.old.input.now) }
-    ensures begun { IfErr result (λ e. HasPlace e → Goes e (Begun false pat (scope_of scope.now.items) room reader.old.input.now)) }
+    ensures { Comes result (λ t. ReadsPat false pat (scope_of scope.now.items) room [] [] reader.old.input.now reader.new.input.now t) (Fails false pat (scope_of scope.now.items) room reader.old.input.now) }
 {
     let mut found = Vec::new(reader.alloc);
     read_pat(reader, false, scope, &mut found, room)
@@ -274,14 +241,8 @@ fn read_pats(
     found: &mut Vec<Sense>,
     room: u32,
 ) -> Result<Vec<TermPat>, ReadFault>
-    ensures reads { IfOk result (λ ts. Reads (row_of pat) (scope_of scope.now.items) room (many row ts.items) reader.old.input.now reader.new.input.now) }
-    ensures bound { IfOk result (λ ts. senses_of found.new.items ≡ senses_of found.old.items ++ bound (many row ts.items)) }
-    ensures least { IfOk result (λ ts. least ≤ length ts.items) }
-    ensures most { IfOk result (λ ts. length ts.items ≤ most) }
-    ensures wrong { IfErr result (λ e. Wrong (InRow binds pat (scope_of scope.now.items) room least most) e reader.old.input.now) }
-    ensures refuses { IfErr result (λ e. RefusesRow binds pat (scope_of scope.now.items) room least most e reader.old.input.now) }
-    ensures free { binds ≡ false → IfOk result (λ ts. bound (many row ts.items) ≡ []) }
-    ensures begun { IfErr result (λ e. HasPlace e → least ≤ most → Goes e (BegunRow binds pat (scope_of scope.now.items) room least most reader.old.input.now)) }
+    requires { least ≤ most }
+    ensures { Comes result (λ ts. ReadsPats binds pat (scope_of scope.now.items) room least most (senses_of found.old.items) (senses_of found.new.items) reader.old.input.now reader.new.input.now ts.items) (FailsRow binds pat (scope_of scope.now.items) room least most reader.old.input.now) }
 {
     let count = reader.number(least, most)?;
     let mut pats = reader.list(count);
@@ -292,19 +253,15 @@ fn read_pats(
     Ok(pats)
 }
 
-/// Patterns of names. What they bind is added to `found`.
+// Patterns of names. What they bind is added to `found`.
 #[cycle(read)]
-pub fn read_name_pats(
+pub(crate) fn read_name_pats(
     reader: &mut Reader<'_>,
     scope: &Vec<Sense>,
     found: &mut Vec<Sense>,
     room: u32,
 ) -> Result<Vec<TermPat>, ReadFault>
-    ensures reads { IfOk result (λ ts. Reads (row_of name_pat) (scope_of scope.now.items) room (many row ts.items) reader.old.input.now reader.new.input.now) }
-    ensures bound { IfOk result (λ ts. senses_of found.new.items ≡ senses_of found.old.items ++ bound (many row ts.items)) }
-    ensures wrong { IfErr result (λ e. Wrong (InRow true name_pat (scope_of scope.now.items) room 0 0xFFFFFFFF) e reader.old.input.now) }
-    ensures refuses { IfErr result (λ e. RefusesRow true name_pat (scope_of scope.now.items) room 0 0xFFFFFFFF e reader.old.input.now) }
-    ensures begun { IfErr result (λ e. HasPlace e → Goes e (BegunRow true name_pat (scope_of scope.now.items) room 0 0xFFFFFFFF reader.old.input.now)) }
+    ensures { Comes result (λ ts. ReadsPats true name_pat (scope_of scope.now.items) room 0 0xFFFFFFFF (senses_of found.old.items) (senses_of found.new.items) reader.old.input.now reader.new.input.now ts.items) (FailsRow true name_pat (scope_of scope.now.items) room 0 0xFFFFFFFF reader.old.input.now) }
 {
     let count = reader.number(0, u32::MAX)?;
     let mut pats = reader.list(count);
@@ -324,13 +281,7 @@ fn read_pat_pairs(
     found: &mut Vec<Sense>,
     room: u32,
 ) -> Result<Vec<(TermPat, TermPat)>, ReadFault>
-    ensures reads { IfOk result (λ ps. Reads (row_of (pair_of pat)) (scope_of scope.now.items) room (many row (map pair_tree ps.items)) reader.old.input.now reader.new.input.now) }
-    ensures bound { IfOk result (λ ps. senses_of found.new.items ≡ senses_of found.old.items ++ bound (many row (map pair_tree ps.items))) }
-    ensures few { IfOk result (λ ps. length ps.items ≤ 8) }
-    ensures wrong { IfErr result (λ e. Wrong (InRow binds (pair_of pat) (scope_of scope.now.items) room 0 8) e reader.old.input.now) }
-    ensures refuses { IfErr result (λ e. RefusesRow binds (pair_of pat) (scope_of scope.now.items) room 0 8 e reader.old.input.now) }
-    ensures free { binds ≡ false → IfOk result (λ ps. bound (many row (map pair_tree ps.items)) ≡ []) }
-    ensures begun { IfErr result (λ e. HasPlace e → Goes e (BegunRow binds (pair_of pat) (scope_of scope.now.items) room 0 8 reader.old.input.now)) }
+    ensures { Comes result (λ ps. ReadsPats binds (pair_of pat) (scope_of scope.now.items) room 0 8 (senses_of found.old.items) (senses_of found.new.items) reader.old.input.now reader.new.input.now (map pair_tree ps.items)) (FailsRow binds (pair_of pat) (scope_of scope.now.items) room 0 8 reader.old.input.now) }
 {
     let count = reader.number(0, 8)?;
     let mut pairs = reader.list(count);

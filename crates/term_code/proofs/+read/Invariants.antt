@@ -10,14 +10,14 @@ use Rattle.code_faults.proofs.Rows.{Row}
 use Rattle.code_faults.proofs.Bags.{Bag}
 use Rattle.term_code.proofs.+read.Given as goal
 
-abbrev pub decreases-decode::read_part : goal.decreases-decode::read_part
-decreases-decode::read_part l = 8 * l.room + 1
+abbrev pub decreases-terms::read_part : goal.decreases-terms::read_part
+decreases-terms::read_part l = 8 * l.room + 1
 
 abbrev pub decreases-patterns::read_pat_part : goal.decreases-patterns::read_pat_part
 decreases-patterns::read_pat_part l = 8 * l.room + 2
 
-abbrev pub decreases-decode::read_term : goal.decreases-decode::read_term
-decreases-decode::read_term l = 8 * l.room + 3
+abbrev pub decreases-terms::read_term : goal.decreases-terms::read_term
+decreases-terms::read_term l = 8 * l.room + 3
 
 abbrev pub decreases-patterns::read_pat : goal.decreases-patterns::read_pat
 decreases-patterns::read_pat l = 8 * l.room + 3
@@ -28,17 +28,17 @@ decreases-patterns::read_name_pat l = 8 * l.room + 4
 abbrev pub decreases-patterns::read_free_pat : goal.decreases-patterns::read_free_pat
 decreases-patterns::read_free_pat l = 8 * l.room + 4
 
-abbrev pub decreases-decode::read_terms : goal.decreases-decode::read_terms
-decreases-decode::read_terms l = 8 * l.room + 5
+abbrev pub decreases-terms::read_terms : goal.decreases-terms::read_terms
+decreases-terms::read_terms l = 8 * l.room + 5
 
-abbrev pub decreases-decode::read_members : goal.decreases-decode::read_members
-decreases-decode::read_members l = 8 * l.room + 5
+abbrev pub decreases-terms::read_members : goal.decreases-terms::read_members
+decreases-terms::read_members l = 8 * l.room + 5
 
-abbrev pub decreases-decode::read_pairs : goal.decreases-decode::read_pairs
-decreases-decode::read_pairs l = 8 * l.room + 5
+abbrev pub decreases-terms::read_pairs : goal.decreases-terms::read_pairs
+decreases-terms::read_pairs l = 8 * l.room + 5
 
-abbrev pub decreases-decode::read_cases : goal.decreases-decode::read_cases
-decreases-decode::read_cases l = 8 * l.room + 5
+abbrev pub decreases-terms::read_cases : goal.decreases-terms::read_cases
+decreases-terms::read_cases l = 8 * l.room + 5
 
 abbrev pub decreases-patterns::read_pats : goal.decreases-patterns::read_pats
 decreases-patterns::read_pats l = 8 * l.room + 5
@@ -49,48 +49,48 @@ decreases-patterns::read_name_pats l = 8 * l.room + 5
 abbrev pub decreases-patterns::read_pat_pairs : goal.decreases-patterns::read_pat_pairs
 decreases-patterns::read_pat_pairs l = 8 * l.room + 5
 
-abbrev pub decreases-decode::read_binds : goal.decreases-decode::read_binds
-decreases-decode::read_binds l = 8 * l.room + 6
+abbrev pub decreases-terms::read_binds : goal.decreases-terms::read_binds
+decreases-terms::read_binds l = 8 * l.room + 6
 
-abbrev pub decreases-decode::read_form : goal.decreases-decode::read_form
-decreases-decode::read_form l = 8 * l.room + 7
+abbrev pub decreases-terms::read_form : goal.decreases-terms::read_form
+decreases-terms::read_form l = 8 * l.room + 7
 
 abbrev pub decreases-patterns::read_pat_form : goal.decreases-patterns::read_pat_form
 decreases-patterns::read_pat_form l = 8 * l.room + 7
 
-abbrev pub invariant-decode::read_terms-loop-i : goal.invariant-decode::read_terms-loop-i
-invariant-decode::read_terms-loop-i l = record {
+abbrev pub invariant-terms::read_terms-loop-i : goal.invariant-terms::read_terms-loop-i
+invariant-terms::read_terms-loop-i l = record {
   read : Row (λ t. t) term (scope_of l.scope.items) l.room l.terms.items l.initial.reader.input.now l.reader.input.now;
   count : length l.terms.items ≡ l._i;
 }
 
-abbrev pub invariant-decode::read_members-loop-i : goal.invariant-decode::read_members-loop-i
-invariant-decode::read_members-loop-i l = record {
+abbrev pub invariant-terms::read_members-loop-i : goal.invariant-terms::read_members-loop-i
+invariant-terms::read_members-loop-i l = record {
   read : Bag (λ t. t) term (scope_of l.scope.items) l.room l.terms.items l.initial.reader.input.now l.reader.input.now l.last;
   count : length l.terms.items ≡ l._i;
 }
 
-abbrev pub invariant-decode::read_pairs-loop-i : goal.invariant-decode::read_pairs-loop-i
-invariant-decode::read_pairs-loop-i l = record {
+abbrev pub invariant-terms::read_pairs-loop-i : goal.invariant-terms::read_pairs-loop-i
+invariant-terms::read_pairs-loop-i l = record {
   read : Bag pair_tree (pair_of term) (scope_of l.scope.items) l.room l.pairs.items l.initial.reader.input.now l.reader.input.now l.last;
   count : length l.pairs.items ≡ l._i;
 }
 
-abbrev pub invariant-decode::read_term-loop-i : goal.invariant-decode::read_term-loop-i
-invariant-decode::read_term-loop-i l = record {
+abbrev pub invariant-terms::read_term-loop-i : goal.invariant-terms::read_term-loop-i
+invariant-terms::read_term-loop-i l = record {
   read : Bag part_tree part (scope_of l.scope.items) l.room l.parts.items l.initial.reader.input.now l.reader.input.now l.last;
   count : length l.parts.items ≡ l._i;
   ordered : All (λ p. IsOrdered (part_tree p)) l.parts.items;
 }
 
-abbrev pub invariant-decode::read_cases-loop-i : goal.invariant-decode::read_cases-loop-i
-invariant-decode::read_cases-loop-i l = record {
+abbrev pub invariant-terms::read_cases-loop-i : goal.invariant-terms::read_cases-loop-i
+invariant-terms::read_cases-loop-i l = record {
   read : Row case_tree a_case (scope_of l.scope.items) l.room l.cases.items l.initial.reader.input.now l.reader.input.now;
   count : length l.cases.items ≡ l._i;
 }
 
-abbrev pub invariant-decode::read_binds-loop-i : goal.invariant-decode::read_binds-loop-i
-invariant-decode::read_binds-loop-i l = record {
+abbrev pub invariant-terms::read_binds-loop-i : goal.invariant-terms::read_binds-loop-i
+invariant-terms::read_binds-loop-i l = record {
   read : Row bind_tree a_bind (scope_of l.scope.items) l.room l.binds.items l.initial.reader.input.now l.reader.input.now;
   count : length l.binds.items ≡ l._i;
   binding : senses_of l.found.items ≡ senses_of l.initial.found.items ++ bound_all (trees (map bind_tree l.binds.items));

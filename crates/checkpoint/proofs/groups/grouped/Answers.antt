@@ -1,13 +1,13 @@
 use Rattle.std.proofs.Common.{◌≡◌, ◌+◌, List, ◌∷◌, length, map, take, drop, refl, sym, ◌∙◌, ap, subst, arith, inl}
 use Rattle.std.proofs.Math.Seq.{take-length}
 use Rattle.radix_root.specs.Leaves.{groups_of}
-use Rattle.checkpoint.specs.declared.groups.KeyedRow.{KeyedRow}
+use Rattle.checkpoint.specs.declared.keyed.KeyedRow.{KeyedRow}
 use Rattle.checkpoint.specs.Groups.{row_of, Give}
 use Rattle.checkpoint.proofs.Adding.{Going, go-on, none-held, taken-more, dropped-more}
 use Rattle.checkpoint.proofs.groups.grouped.Goals as goal
 
 pub loop-row-init : goal.loop-row-init
-loop-row-init c = record { holds = none-held _ c.new.ensures.items c.new-2.ensures.items; least = λ k. inl refl; next = inl (λ k. refl); rest = c.requires.ascending; keyed = c.requires.keyed }
+loop-row-init c = record { holds = none-held _ c.in_ok-with_capacity.ensures.items c.new.ensures.items; least = λ k. inl refl; next = inl (λ k. refl); rest = c.requires.ascending; keyed = c.requires.keyed }
 
 pub loop-row-preserved : goal.loop-row-preserved
 loop-row-preserved c =

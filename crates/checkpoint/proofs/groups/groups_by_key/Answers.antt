@@ -1,14 +1,14 @@
 use Rattle.std.proofs.Common.{List, sym, subst, map}
 use Rattle.radix_root.specs.Leaves.{groups_of}
-use Rattle.checkpoint.specs.declared.groups.KeyedRow.{KeyedRow}
+use Rattle.checkpoint.specs.declared.keyed.KeyedRow.{KeyedRow}
 use Rattle.checkpoint.specs.Groups.{row_of, AreByKey, Give}
 use Rattle.checkpoint.proofs.Adding.{groups-moved}
 use Rattle.checkpoint.proofs.groups.groups_by_key.Goals as goal
 
 pub grouped-requires : goal.grouped-requires
-grouped-requires c = subst AreByKey (sym c.as_slice.ensures.value) c.in_ok-sorted.ensures.order
+grouped-requires c = subst AreByKey (sym c.as_slice.ensures.value) c.in_ok-keyed.ensures.order
 
 pub returns : goal.returns
 returns c =
     let groups = c.in_ok-groups.groups.items in
-    groups-moved groups c.in_ok-sorted.ensures.rows (subst (λ (ks : List KeyedRow). Give groups (groups_of (map row_of ks))) c.as_slice.ensures.value c.in_ok-groups.ensures)
+    groups-moved groups c.in_ok-keyed.ensures.rows (subst (λ (ks : List KeyedRow). Give groups (groups_of (map row_of ks))) c.as_slice.ensures.value c.in_ok-groups.ensures)

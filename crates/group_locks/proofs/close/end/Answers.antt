@@ -1,14 +1,15 @@
 use Rattle.std.proofs.Common.{◌≡◌, ◌∙◌, ◌++◌, ℕ, ◌+◌, List, length, map, sym, ap, subst, refl, arith, append-nil, []}
 use Rattle.std.specs.Mem.Slots.{slots_items}
-use Rattle.group_locks.specs.Stops.{cause_at}
+use Rattle.hub_rule.specs.Stops.{cause_at}
 use Rattle.std.proofs.lemmas.List.{length-map}
-use Rattle.group_locks.specs.declared.slot.Slot.{Slot}
-use Rattle.group_locks.specs.Works.{LiesOn, hand}
-use Rattle.group_locks.specs.Meaning.{ArePending}
-use Rattle.group_locks.specs.Counts.{total, things_of, all_of}
-use Rattle.group_locks.specs.Rule.{newcomer}
-use Rattle.group_locks.proofs.Seats.{enter}
-use Rattle.group_locks.proofs.Ends.{at_end, shown_all, lies_all, fits_left, length_lists, things_of_lists, empty_list, fault_told, stop_is, some_of, word_is, total_all_of, total_plus, charged_total}
+use Rattle.hub_rule.specs.declared.slot.Slot.{Slot}
+use Rattle.hub_rule.specs.Works.{LiesOn, hand}
+use Rattle.hub_rule.specs.Meaning.{ArePending}
+use Rattle.hub_rule.specs.Counts.{total, things_of, all_of}
+use Rattle.hub_rule.specs.Rule.{newcomer}
+use Rattle.hub_rule.proofs.Seats.{enter}
+use Rattle.hub_rule.proofs.Sums.{empty_list}
+use Rattle.hub_rule.proofs.Ends.{at_end, shown_all, lies_all, fits_left, length_lists, things_of_lists, fault_told, stop_is, some_of, word_is, total_all_of, total_plus, charged_total}
 use Rattle.group_locks.proofs.close.end.Goals as goal
 
 pub load_new_seat-requires : goal.load_new_seat-requires

@@ -1,8 +1,8 @@
 use Rattle.std.proofs.Common.{◌≡◌, ◌∙◌, ℕ, Some, sym, ap, subst, List, length}
 use Rattle.std.specs.Prelude.{slice_get}
-use Rattle.group_locks.specs.Counts.{count, once_below, all_of, Each}
-use Rattle.group_locks.specs.Stops.{FaultCause}
-use Rattle.group_locks.proofs.Ends.{length_all_of, each_of, ran_in_order}
+use Rattle.hub_rule.specs.Counts.{count, once_below, all_of, Each}
+use Rattle.hub_rule.specs.Stops.{FaultCause}
+use Rattle.hub_rule.proofs.Ends.{length_all_of, each_of, ran_in_order}
 use Rattle.group_locks.proofs.close.end_in_order.Goals as goal
 
 pub in_order-entries-requires-clause-once : goal.in_order-entries-requires-clause-once

@@ -1,12 +1,12 @@
 use Rattle.std.proofs.Common.{◌≡◌, ◌∙◌, ◌+◌, ◌-◌, ◌*◌, ◌++◌, ◌∷◌, sym, ap, arith, length, length-append, [], ℕ, List, append_assoc}
-use Rattle.group_locks.specs.Counts.{all_of}
-use Rattle.group_locks.specs.Rule.{view, joined, both, heaped}
-use Rattle.group_locks.specs.Works.{hand}
-use Rattle.group_locks.specs.declared.view.Pile.{Pile}
-use Rattle.group_locks.specs.declared.view.View.{View}
-use Rattle.group_locks.specs.declared.view.Tally.{Tally}
-use Rattle.group_locks.proofs.Seats.{join}
-use Rattle.group_locks.proofs.Ends.{all_tail, all_of_snoc, all_of_split, total_split, joined_view, kept_alone, out_of}
+use Rattle.hub_rule.specs.Counts.{all_of}
+use Rattle.hub_rule.specs.Rule.{view, joined, both, heaped}
+use Rattle.hub_rule.specs.Works.{hand}
+use Rattle.hub_rule.specs.declared.view.Pile.{Pile}
+use Rattle.hub_rule.specs.declared.view.View.{View}
+use Rattle.hub_rule.specs.declared.view.Tally.{Tally}
+use Rattle.hub_rule.proofs.Seats.{join}
+use Rattle.hub_rule.proofs.Ends.{all_tail, all_of_snoc, all_of_split, total_split, joined_view, kept_alone, out_of}
 use Rattle.group_locks.proofs.close.gather.Goals as goal
 
 pub join_seat-requires : goal.join_seat-requires

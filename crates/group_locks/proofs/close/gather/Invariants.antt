@@ -1,8 +1,8 @@
 use Rattle.std.proofs.Common.{◌≡◌, ◌≤◌, ◌+◌, ◌-◌, ◌*◌, ◌++◌, [], false, length, vec_capacity}
 use Rattle.std.specs.List.{All}
-use Rattle.group_locks.specs.Counts.{all_of, total}
-use Rattle.group_locks.specs.Rule.{view}
-use Rattle.group_locks.specs.Works.{hand}
+use Rattle.hub_rule.specs.Counts.{all_of, total}
+use Rattle.hub_rule.specs.Rule.{view}
+use Rattle.hub_rule.specs.Works.{hand}
 use Rattle.group_locks.proofs.close.gather.Given as goal
 
 abbrev pub invariant-loop-seat : goal.invariant-loop-seat

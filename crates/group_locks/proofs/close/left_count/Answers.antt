@@ -1,6 +1,6 @@
 use Rattle.std.proofs.Common.{◌≡◌, ◌∙◌, ◌+◌, ◌<◌, ◌≤◌, ℕ, suc, length, get_or, ap, arith}
-use Rattle.group_locks.specs.Counts.{total}
-use Rattle.group_locks.proofs.Ends.{total_next, total_past, count_step, count_start, count_end}
+use Rattle.hub_rule.specs.Counts.{total}
+use Rattle.hub_rule.proofs.Ends.{total_next, total_past, count_step, count_start, count_end}
 use Rattle.group_locks.proofs.close.left_count.Goals as goal
 
 pub loop-seat-init : goal.loop-seat-init

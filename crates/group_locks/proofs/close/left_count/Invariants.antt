@@ -1,5 +1,5 @@
 use Rattle.std.proofs.Common.{◌≡◌, ◌+◌, ◌%◌, ◌^◌, drop}
-use Rattle.group_locks.specs.Counts.{total}
+use Rattle.hub_rule.specs.Counts.{total}
 use Rattle.group_locks.proofs.close.left_count.Given as goal
 
 abbrev pub invariant-loop-seat : goal.invariant-loop-seat

@@ -1,5 +1,5 @@
 use Rattle.std.proofs.Common.{◌∙◌, ◌∷◌, ◌++◌, ℕ, List, [], length, length-append, append_assoc, sym, ap, arith}
-use Rattle.group_locks.proofs.Offers.{hand_is}
+use Rattle.hub_rule.proofs.Offers.{hand_is}
 use Rattle.group_locks.proofs.seat.commit_at.Goals as goal
 
 pub invariant_of-state-clause-owed : goal.invariant_of-state-clause-owed

@@ -1,8 +1,8 @@
 use Rattle.std.proofs.Common.{◌≡◌, ◌∙◌, ◌+◌, ◌-◌, ◌%◌, ◌^◌, ◌++◌, ℕ, ap, sym, arith, length}
-use Rattle.group_locks.specs.Counts.{one_if, numbered}
-use Rattle.group_locks.specs.Works.{hand}
-use Rattle.group_locks.specs.Rule.{with_pile, tells_of, kept_if}
-use Rattle.group_locks.proofs.Offers.{told_hand, one_at_most}
+use Rattle.hub_rule.specs.Counts.{one_if, numbered}
+use Rattle.hub_rule.specs.Works.{hand}
+use Rattle.hub_rule.specs.Rule.{with_pile, tells_of, kept_if}
+use Rattle.hub_rule.proofs.Offers.{told_hand, one_at_most}
 use Rattle.group_locks.proofs.seat.draw_and_tell.Goals as goal
 
 pub tell-found-requires-clause-owes : goal.tell-found-requires-clause-owes

@@ -1,7 +1,7 @@
 use Rattle.std.proofs.Common.{◌++◌, length, ap, sym, ◌∙◌}
 use Rattle.std.proofs.lemmas.Nat.Bits.{bit_at-zero}
-use Rattle.group_locks.specs.Counts.{count}
-use Rattle.group_locks.specs.Works.{hand}
+use Rattle.hub_rule.specs.Counts.{count}
+use Rattle.hub_rule.specs.Works.{hand}
 use Rattle.group_locks.proofs.seat.give_group_at.Goals as goal
 
 pub invariant_of-state-clause-bits : goal.invariant_of-state-clause-bits

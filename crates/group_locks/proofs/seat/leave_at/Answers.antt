@@ -1,7 +1,7 @@
 use Rattle.std.proofs.Common.{◌≡◌, ◌∙◌, ◌++◌, length, ap, sym, arith}
-use Rattle.group_locks.specs.Counts.{count}
-use Rattle.group_locks.specs.Rule.{below, descends, emptied}
-use Rattle.group_locks.proofs.Offers.{length_things}
+use Rattle.hub_rule.specs.Counts.{count}
+use Rattle.hub_rule.specs.Rule.{below, descends, emptied}
+use Rattle.hub_rule.proofs.Offers.{length_things}
 use Rattle.group_locks.proofs.Waits.{even_left}
 use Rattle.group_locks.proofs.Leaves.{nothing_left}
 use Rattle.group_locks.proofs.seat.leave_at.Goals as goal

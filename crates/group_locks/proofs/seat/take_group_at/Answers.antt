@@ -1,9 +1,9 @@
-use Rattle.group_locks.specs.Works.{hand}
+use Rattle.hub_rule.specs.Works.{hand}
 use Rattle.std.proofs.Common.{◌+◌, ◌%◌, ◌^◌, ◌∙◌, ◌++◌, length, sym, ap, arith}
 use Rattle.std.proofs.lemmas.Nat.Bits.{bit_at_above}
 use mathlib.Core.Logic.{dite}
 use native.Mathlib.Decide.{dec_le}
-use Rattle.group_locks.proofs.Groups.{below_none, below_on}
+use Rattle.hub_steps.proofs.Groups.{below_none, below_on}
 use Rattle.group_locks.proofs.seat.take_group_at.Goals as goal
 
 pub invariant_of-state : goal.invariant_of-state

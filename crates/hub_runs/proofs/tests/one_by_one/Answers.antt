@@ -1,8 +1,8 @@
 use Rattle.std.proofs.Common.{◌∙◌, ◌∷◌, [], length, length-append, ap, arith}
-use Rattle.group_locks.specs.Works.{hand}
+use Rattle.hub_rule.specs.Works.{hand}
 use Rattle.group_locks.specs.Seats.{AtRest, IsIdle}
-use Rattle.group_locks.proofs.Ends.{all_tail}
-use Rattle.group_locks.proofs.Opens.{all_push}
+use Rattle.hub_rule.proofs.Ends.{all_tail}
+use Rattle.hub_rule.proofs.Opens.{all_push}
 use Rattle.hub_runs.proofs.tests.one_by_one.Goals as goal
 
 pub work_and_stop-requires : goal.work_and_stop-requires

@@ -13,5 +13,5 @@ returns c = λ all keeps covers.
     keeps-after ps all c.in_ok-groups.groups.items c.args.tree c.in_ok-next.next c.args.changed
     (c.in_ok-groups.ensures.right ps (c.in_ok-gather.ensures.holds c.requires))
     (λ k h. c.in_ok-groups.ensures.each k (c.in_ok-gather.ensures.others k h))
-    (λ k. c.in_ok-next.ensures k ∙ ap (λ (gs : List Group). digest_after gs (digest_at c.args.tree k) k) c.as_slice.ensures.value)
+    (λ k. c.in_ok-next.ensures.groups k ∙ ap (λ (gs : List Group). digest_after gs (digest_at c.args.tree k) k) c.as_slice.ensures.value)
     keeps covers

@@ -1,5 +1,5 @@
 use Rattle.std.proofs.Common.{◌∙◌, ap, sym}
-use Rattle.group_locks.specs.Counts.{things_of}
+use Rattle.hub_rule.specs.Counts.{things_of}
 use Rattle.group_locks.proofs.Waits.{hand_nil}
 use Rattle.number_hub.proofs.work.do_work.Goals as goal
 

@@ -1,10 +1,10 @@
 use Rattle.std.proofs.Common.{◌∙◌, ap, ◌++◌, ◌∷◌, [], sym, subst, arith, Option, List, ℕ, None, slice_index_or}
-use Rattle.group_locks.specs.Meaning.{AllFollow}
-use Rattle.group_locks.specs.Rule.{Carries}
+use Rattle.hub_rule.specs.Meaning.{AllFollow}
+use Rattle.hub_rule.specs.Rule.{Carries}
 use Rattle.number_hub.specs.Numbers.{numbers, offer}
 use Rattle.number_hub.proofs.Draws.{follow_self, has_space, carries_on, offer_short}
-use Rattle.group_locks.specs.Counts.{things_of}
-use Rattle.group_locks.proofs.Offers.{things_numbered}
+use Rattle.hub_rule.specs.Counts.{things_of}
+use Rattle.hub_rule.proofs.Offers.{things_numbered}
 use Rattle.number_hub.proofs.work.draw_work.Goals as goal
 
 pub commit-requires-clause-allowed : goal.commit-requires-clause-allowed

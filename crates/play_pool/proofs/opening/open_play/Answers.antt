@@ -2,9 +2,9 @@ use denote.Param.Send.{sendable}
 use Rattle.sent_rows.proofs.Crossing.{row-send, row-sync}
 use Rattle.std.proofs.Common.{ap}
 use Rattle.std.proofs.lemmas.Result.{IfOk-weaker}
-use Rattle.group_locks.specs.Works.{hand}
-use Rattle.group_locks.specs.declared.view.Pile.{Pile}
-use Rattle.group_locks.specs.declared.view.Tally.{Tally}
+use Rattle.hub_rule.specs.Works.{hand}
+use Rattle.hub_rule.specs.declared.view.Pile.{Pile}
+use Rattle.hub_rule.specs.declared.view.Tally.{Tally}
 use Rattle.play_pool.proofs.Opens.{opens, both-ok}
 use Rattle.play_pool.proofs.opening.open_play.Goals as goal
 

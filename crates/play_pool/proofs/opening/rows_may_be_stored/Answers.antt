@@ -1,7 +1,7 @@
 use Rattle.std.proofs.Common.{subst, arith}
 use Rattle.std.proofs.lemmas.List.Elements.{All-more}
 use Rattle.calculus.specs.Storing.{IsStorable}
-use Rattle.play_pool.proofs.Sides.{all-taken}
+use Rattle.play_pool.proofs.Taken.{all-taken}
 use Rattle.play_pool.proofs.opening.rows_may_be_stored.Goals as goal
 
 pub loop-row-preserved : goal.loop-row-preserved

@@ -6,7 +6,7 @@ use Rattle.std.proofs.Common.{sym, subst}
 use Rattle.std.specs.List.{All}
 use Rattle.group_locks.specs.Seats.{IsIdle}
 use Rattle.play_pool.proofs.Crossing.{prices-sync}
-use Rattle.play_pool.proofs.Sides.{each-back}
+use Rattle.numbered_jobs.proofs.Each.{each-back}
 use Rattle.play_pool.proofs.side_by_side.side_by_side.Goals as goal
 
 pub map_vec-requires-send-J : goal.map_vec-requires-send-J

@@ -5,10 +5,10 @@ use Rattle.std.proofs.Math.Nat.{min-eq_left}
 use Rattle.calculus.specs.declared.ids.Digest.{Digest}
 use Rattle.calculus.specs.Rows.{Row as Stored}
 use Rattle.calculus.specs.Steps.{is_one_of}
-use Rattle.group_locks.specs.Counts.{things_of}
-use Rattle.group_locks.specs.Rule.{kept_if}
+use Rattle.hub_rule.specs.Counts.{things_of}
+use Rattle.hub_rule.specs.Rule.{kept_if}
 use Rattle.group_locks.specs.Seats.{held_by, since_of, drawn_by, took_by, taken_by}
-use Rattle.group_locks.proofs.Offers.{things_numbered}
+use Rattle.hub_rule.proofs.Offers.{things_numbered}
 use Rattle.row_search.specs.Laws.{MeetsAtHand}
 use Rattle.shard_tables.specs.Hands.{AreInHand, AreMade, LosesRows}
 use Rattle.play_hub.specs.declared.entry.PlayEntry.{PlayEntry}

@@ -1,5 +1,5 @@
-use Rattle.std.proofs.Common.{rules, ◌≡◌, ◌<◌, ◌+◌, ◌-◌, ◌*◌, List, ◌++◌, take, sym, ap, subst, ◌∙◌, arith}
-use Rattle.std.proofs.lemmas.Result.{on_ok_weaker}
+use Rattle.std.proofs.Common.{rules, ◌≡◌, ◌<◌, ◌≤◌, ◌+◌, ◌-◌, ◌*◌, List, ◌++◌, length, length-append, take, sym, ap, subst, ◌∙◌, arith}
+use Rattle.std.proofs.lemmas.Result.{IfOk-weaker, on_ok_weaker}
 use Rattle.radix_root.specs.declared.group.Group.{Group}
 use Rattle.radix_root.specs.Leaves.{Leaves, digest_at, half_of}
 use Rattle.radix_root.specs.Nodes.{leaves_of, IsNode, Shares}
@@ -7,6 +7,7 @@ use Rattle.radix_root.specs.Groups.{AllGroups, ShareAll, digest_after}
 use Rattle.radix_root.proofs.Forks.{children-leaves}
 use Rattle.radix_root.proofs.Places.{child-at}
 use Rattle.radix_root.proofs.Wells.{both-ok}
+use Rattle.radix_root.proofs.Counting.{run-more, one-deeper}
 use Rattle.radix_root.proofs.Given.{run-shared, run-given, groups-first, groups-last, keys-after, after-join, pieces}
 use Rattle.radix_root.proofs.many.+give_all.Goals as goal
 
@@ -60,7 +61,7 @@ give_runs-loop-rest-preserved t c =
     let others = c.split_at.result.1.now in
     let old = c.loop-rest.children.items in
     let new = c.give_run.new.children.items in
-    let given = c.in_ok-give_run.ensures in
+    let given = c.in_ok-more.ensures in
     let one = inv.shared.one in
     let first = subst (AllGroups (Shares c.args.depth one)) (sym c.split_at.ensures.front) (groups-first (Shares c.args.depth one) len rest inv.shared.groups) in
     let last = subst (AllGroups (Shares c.args.depth one)) (sym c.split_at.ensures.back) (groups-last (Shares c.args.depth one) len rest inv.shared.groups) in
@@ -77,4 +78,14 @@ give_runs-loop-rest-preserved t c =
           ∙ sym (after-join run others (digest_at (leaves_of old) k) k)
           ∙ ap (λ (gs : List Group). digest_after gs (digest_at (leaves_of old) k) k) all
           ∙ inv.given k;
+      made = run-more (63 - c.args.depth) (length run) (length others) (length rest) (length c.args.groups.now) c.loop-rest.made c.in_ok-more.more c.saturating_add-made.result
+          (ap length (sym all) ∙ length-append run others) inv.made given.made (omega (arith, c.saturating_add-made.ensures));
     }
+
+pub give_run-returns-clause-made : goal.give_run-returns-clause-made
+give_run-returns-clause-made t c =
+    let o = c.index_mut.result.now in
+    let found = c.in_ok-place.ensures in
+    let node = (child-at c.args.depth c.in_ok-place.place c.place_for.new.children.items o found.fork.children found.within (sym c.index_mut.ensures.value)).0 in
+    let deep : o.depth ≡ c.args.depth + 1 = node.depth ∙ omega arith in
+    IfOk-weaker c.give_all.result (λ n. n ≤ (64 - o.depth) * length c.args.run.now) (λ n. n ≤ (63 - c.args.depth) * length c.args.run.now) (λ n h. one-deeper c.args.depth o.depth (length c.args.run.now) n deep h) c.give_all.ensures.made

@@ -1,4 +1,4 @@
-use Rattle.std.proofs.Common.{◌≡◌, ◌+◌, ◌*◌, ◌-◌, List, ℕ, length}
+use Rattle.std.proofs.Common.{◌≡◌, ◌≤◌, ◌+◌, ◌*◌, ◌-◌, List, ℕ, length}
 use Rattle.radix_root.specs.Leaves.{digest_at}
 use Rattle.radix_root.specs.Nodes.{IsFork, leaves_of}
 use Rattle.radix_root.specs.Groups.{ShareAll, digest_after}
@@ -20,6 +20,7 @@ invariant-give_runs-loop-rest l = record {
   fork : IsFork l.depth l.children.items;
   shared : ShareAll l.depth (leaves_of l.children.items) l.rest;
   given : (k : List ℕ) → digest_after l.rest (digest_at (leaves_of l.children.items) k) k ≡ digest_after l.groups (digest_at (leaves_of l.fn.children.items) k) k;
+  made : l.made + (63 - l.depth) * length l.rest ≤ (63 - l.depth) * length l.groups;
 }
 
 abbrev pub decreases-give_runs-loop-rest : goal.decreases-give_runs-loop-rest

@@ -1,10 +1,11 @@
-use Rattle.std.proofs.Common.{◌≡◌, ◌+◌, suc, [], ◌∷◌, None, cond, take, get_or, ap, sym, subst, ◌∙◌, arith}
+use Rattle.std.proofs.Common.{◌≡◌, ◌+◌, ◌-◌, suc, [], ◌∷◌, None, cond, take, get_or, ap, sym, subst, ◌∙◌, arith}
 use Rattle.std.specs.Str.{bytes_eq}
 use Rattle.radix_root.specs.declared.group.Group.{Group}
 use Rattle.radix_root.specs.Leaves.{digest_at}
 use Rattle.radix_root.specs.Nodes.{IsNode, AllShare, Shares}
 use Rattle.radix_root.specs.Groups.{given, digest_after}
 use Rattle.radix_root.proofs.Given.{groups-at, all-shared, keys-after, after-more}
+use Rattle.radix_root.proofs.Counting.{one-more}
 use Rattle.radix_root.proofs.many.give_each.Goals as goal
 
 pub put-requires : goal.put-requires
@@ -25,19 +26,20 @@ loop-group-preserved c =
     let i = c.loop-group.group-index in
     let group = get_or groups i none in
     let one = groups-at (Shares depth inv.shared.one) groups i none inv.shared.groups c.loop-group-test.true in
-    let node = subst (λ m. IsNode m c.put.new.self) inv.node.depth c.in_ok-put.ensures.node in
+    let node = subst (λ m. IsNode m c.put.new.self) inv.node.depth c.in_ok-more.ensures.node in
     let next : suc i ≡ i + 1 = omega arith in
     record {
       node = node;
-      half = c.in_ok-put.ensures.half ∙ inv.half;
+      half = c.in_ok-more.ensures.half ∙ inv.half;
       shared = record {
         one = inv.shared.one;
-        leaves = keys-after (Shares depth inv.shared.one) c.loop-group.node.leaves c.put.new.self.leaves (group ∷ []) node.leaves (one, tt) inv.shared.leaves c.in_ok-put.ensures.groups;
+        leaves = keys-after (Shares depth inv.shared.one) c.loop-group.node.leaves c.put.new.self.leaves (group ∷ []) node.leaves (one, tt) inv.shared.leaves c.in_ok-more.ensures.groups;
         groups = inv.shared.groups;
       };
       given = λ k.
-          c.in_ok-put.ensures.groups k
+          c.in_ok-more.ensures.groups k
           ∙ ap (λ v. cond (bytes_eq k group.key.0) (given group.digest) v) (inv.given k)
           ∙ sym (after-more groups i none (digest_at c.args.node.now.leaves k) k c.loop-group-test.true)
           ∙ ap (λ n. digest_after (take n groups) (digest_at c.args.node.now.leaves k) k) next;
+      made = one-more (64 - depth) i c.loop-group.made c.in_ok-more.more c.saturating_add-made.result inv.made (omega (arith, c.in_ok-more.ensures.made, inv.node.depth)) (omega (arith, c.saturating_add-made.ensures));
     }

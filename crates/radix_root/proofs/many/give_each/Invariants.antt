@@ -1,4 +1,4 @@
-use Rattle.std.proofs.Common.{◌≡◌, List, ℕ, take}
+use Rattle.std.proofs.Common.{◌≡◌, ◌≤◌, ◌-◌, ◌*◌, List, ℕ, take}
 use Rattle.radix_root.specs.Leaves.{digest_at}
 use Rattle.radix_root.specs.Nodes.{IsNode}
 use Rattle.radix_root.specs.Groups.{ShareAll, digest_after}
@@ -13,4 +13,5 @@ invariant-loop-group l =
       half : l.node.half ≡ l.fn.node.half;
       shared : ShareAll depth l.node.leaves l.groups;
       given : (k : List ℕ) → digest_at l.node.leaves k ≡ digest_after (take l.group-index l.groups) (digest_at l.fn.node.leaves k) k;
+      made : l.made ≤ (64 - depth) * l.group-index;
     }

@@ -1,6 +1,6 @@
 use Rattle.std.proofs.Common.{refl, arith}
 use Rattle.std.proofs.lemmas.Result.{IfOk-weaker}
-use Rattle.group_locks.specs.Counts.{all_of}
+use Rattle.hub_rule.specs.Counts.{all_of}
 use Rattle.group_locks.specs.Seats.{hand_of, limit_of, opened_shards, opened_works}
 use Rattle.replay_hub.specs.Values.{values}
 use Rattle.replay_hub.proofs.Endings.{decides}

@@ -1,8 +1,8 @@
 use Rattle.std.proofs.Common.{ℕ, List, ap, sym, subst, ◌∙◌}
-use Rattle.group_locks.specs.Counts.{things_of}
-use Rattle.group_locks.specs.Rule.{Carries}
+use Rattle.hub_rule.specs.Counts.{things_of}
+use Rattle.hub_rule.specs.Rule.{Carries}
 use Rattle.group_locks.specs.Seats.{held_by, since_of, took_by}
-use Rattle.group_locks.proofs.Offers.{things_numbered}
+use Rattle.hub_rule.proofs.Offers.{things_numbered}
 use Rattle.replay_hub.specs.declared.deed.Entry.{Entry}
 use Rattle.replay_hub.specs.declared.deed.Task.{Task}
 use Rattle.replay_hub.specs.Values.{offers_of, values}

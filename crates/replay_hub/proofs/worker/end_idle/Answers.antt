@@ -1,5 +1,5 @@
 use Rattle.std.proofs.Common.{ℕ, List, sym, subst}
-use Rattle.group_locks.specs.Rule.{Carries}
+use Rattle.hub_rule.specs.Rule.{Carries}
 use Rattle.group_locks.specs.Seats.{held_by, since_of}
 use Rattle.replay_hub.specs.declared.deed.Entry.{Entry}
 use Rattle.replay_hub.specs.Values.{values, AreShownIdle}

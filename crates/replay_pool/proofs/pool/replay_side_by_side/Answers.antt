@@ -1,8 +1,8 @@
 use Rattle.std.proofs.Common.{rules, ◌≡◌, false, ap, arith}
 use Rattle.std.specs.Prelude.{is_some}
-use Rattle.group_locks.specs.Works.{hand}
-use Rattle.group_locks.specs.declared.view.Pile.{Pile}
-use Rattle.group_locks.specs.declared.view.Tally.{Tally}
+use Rattle.hub_rule.specs.Works.{hand}
+use Rattle.hub_rule.specs.declared.view.Pile.{Pile}
+use Rattle.hub_rule.specs.declared.view.Tally.{Tally}
 use Rattle.replay_pool.proofs.Stops.{no-stop}
 use Rattle.replay_pool.proofs.pool.replay_side_by_side.Goals as goal
 

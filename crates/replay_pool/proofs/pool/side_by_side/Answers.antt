@@ -3,7 +3,7 @@ use Rattle.std.proofs.Crossing.{crosses}
 use Rattle.std.proofs.Common.{sym, subst}
 use Rattle.std.specs.List.{All}
 use Rattle.group_locks.specs.Seats.{IsIdle}
-use Rattle.replay_pool.proofs.Sides.{each-back}
+use Rattle.numbered_jobs.proofs.Each.{each-back}
 use Rattle.replay_pool.proofs.pool.side_by_side.Goals as goal
 
 pub map_vec-requires-after_bounds : goal.map_vec-requires-after_bounds

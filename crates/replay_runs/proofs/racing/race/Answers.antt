@@ -5,17 +5,16 @@ use Rattle.calculus.specs.Seeds.{digest_of, Start}
 use Rattle.calculus.specs.Unfolding.{Unfolds}
 use Rattle.events.specs.Laws.{Begins}
 use Rattle.replay_store.specs.Stores.{AreOpenedShards}
-use Rattle.sent_rows.proofs.Crossing.{row-send, row-sync}
-use Rattle.replayed_log.proofs.Crossing.{term-send, term-sync, shard-send, shard-sync, held-send, held-sync}
+use Rattle.replayed_log.proofs.Crossing.{channel-send, channel-sync, sharded-send, sharded-sync, shard-send, shard-sync, held-send, held-sync}
 use Rattle.replay_runs.proofs.Raced.{plain-shards}
 use Rattle.replay_runs.proofs.Starting.{opens}
 use Rattle.replay_runs.proofs.racing.race.Goals as goal
 
 pub replay_side_by_side-requires-send-J-Row : goal.replay_side_by_side-requires-send-J-Row
-replay_side_by_side-requires-send-J-Row g c κs within = let a = row-send in search sendable depth 10
+replay_side_by_side-requires-send-J-Row g c κs within = let a = sharded-send in search sendable depth 10
 
 pub replay_side_by_side-requires-send-J-Channel : goal.replay_side_by_side-requires-send-J-Channel
-replay_side_by_side-requires-send-J-Channel g c κs within = let a = term-send in search sendable depth 10
+replay_side_by_side-requires-send-J-Channel g c κs within = let a = channel-send in search sendable depth 10
 
 pub replay_side_by_side-requires-send-J-Shard : goal.replay_side_by_side-requires-send-J-Shard
 replay_side_by_side-requires-send-J-Shard g c κs within = let a = shard-send in search sendable depth 10
@@ -24,10 +23,10 @@ pub replay_side_by_side-requires-send-J-Held : goal.replay_side_by_side-requires
 replay_side_by_side-requires-send-J-Held g c κs within = let a = held-send in search sendable depth 10
 
 pub replay_side_by_side-requires-sync-J-Row : goal.replay_side_by_side-requires-sync-J-Row
-replay_side_by_side-requires-sync-J-Row g c κs within = let a = row-sync in search sendable depth 10
+replay_side_by_side-requires-sync-J-Row g c κs within = let a = sharded-sync in search sendable depth 10
 
 pub replay_side_by_side-requires-sync-J-Channel : goal.replay_side_by_side-requires-sync-J-Channel
-replay_side_by_side-requires-sync-J-Channel g c κs within = let a = term-sync in search sendable depth 10
+replay_side_by_side-requires-sync-J-Channel g c κs within = let a = channel-sync in search sendable depth 10
 
 pub replay_side_by_side-requires-sync-J-Shard : goal.replay_side_by_side-requires-sync-J-Shard
 replay_side_by_side-requires-sync-J-Shard g c κs within = let a = shard-sync in search sendable depth 10

@@ -2,7 +2,7 @@ use Rattle.std.proofs.Common.{◌≡◌, ℕ, eqb, take, map as each}
 use Rattle.std.specs.List.{list_any}
 use Rattle.calculus.specs.Storing.{shard}
 use Rattle.rho_term.specs.declared.term.TermBind.{TermBind}
-use Rattle.replay_shards.specs.Hands.{has_bit}
+use Rattle.replay_shards.specs.Bits.{has_bit}
 use Rattle.replay_shards.proofs.bits.bind_shards.Given as goal
 
 abbrev pub invariant-loop-bind : goal.invariant-loop-bind

@@ -1,5 +1,6 @@
 use Rattle.std.proofs.Common.{◌≡◌, List, sym, ap, subst, ◌∙◌, map as each}
 use Rattle.std.specs.Prelude.{Some, None, option_map, option_copied}
+use Rattle.calculus.specs.Rows.{Row}
 use Rattle.replay_space.specs.declared.seen.Seen.{Seen}
 use Rattle.replay_shards.specs.Rows.{filed_rows, find_seen, part_of, seen_row}
 use Rattle.replay_shards.specs.Hands.{Slot, IsSlotFiled, shown_at}
@@ -18,5 +19,5 @@ returns-in-None-find c =
     let x = c.args.id.now.0 in
     let kept = c.in-Some.kept in
     let none : find_seen x (filed_rows kept.rows.entries) ≡ None = sym (c.find.ensures (subst IsSlotFiled c.in-Some.is c.requires)) ∙ ap (λ r. option_map seen_row (option_copied r)) c.in-None-find.is in
-    c.find_built.ensures ∙ ap (λ (l : List Seen). find_seen x (each seen_row l)) c.as_slice.ensures.value
+    c.find_built.ensures ∙ ap (λ (l : List (Seen Row)). find_seen x (each seen_row l)) c.as_slice.ensures.value
     ∙ sym (ap (λ (z : Slot). find_seen x (shown_at (option_map part_of z))) c.in-Some.is ∙ found-second-of x (filed_rows kept.rows.entries) (each seen_row kept.built.items) none)

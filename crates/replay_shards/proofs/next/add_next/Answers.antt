@@ -17,14 +17,14 @@ returns-then-is_among c ss q rig found =
     let gone = bytes_of c.args.gone.now in
     record { more = []; are = sym (append-nil c.args.next.now.items); next = stays-out ss gone q (ap (λ y. is_one_of y gone) (sym x) ∙ sym c.is_among.ensures ∙ c.if-is_among.true) }
 
-pub returns-in_ok-push-in-Some-2 : goal.returns-in_ok-push-in-Some-2
-returns-in_ok-push-in-Some-2 c ss q rig found =
+pub returns-in_ok-push-in-Some-use_try : goal.returns-in_ok-push-in-Some-use_try
+returns-in_ok-push-in-Some-use_try c ss q rig found =
     let x = found-id c.args.id.now.0 (all_shown (parts_of c.args.slots.now)) q found in
     let gone = bytes_of c.args.gone.now in
     let seen = c.in-Some.seen.now in
     let one : Some (seen_row seen) ≡ Some q = sym (ap (λ o. option_map seen_row (option_copied o)) c.in-Some.is) ∙ c.find_in.ensures ∙ found in
     let same : seen_row seen ≡ q = cc one in
     let out : is_one_of (seen_row seen).row.id gone ≡ false = ap (λ y. is_one_of y gone) (ap (λ (w : SeenRow). w.row.id) same ∙ sym x) ∙ sym c.is_among.ensures ∙ c.if-is_among.false in
-    let used : IsUseTry ss seen.row (seen.done + 1) (c.in-Some-2.tried ∷ []) = subst (λ (o : Option Try). IsUseTry ss seen.row (seen.done + 1) (if_any o)) c.in-Some-2.is (c.in_ok-use_try.ensures ss (seen.done + 1) (c.next_use_at-next_use.ensures ss rig ∙ ap (λ x. slice_get (uses x 0 ss) (seen.done + 1)) c.id.ensures)) in
+    let used : IsUseTry ss seen.row (seen.done + 1) (c.in-Some-use_try.tried ∷ []) = subst (λ (o : Option Try). IsUseTry ss seen.row (seen.done + 1) (if_any o)) c.in-Some-use_try.is (c.use_try.ensures ss (seen.done + 1) (c.next_use_at-next_use.ensures ss rig ∙ ap (λ x. slice_get (uses x 0 ss) (seen.done + 1)) c.id.ensures)) in
     let next : seen.done + 1 ≡ suc seen.done = omega arith in
-    record { more = c.in-Some-2.tried ∷ []; are = c.in_ok-push-in-Some-2.ensures.items; next = subst (λ (w : SeenRow). AreNext ss gone (w ∷ []) (c.in-Some-2.tried ∷ [])) same (one-next ss gone (seen_row seen) (c.in-Some-2.tried ∷ []) (seen.done + 1) next out used) }
+    record { more = c.in-Some-use_try.tried ∷ []; are = c.in_ok-push-in-Some-use_try.ensures.items; next = subst (λ (w : SeenRow). AreNext ss gone (w ∷ []) (c.in-Some-use_try.tried ∷ [])) same (one-next ss gone (seen_row seen) (c.in-Some-use_try.tried ∷ []) (seen.done + 1) next out used) }

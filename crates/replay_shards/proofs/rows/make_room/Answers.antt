@@ -2,6 +2,7 @@ use Rattle.std.proofs.Common.{◌≤◌, ◌+◌, List, refl, sym, ap, subst, �
 use Rattle.std.specs.Prelude.{Some, Result, Ok, Err, OnOk, IsSome, vec_len, vec_capacity}
 use Rattle.std.specs.declared.alloc.AllocError.{AllocError}
 use Rattle.std.specs.BTreeMap.{insert_entry}
+use Rattle.calculus.specs.Rows.{Row}
 use Rattle.replay_space.specs.declared.seen.Seen.{Seen}
 use Rattle.replay_shards.specs.Filing.{Filed, HasRoom, AllHave}
 use Rattle.replay_shards.specs.Rows.{seen_row, id_of, filed_rows, AreFiled}
@@ -11,14 +12,14 @@ use Rattle.replay_shards.proofs.rows.make_room.Goals as goal
 
 pub returns-in-Some-clause-same : goal.returns-in-Some-clause-same
 returns-in-Some-clause-same c =
-    ap (λ (es : List (Filed Seen)). filed_rows es) (c.get_mut.follows.holds c.reserve.new.self).0
+    ap (λ (es : List (Filed (Seen Row))). filed_rows es) (c.get_mut.follows.holds c.reserve.new.self).0
     ∙ set-same seen_row c.args.id.now.0 c.in-Some.list.now c.reserve.new.self c.args.rows.now.entries (sym c.in-Some.ensures.value) c.reserve.ensures.items
 
 pub returns-in-Some-clause-filed : goal.returns-in-Some-clause-filed
 returns-in-Some-clause-filed c u =
     subst AreFiled (sym (c.get_mut.follows.holds c.reserve.new.self).0)
     (under-set seen_row id_of c.args.id.now.0 c.in-Some.list.now c.reserve.new.self c.args.rows.now.entries u (sym c.in-Some.ensures.value)
-    (λ h. subst (λ (l : List Seen). AllHave id_of c.args.id.now.0 (each seen_row l)) (sym c.reserve.ensures.items) h))
+    (λ h. subst (λ (l : List (Seen Row)). AllHave id_of c.args.id.now.0 (each seen_row l)) (sym c.reserve.ensures.items) h))
 
 pub returns-in-Some-clause-room : goal.returns-in-Some-clause-room
 returns-in-Some-clause-room c = go c.reserve.result c.reserve.ensures.ok
@@ -36,7 +37,7 @@ returns-in-Some-clause-room c = go c.reserve.result c.reserve.ensures.ok
 
 pub returns-in_ok-insert-in-None-clause-same : goal.returns-in_ok-insert-in-None-clause-same
 returns-in_ok-insert-in-None-clause-same c =
-    ap (λ (es : List (Filed Seen)). filed_rows es) (c.in_ok-insert-in-None.ensures.entries ∙ ap (λ m. insert_entry order m.entries c.args.id.now.0 c.reserve-in-None.new.self) c.get_mut.follows.holds-at-none)
+    ap (λ (es : List (Filed (Seen Row))). filed_rows es) (c.in_ok-insert-in-None.ensures.entries ∙ ap (λ m. insert_entry order m.entries c.args.id.now.0 c.reserve-in-None.new.self) c.get_mut.follows.holds-at-none)
     ∙ put-nothing seen_row c.args.id.now.0 c.reserve-in-None.new.self c.args.rows.now.entries (c.reserve-in-None.ensures.items ∙ c.new-list.ensures.items) (not-found c.args.id.now.0 c.args.rows.now.entries (sym c.in-None.ensures.value))
 
 pub returns-in_ok-insert-in-None-clause-filed : goal.returns-in_ok-insert-in-None-clause-filed

@@ -2,6 +2,7 @@ use Rattle.std.proofs.Common.{◌≡◌, ◌<◌, List, ◌∷◌, ◌++◌, [],
 use Rattle.std.specs.Prelude.{Some, vec_len, vec_capacity}
 use Rattle.std.specs.Map.{lookup}
 use Rattle.std.proofs.lemmas.List.{map-append}
+use Rattle.calculus.specs.Rows.{Row}
 use Rattle.replay_space.specs.declared.seen.Seen.{Seen}
 use Rattle.replay_shards.specs.Filing.{is_key, Filed, AllHave}
 use Rattle.replay_shards.specs.Rows.{seen_row, id_of, filed_rows, AreFiled}
@@ -14,11 +15,11 @@ push_reserved-requires c =
     let w = c.requires.room in
     let key = subst (λ x. lookup (is_key x) c.args.rows.now.entries ≡ Some w.under) (sym c.id.ensures) w.found in
     let same : w.under ≡ c.in-Some.list.now = cc (c.in-Some.ensures.value, key) in
-    subst (λ (v : Vec Seen Global). vec_len v < vec_capacity v) same w.room
+    subst (λ (v : Vec (Seen Row) Global). vec_len v < vec_capacity v) same w.room
 
 pub returns-in-Some-clause-rows : goal.returns-in-Some-clause-rows
 returns-in-Some-clause-rows c =
-    subst (λ (es : List (Filed Seen)). IsPermutation (filed_rows c.args.rows.now.entries ++ seen_row c.args.seen ∷ []) (filed_rows es)) (sym (c.get_mut.follows.holds c.push_reserved.new.self).0)
+    subst (λ (es : List (Filed (Seen Row))). IsPermutation (filed_rows c.args.rows.now.entries ++ seen_row c.args.seen ∷ []) (filed_rows es)) (sym (c.get_mut.follows.holds c.push_reserved.new.self).0)
     (set-more seen_row c.id.result.0 c.in-Some.list.now c.push_reserved.new.self c.args.seen c.args.rows.now.entries (sym c.in-Some.ensures.value) c.push_reserved.ensures.items)
 
 pub returns-in-Some-clause-filed : goal.returns-in-Some-clause-filed

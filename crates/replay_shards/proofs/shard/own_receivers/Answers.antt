@@ -14,7 +14,7 @@ pub as_rows-requires : goal.as_rows-requires
 as_rows-requires c = all-storable c.in_ok-built_ins.field-0.items (subst (All IsStorable) (sym c.in_ok-built_ins.ensures) built_in_receivers_are_storable)
 
 pub loop-row-init : goal.loop-row-init
-loop-row-init c = ap (λ (l : List Seen). each seen_row l) c.new-built.ensures.items
+loop-row-init c = ap (λ (l : List (Seen Row)). each seen_row l) c.new-built.ensures.items
 
 pub loop-row-preserved : goal.loop-row-preserved
 loop-row-preserved c =

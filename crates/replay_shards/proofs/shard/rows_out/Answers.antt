@@ -14,4 +14,4 @@ loop-list-preserved c =
 pub returns : goal.returns
 returns c =
     let whole = all-came c.args.filed.entries c.loop-list.yielded c.into_iter-list-iterator.result c.loop-list.list-iterator _ _ c.into_iter-list-iterator.ensures.into_iter_gives.0 c.loop-list.yielded_by c.in-None.is c.next.ensures.steps in
-    c.loop-list.invariant ∙ ap (λ (es : List (Filed Seen)). bare (filed_rows es)) whole
+    c.loop-list.invariant ∙ ap (λ (es : List (Filed (Seen Row))). bare (filed_rows es)) whole

@@ -1,6 +1,6 @@
 use Rattle.std.proofs.Common.{◌≡◌, ◌<◌, ℕ, length, cond, get_or}
 use Rattle.std.specs.Prelude.{Some, None}
-use Rattle.replay_shards.specs.Hands.{has_bit}
+use Rattle.replay_shards.specs.Bits.{has_bit}
 use Rattle.replay_shards.specs.Rows.{arrived_seen}
 use Rattle.replay_shards.proofs.slots.make_copies.Given as goal
 

@@ -1,9 +1,9 @@
 use denote.Param.Send.{sendable}
-use Rattle.replayed_log.proofs.Crossing.{term-send, term-sync}
+use Rattle.replayed_log.proofs.Crossing.{channel-send, channel-sync}
 use Rattle.replayed_log.proofs.shared.channel_crosses.Goals as goal
 
 pub crosses-requires-send-T : goal.crosses-requires-send-T
-crosses-requires-send-T c κs = let a = term-send in search sendable depth 10
+crosses-requires-send-T c κs = let a = channel-send in search sendable depth 10
 
 pub crosses-requires-sync-T : goal.crosses-requires-sync-T
-crosses-requires-sync-T c κs = let a = term-sync in search sendable depth 10
+crosses-requires-sync-T c κs = let a = channel-sync in search sendable depth 10

@@ -11,7 +11,7 @@ use Rattle.grammar.specs.declared.fault.Fault.{Fault}
 use Rattle.grammar.specs.declared.fault.Fault.TheVariants.{NoMemory}
 use Rattle.token_cursor.specs.Reading.{Gives, Makes, of_pat, of_proc}
 use Rattle.syntax_forms.specs.declared.part.Part.{Part}
-use Rattle.rho_parser.proofs.Cycle.{built}
+use Rattle.form_steps.proofs.Turning.{built}
 use Rattle.rho_parser.proofs.closed_form.closed_form.Goals as goal
 
 -- a form that was read

@@ -1,6 +1,6 @@
 use Rattle.replay_scene.specs.Spaces.{new_row}
 use Rattle.replay_scene.specs.Entries.{arrives}
-use Rattle.replay_shards.specs.Hands.{has_bit}
+use Rattle.replay_shards.specs.Bits.{has_bit}
 use Rattle.std.proofs.Common.{[]}
 use Rattle.rig_tables.proofs.Staying.{after-arrival}
 use Rattle.rig_tables.proofs.racing.bring_one.Goals as goal
@@ -8,4 +8,4 @@ use Rattle.rig_tables.proofs.racing.bring_one.Goals as goal
 pub returns : goal.returns
 returns c =
     let a = c.swap_remove-coming.result in
-    after-arrival (has_bit c.in_ok-shards.shards) (arrives (new_row a.from a.row) []) c.args.held.now c.arrive.new.self (c.in_ok-arrive.ensures.arrived []) c.requires
+    after-arrival (has_bit c.shards-shards.result) (arrives (new_row a.from c.in_ok-row.row) []) c.args.held.now c.arrive.new.self (c.in_ok-arrive.ensures.arrived []) c.requires

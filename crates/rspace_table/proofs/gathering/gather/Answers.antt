@@ -1,7 +1,7 @@
 use Rattle.std.proofs.Common.{ℕ, List, [], ◌∷◌, ◌++◌, eqb, filter, length-append, ap, sym, ◌∙◌, arith}
 use Rattle.calculus.specs.Rows.{Row}
-use Rattle.rspace_table.specs.Homes.{gathered, home}
-use Rattle.rspace_table.proofs.Gathered.{gathered-more}
+use Rattle.row_homes.specs.Homes.{gathered, home}
+use Rattle.row_homes.proofs.Gathered.{gathered-more}
 use Rattle.rspace_table.proofs.gathering.gather.Goals as goal
 
 pub loop-shard-preserved : goal.loop-shard-preserved
@@ -10,6 +10,8 @@ loop-shard-preserved c =
     let ys = c.loop-shard.yielded in
     let s = c.in-Some.shard in (
       omega (arith, i.0, length-append ys (s ∷ [])),
-      c.in_ok-gather_one.ensures ∙ ap (λ (l : List Row). l ++ filter (λ r. eqb (home r) c.loop-shard.number) s) i.1
+      c.in_ok-gather_home.ensures
+          ∙ ap (λ (l : List Row). c.loop-shard.rows.items ++ filter (λ r. eqb (home r) c.loop-shard.number) l) c.in_ok-into_rows.ensures
+          ∙ ap (λ (l : List Row). l ++ filter (λ r. eqb (home r) c.loop-shard.number) s) i.1
           ∙ ap (λ (n : ℕ). gathered 0 ys ++ filter (λ (r : Row). eqb (home r) n) s) (omega (arith, i.0)) ∙ sym (gathered-more 0 ys s),
     )

@@ -9,7 +9,7 @@ use Rattle.state_reader.proofs.Beginning.{none-in-hand}
 use Rattle.state_reader.proofs.read.take_rows.Goals as goal
 
 pub loop-i-init : goal.loop-i-init
-loop-i-init c = record { hand = none-in-hand _ c.list_of_rows.ensures c.new.ensures.empty refl; number = ap length c.list_of_rows.ensures; is = rw c.list_of_rows.ensures refl }
+loop-i-init c = record { hand = none-in-hand _ c.list_for_rows.ensures c.list_for_rows-2.ensures c.new.ensures.empty refl; number = ap length c.list_for_rows.ensures; is = rw c.list_for_rows.ensures refl }
 
 pub loop-i-preserved : goal.loop-i-preserved
 loop-i-preserved c = record {

@@ -27,7 +27,7 @@ returns-then-not-is_empty-clause-wrong c = λ at e few.
     let h = c.in-Ok.ensures in
     let r = c.in-Ok-take_rows in
     let w = left-within c.args.bytes.now c.in-Ok.header.0.0 c.in-Ok.header.2.now c.in-Ok.header.1 h.is in
-    let v : length r.read.1.now ≤ length c.in-Ok.header.2.now = omega (arith, ap length r.ensures.is, length-append (joined (map row_code r.read.0.items)) r.read.1.now) in
+    let v : length r.read.2.now ≤ length c.in-Ok.header.2.now = omega (arith, ap length r.ensures.is, length-append (joined (map row_code r.read.0.items)) r.read.2.now) in
     subst (λ z. IsWrongAt z c.args.bytes.now) (place-same e)
-    (past_end (laid c.args.bytes.now c.in-Ok.header.0.0 c.in-Ok.header.2.now r.read.1.now c.in-Ok.header.1 r.read.0.items h.is r.ensures.is h.long h.small (omega (arith, r.ensures.number)) r.ensures.order) r.ensures.number
+    (past_end (laid c.args.bytes.now c.in-Ok.header.0.0 c.in-Ok.header.2.now r.read.2.now c.in-Ok.header.1 r.read.0.items h.is r.ensures.is h.long h.small (omega (arith, r.ensures.number)) r.ensures.order) r.ensures.number
     (omega (arith, c.saturating_sub-at.ensures, w, v)) (grind (arith, c.is_empty.ensures, c.if-not-is_empty.true)))

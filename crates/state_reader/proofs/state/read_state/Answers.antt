@@ -1,5 +1,5 @@
-use Rattle.std.proofs.Common.{◌≡◌, List, true, false, sym, ap, ◌∙◌, subst}
-use Rattle.calculus.specs.Rows.{Row}
+use Rattle.std.proofs.Common.{◌≡◌, List, map, true, false, sym, ap, ◌∙◌, subst}
+use Rattle.calculus.specs.Rows.{Row, row_code}
 use Rattle.radix_root.specs.Leaves.{Keeps, groups_of}
 use Rattle.states.specs.States.{state_text}
 use Rattle.states.proofs.Groups.{same, equal}
@@ -26,7 +26,7 @@ returns-in-Some-clause-refused c =
     let found = same _ _ (sym c.are_equal.ensures ∙ c.if-not-are_equal.false) in
     record {
       rows = c.in-Ok.read.0.items;
-      is = laid-text c.args.bytes.now c.in-Ok.read.1.0 c.in-Ok.read.0.items c.in-Ok.ensures.is (sym found ∙ root);
+      is = laid-text c.args.bytes.now c.in-Ok.read.2.0 c.in-Ok.read.0.items c.in-Ok.ensures.is (sym found ∙ root);
       order = c.in-Ok.ensures.is.order;
       step = least-some c.in-Ok.read.0.items c.as_slice-2.result.now c.in_ok-step.field-0 c.in-Some.step c.as_slice-2.ensures.value c.in-Some.is c.in_ok-step.ensures;
     }
@@ -35,4 +35,7 @@ pub returns-in-None-clause-read : goal.returns-in-None-clause-read
 returns-in-None-clause-read c =
     let root = c.root-found.ensures c.in-Ok.read.0.items (subst (λ (rs : List Row). Keeps c.in_ok-tree.tree (groups_of rs)) c.as_slice.ensures.value c.in_ok-tree.ensures.tree) in
     let found = same _ _ (sym c.are_equal.ensures ∙ c.if-not-are_equal.false) in
-    laid-text c.args.bytes.now c.in-Ok.read.1.0 c.in-Ok.read.0.items c.in-Ok.ensures.is (sym found ∙ root) ∙ ap (λ (rs : List Row). state_text rs) (sym c.with_tree.ensures)
+    laid-text c.args.bytes.now c.in-Ok.read.2.0 c.in-Ok.read.0.items c.in-Ok.ensures.is (sym found ∙ root) ∙ ap (λ (rs : List Row). state_text rs) (sym c.with_tree.ensures)
+
+pub coded_tree-requires : goal.coded_tree-requires
+coded_tree-requires c = c.in-Ok.ensures.codes ∙ ap (λ (rs : List Row). map row_code rs) (sym c.as_slice.ensures.value)

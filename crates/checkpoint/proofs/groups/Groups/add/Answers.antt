@@ -6,8 +6,8 @@ use Rattle.checkpoint.proofs.groups.Groups.add.Goals as goal
 pub returns-clause-holds : goal.returns-clause-holds
 returns-clause-holds c = λ rows h p.
     let t = c.in_ok-turn.ensures.holds rows h p in
-    let e = sym c.requires ∙ sym c.in_ok-turn.ensures.key in
+    let e = sym c.requires.0 ∙ sym c.in_ok-turn.ensures.key in
     record {
-      codes = codes-added (λ v. v.items) c.turn.new.self.codes.items c.push.new.self.items c.in_ok-code.code rows (row_of c.args.keyed.now) c.turn.new.self.key.0 c.in_ok-push.ensures.items c.in_ok-code.ensures t.codes e;
+      codes = codes-added (λ s. s.now) c.turn.new.self.codes.items c.push.new.self.items c.args.keyed.now.code rows (row_of c.args.keyed.now) c.turn.new.self.key.0 c.in_ok-push.ensures.items c.requires.1 t.codes e;
       closed = open-push c.turn.new.self.closed.items c.turn.new.self.key.0 rows (row_of c.args.keyed.now) e t.closed;
     }

@@ -10,7 +10,7 @@ pub returns-clause-holds : goal.returns-clause-holds
 returns-clause-holds c = λ rows h p.
     let n = ⊎_elim (λ e. absurd (apart (sym (equal _ _ e) ∙ sym c.are_equal.ensures ∙ c.if-are_equal.false))) (λ n. n) p in
     record {
-      codes = ap (map (λ v. v.items)) c.in_ok-close.ensures.codes ∙ sym n;
+      codes = ap (map (λ s. s.now)) c.in_ok-close.ensures.codes ∙ sym n;
       closed = open-new c.close.new.self.closed.items c.args.key.now.0 rows n (c.in_ok-close.ensures.closed rows h);
     }
   where

@@ -2,8 +2,8 @@ use Rattle.std.proofs.Common.{◌≡◌, ◌∙◌, sym, ap, subst, refl, arith,
 use mathlib.Core.Option.{some}
 use Rattle.std.proofs.lemmas.List.{length-map}
 use Rattle.atomic_table.specs.Table.{opening}
-use Rattle.group_locks.specs.Rule.{HubRule, newcomer}
-use Rattle.group_locks.proofs.Opens.{opens, slots_long, first_words, spent_word, count_word, other_words}
+use Rattle.hub_rule.specs.Rule.{HubRule, newcomer}
+use Rattle.hub_rule.proofs.Opens.{opens, slots_long, first_words, spent_word, count_word, other_words}
 use Rattle.group_locks.proofs.hub.Hub.open.Goals as goal
 
 pub new-requires : goal.new-requires

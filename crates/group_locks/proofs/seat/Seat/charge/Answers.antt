@@ -1,7 +1,7 @@
-use Rattle.group_locks.specs.Works.{hand}
+use Rattle.hub_rule.specs.Works.{hand}
 use Rattle.std.proofs.Common.{◌+◌, ◌%◌, ◌^◌, ◌≡◌, ◌∙◌, ◌++◌, length, sym, ap, arith, append-nil, append_assoc, length-append, false, true}
-use Rattle.group_locks.specs.Counts.{count}
-use Rattle.group_locks.specs.Rule.{below, descends, emptied}
+use Rattle.hub_rule.specs.Counts.{count}
+use Rattle.hub_rule.specs.Rule.{below, descends, emptied}
 use Rattle.group_locks.proofs.seat.Seat.charge.Goals as goal
 
 pub invariant_of-self : goal.invariant_of-self

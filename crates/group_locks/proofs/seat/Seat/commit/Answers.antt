@@ -1,7 +1,7 @@
 use Rattle.std.proofs.Common.{◌++◌, ◌∷◌, [], ap, sym, subst}
-use Rattle.group_locks.specs.declared.view.View.{View}
-use Rattle.group_locks.specs.Rule.{Carries}
-use Rattle.group_locks.proofs.Groups.{carries_drawn}
+use Rattle.hub_rule.specs.declared.view.View.{View}
+use Rattle.hub_rule.specs.Rule.{Carries}
+use Rattle.hub_steps.proofs.Groups.{carries_drawn}
 use Rattle.group_locks.proofs.seat.Seat.commit.Goals as goal
 
 pub returns-clause-carries : goal.returns-clause-carries

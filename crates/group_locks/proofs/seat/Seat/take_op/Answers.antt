@@ -1,5 +1,5 @@
 use Rattle.std.proofs.Common.{◌∙◌, ◌++◌, ◌+◌, inr, ap, arith}
-use Rattle.group_locks.specs.Works.{hand}
+use Rattle.hub_rule.specs.Works.{hand}
 use Rattle.group_locks.specs.Seats.{HasRoom}
 use Rattle.group_locks.proofs.Takes.{looked_charged, looked_taken, looked_new, looked_go, looked_idle, looked_cause}
 use Rattle.group_locks.proofs.seat.Seat.take_op.Goals as goal

@@ -1,9 +1,11 @@
-use Rattle.std.proofs.Common.{◌≡◌, ◌<◌, ℕ, List, [], ◌==◌, true, false, length, map, sym, ap, ◌∙◌, arith, Vec, Global, cond}
+use Rattle.std.proofs.Common.{◌≡◌, ◌<◌, ℕ, List, [], ◌∷◌, ◌++◌, ◌==◌, true, false, length, map, sym, ap, ◌∙◌, arith, Vec, Global, cond}
 use Rattle.std.specs.Str.{bytes_eq}
 use Rattle.std.proofs.lemmas.Bool.Decides.{nat_tests}
+use Rattle.sha2.specs.Sha256.{sha256}
 use Rattle.sha2.proofs.Facts256.{length-sha256}
-use Rattle.radix_root.specs.Leaves.{Leaves, digest_at}
-use Rattle.radix_root.proofs.Meets.{keeps-changed, some-rows, no-rows}
+use Rattle.calculus.specs.Bytes.{be32, joined}
+use Rattle.radix_root.specs.Leaves.{Leaves, digest_at, group_digest}
+use Rattle.radix_root.proofs.Meets.{keeps-changed, length-each, some-rows, no-rows}
 use Rattle.radix_root.proofs.Wells.{share-none}
 use Rattle.radix_root.proofs.tree.RadixTree.change.Goals as goal
 
@@ -28,6 +30,11 @@ returns-clause-rows c = λ f h.
     let items : Vec ℕ Global → List ℕ = λ r. r.items in
     let test : (length c.args.rows.now == 0) ≡ false = sym c.is_empty.ensures ∙ c.if-is_empty.false in
     let some : 0 < length c.args.rows.now = grind (arith, nat_tests) in
+    let codes = c.in_ok-codes.codes.items in
+    let long = length-each (λ s. s.now) codes in
+    let same = c.in_ok-codes.ensures in
+    let full : 0 < length codes = omega (arith, some, long, ap length same, length-each items c.args.rows.now) in
+    let leaf = c.leaf_digest-digest.ensures ∙ ap (λ cs. sha256 (0x10 ∷ (c.args.key.now.0 ++ (be32 (length cs) ++ joined (map (λ s. s.now) cs))))) c.as_slice.ensures.value in
     keeps-changed c.args.self.now c.set.new.self.leaves f c.args.key.now.0 c.leaf_digest-digest.result.0 (map items c.args.rows.now)
     (λ j. c.in_ok-made.ensures.groups j ∙ ap (λ (ls : Leaves). cond (bytes_eq j c.args.key.now.0) c.leaf_digest-digest.result.0 (digest_at ls j)) c.self.view_is)
-    (c.leaf_digest-digest.ensures ∙ some-rows items c.args.key.now.0 c.args.rows.now some) h
+    (leaf ∙ some-rows (λ s. s.now) c.args.key.now.0 codes full ∙ ap (group_digest c.args.key.now.0) same) h

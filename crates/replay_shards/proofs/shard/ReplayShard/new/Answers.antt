@@ -1,5 +1,6 @@
 use Rattle.std.proofs.Common.{List, [], sym, subst, IsPermutation, refl}
 use Rattle.list_laws.proofs.Permutations.{unmoved}
+use Rattle.calculus.specs.Rows.{Row}
 use Rattle.replay_space.specs.declared.seen.Seen.{Seen}
 use Rattle.replay_shards.specs.Filing.{Filed}
 use Rattle.replay_shards.specs.Rows.{filed_rows, AreFiled}
@@ -11,6 +12,6 @@ invariant_of-result c = subst AreFiled (sym c.new-rows.ensures.empty) tt
 pub returns : goal.returns
 returns c = record {
   number = refl;
-  rows = subst (λ (es : List (Filed Seen)). IsPermutation [] (filed_rows es)) (sym c.new-rows.ensures.empty) (unmoved []);
+  rows = subst (λ (es : List (Filed (Seen Row))). IsPermutation [] (filed_rows es)) (sym c.new-rows.ensures.empty) (unmoved []);
   built = c.in_ok-built.ensures;
 }

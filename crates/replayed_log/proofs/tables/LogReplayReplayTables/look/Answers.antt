@@ -25,7 +25,7 @@ returns-in_default g c =
     let t = c.args.tried.now in
     let steps = c.requires.knows.steps in
     shows-unheard c.args.held.now g.N.ReplayNames.steps t (sym (c.requires.shards (shard t.channel)) ∙ c.requires.own)
-    (λ b s a log place. at-none c.in_ok-wanted.field-0 _ _ c.in_default.not-Some (c.in_ok-wanted.ensures b s a (sym steps ∙ log) place))
+    (λ b s a log place. at-none c.step_shards.result _ _ c.in_default.not-Some (c.step_shards.ensures b s a (sym steps ∙ log) place))
 
 pub returns-then-missing-ne0 : goal.returns-then-missing-ne0
 returns-then-missing-ne0 g c =
@@ -34,7 +34,7 @@ returns-then-missing-ne0 g c =
     let steps = c.requires.knows.steps in
     let lt : c.args.tried.now.step < length ss = omega (arith, c.if-tried-len.false, c.len.ensures, ap (λ (l : List Step). length l) steps, as-many-steps c.args.self.now.log.steps.items) in
     let p = split-at ss c.args.tried.now.step lt in
-    let w = at-some c.in_ok-wanted.field-0 c.in-Some.wanted _ _ c.in-Some.is (c.in_ok-wanted.ensures p.before p.step p.after (sym steps ∙ p.is) p.place) in
+    let w = at-some c.step_shards.result c.in-Some.wanted _ _ c.in-Some.is (c.step_shards.ensures p.before p.step p.after (sym steps ∙ p.is) p.place) in
     let b = some-missing c.missing.result c.in-Some.wanted c.args.shards c.missing.ensures (omega arith) (omega (arith, c.if-missing-ne0.true)) in
     (w.0, b.0, found-hand h p.step.receiver w.0 w.1, w.2, sym (w.2 b.0) ∙ b.1, b.2)
 
@@ -47,7 +47,7 @@ returns-in_default-2 g c =
     λ k i. sym (c.requires.shards k) ∙ none-missing c.missing.result c.in-Some.wanted c.args.shards c.missing.ensures (omega (arith, c.if-missing-ne0.false)) k i in
     shows-unfit h g.N.ReplayNames.steps t (sym (c.requires.shards (shard t.channel)) ∙ c.requires.own)
     (λ b s a log place.
-    let w = at-some c.in_ok-wanted.field-0 c.in-Some.wanted _ _ c.in-Some.is (c.in_ok-wanted.ensures b s a (sym steps ∙ log) place) in
+    let w = at-some c.step_shards.result c.in-Some.wanted _ _ c.in-Some.is (c.step_shards.ensures b s a (sym steps ∙ log) place) in
     (w.0, (w.1, λ k i. within k (w.2 k ∙ i))))
     (λ b s a log place.
     subst (λ (l : List Step). FitsNothing l (all_shown h) b s t.step) (sym steps) (at-none c.in_ok-ready.field-0 _ _ c.in_default-2.not-Some (c.in_ok-ready.ensures b s a (sym steps ∙ log) place)))
@@ -78,7 +78,7 @@ returns g c =
     let p : Split items t.step u = subst (λ (z : LogStep). Split items t.step z) (sym c.index-step.ensures) (split-log items t.step u (omega (arith, c.if-tried-len.false, c.len.ensures))) in
     let y : IsReady g.N.ReplayNames.steps (all_shown h) p.before (step_of u) t.step ready =
     subst (λ (l : List Step). IsReady l (all_shown h) p.before (step_of u) t.step ready) (sym k.steps) (at-some c.in_ok-ready.field-0 ready _ _ c.in-Some-2.is (c.in_ok-ready.ensures p.before (step_of u) p.after p.is p.place)) in
-    let w = at-some c.in_ok-wanted.field-0 c.in-Some.wanted _ _ c.in-Some.is (c.in_ok-wanted.ensures p.before (step_of u) p.after p.is p.place) in
+    let w = at-some c.step_shards.result c.in-Some.wanted _ _ c.in-Some.is (c.step_shards.ensures p.before (step_of u) p.after p.is p.place) in
     let same : w.0 ≡ y.receiver = one w.0 y.receiver (sym w.1 ∙ y.first) in
     let covers : (j : ℕ) → stands_in j y.receiver.row ≡ true → has_bit c.args.shards j ≡ true =
     λ j i. none-missing c.missing.result c.in-Some.wanted c.args.shards c.missing.ensures (omega (arith, c.if-missing-ne0.false)) j (w.2 j ∙ ap (λ (q : SeenRow). stands_in j q.row) same ∙ i) in

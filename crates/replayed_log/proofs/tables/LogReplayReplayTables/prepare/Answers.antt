@@ -15,7 +15,7 @@ returns g c =
     let row = c.args.coming.now.row in
     let same = ap (λ (v : Vec (Try Tree) Global). seen_tries v.items) c.of-next.ensures ∙ c.in_ok-tries.ensures in
     record {
-      bits = c.in_ok-shards.ensures;
+      bits = c.shards-shards.ensures;
       first = subst (λ (ts : List IndexTry). IsFirstUse ss row ts) (sym same) (c.in_ok-first_tries.ensures ss c.requires.knows.rigged);
       tasks =
           c.in_ok-tasks.ensures.are ∙ ap (λ (l : List (Task Row Tree)). l ++ each (λ t. Index t) c.in_ok-tries.tries.items) c.new.ensures.items

@@ -7,65 +7,41 @@ use Rattle.grammar.specs.Productions.{Prod}
 use Rattle.grammar.specs.Rules.{Sort, last}
 use Rattle.grammar.specs.Values.{patterns, processes, spelt}
 use Rattle.grammar.specs.declared.dialect.Dialect.TheVariants.{Tutorial}
-use Rattle.token_cursor.specs.Levels.{levels_below, looseness_of, sort_of, tail_of}
+use Rattle.token_cursor.specs.Levels.{levels_below, sort_of, tail_of}
 use Rattle.token_cursor.specs.Meaning.{view}
 use Rattle.token_cursor.specs.Reading.{bracket_of, of_pat, of_proc, pairs_written, pat_pairs_written}
 use Rattle.std.proofs.Common.{[], length, map, ◌*◌, ◌+◌, ◌<◌, ◌≤◌}
 use Rattle.rho_parser.proofs.parser.Parser.+parse.Given as goal
 
-abbrev pub decreases-atom : goal.decreases-atom
-decreases-atom l = 128 * length l.self.now.cursor.rest.now + 18
-
-abbrev pub decreases-atom_brace : goal.decreases-atom_brace
-decreases-atom_brace l = 128 * length l.self.now.cursor.rest.now + 17
-
-abbrev pub decreases-atom_list : goal.decreases-atom_list
-decreases-atom_list l = 128 * length l.self.now.cursor.rest.now + 17
-
-abbrev pub decreases-atom_open : goal.decreases-atom_open
-decreases-atom_open l = 128 * length l.self.now.cursor.rest.now + 17
-
-abbrev pub decreases-atom_set : goal.decreases-atom_set
-decreases-atom_set l = 128 * length l.self.now.cursor.rest.now + 17
-
 abbrev pub decreases-binds_tail : goal.decreases-binds_tail
 decreases-binds_tail l = 128 * length l.self.now.cursor.rest.now + 3
 
-abbrev pub decreases-body : goal.decreases-body
-decreases-body l = 128 * length l.self.now.cursor.rest.now + 1
+abbrev pub decreases-block : goal.decreases-block
+decreases-block l = 128 * length l.self.now.cursor.rest.now + 2
 
-abbrev pub decreases-brace_pair : goal.decreases-brace_pair
-decreases-brace_pair l = 128 * length l.self.now.cursor.rest.now + 2
-
-abbrev pub decreases-brace_pair-loop-self : goal.decreases-brace_pair-loop-self
-decreases-brace_pair-loop-self l = length l.self.cursor.rest.now
-
-abbrev pub decreases-bundle : goal.decreases-bundle
-decreases-bundle l = 128 * length l.self.now.cursor.rest.now + 35
+abbrev pub decreases-block-loop-self : goal.decreases-block-loop-self
+decreases-block-loop-self l = length l.self.cursor.rest.now
 
 abbrev pub decreases-case : goal.decreases-case
 decreases-case l = 128 * length l.self.now.cursor.rest.now + 120
 
-abbrev pub decreases-cases : goal.decreases-cases
-decreases-cases l = 128 * length l.self.now.cursor.rest.now + 121
-
-abbrev pub decreases-cases-loop-self : goal.decreases-cases-loop-self
-decreases-cases-loop-self l = length l.self.cursor.rest.now
-
 abbrev pub decreases-contract_form : goal.decreases-contract_form
-decreases-contract_form l = 128 * length l.self.now.cursor.rest.now + 36
+decreases-contract_form l = 128 * length l.self.now.cursor.rest.now + 34
 
 abbrev pub decreases-drop_form : goal.decreases-drop_form
 decreases-drop_form l = 128 * length l.self.now.cursor.rest.now + 19
 
-abbrev pub decreases-first_tail : goal.decreases-first_tail
-decreases-first_tail l = 128 * length l.self.now.cursor.rest.now + 3
-
 abbrev pub decreases-for_form : goal.decreases-for_form
-decreases-for_form l = 128 * length l.self.now.cursor.rest.now + 35
+decreases-for_form l = 128 * length l.self.now.cursor.rest.now + 34
+
+abbrev pub decreases-form : goal.decreases-form
+decreases-form l = 128 * length l.self.now.cursor.rest.now + 35
+
+abbrev pub decreases-group : goal.decreases-group
+decreases-group l = 128 * length l.self.now.cursor.rest.now + 1
 
 abbrev pub decreases-if_form : goal.decreases-if_form
-decreases-if_form l = 128 * length l.self.now.cursor.rest.now + 36
+decreases-if_form l = 128 * length l.self.now.cursor.rest.now + 34
 
 abbrev pub decreases-left : goal.decreases-left
 decreases-left l = 128 * length l.self.now.cursor.rest.now + 95
@@ -74,43 +50,34 @@ abbrev pub decreases-left-loop-self : goal.decreases-left-loop-self
 decreases-left-loop-self l = length l.self.cursor.rest.now
 
 abbrev pub decreases-level : goal.decreases-level
-decreases-level l = 128 * length l.self.now.cursor.rest.now + (23 + 2 * looseness_of l.level)
+decreases-level l = 128 * length l.self.now.cursor.rest.now + (22 + 2 * levels_below l.within)
 
 abbrev pub decreases-level-loop-mark : goal.decreases-level-loop-mark
 decreases-level-loop-mark l = length l.self.cursor.rest.now
 
 abbrev pub decreases-match_form : goal.decreases-match_form
-decreases-match_form l = 128 * length l.self.now.cursor.rest.now + 35
+decreases-match_form l = 128 * length l.self.now.cursor.rest.now + 34
+
+abbrev pub decreases-match_form-each : goal.decreases-match_form-each
+decreases-match_form-each l = length l.self.cursor.rest.now
 
 abbrev pub decreases-meth : goal.decreases-meth
 decreases-meth l = 128 * length l.self.now.cursor.rest.now + 20
 
-abbrev pub decreases-meth-loop-self : goal.decreases-meth-loop-self
-decreases-meth-loop-self l = length l.self.cursor.rest.now
-
-abbrev pub decreases-more_binds : goal.decreases-more_binds
-decreases-more_binds l = 128 * length l.self.now.cursor.rest.now + 2
+abbrev pub decreases-meth-calls : goal.decreases-meth-calls
+decreases-meth-calls l = length l.self.cursor.rest.now
 
 abbrev pub decreases-name : goal.decreases-name
 decreases-name l = 128 * length l.self.now.cursor.rest.now + 2
 
 abbrev pub decreases-new_form : goal.decreases-new_form
-decreases-new_form l = 128 * length l.self.now.cursor.rest.now + 36
-
-abbrev pub decreases-next_bind : goal.decreases-next_bind
-decreases-next_bind l = 128 * length l.self.now.cursor.rest.now + 120
+decreases-new_form l = 128 * length l.self.now.cursor.rest.now + 34
 
 abbrev pub decreases-next_pair : goal.decreases-next_pair
 decreases-next_pair l = 128 * length l.self.now.cursor.rest.now + 1
 
 abbrev pub decreases-one : goal.decreases-one
 decreases-one l = 128 * length l.self.now.cursor.rest.now + 37
-
-abbrev pub decreases-operand : goal.decreases-operand
-decreases-operand l = 128 * length l.self.now.cursor.rest.now + (22 + 2 * levels_below l.level)
-
-abbrev pub decreases-operation : goal.decreases-operation
-decreases-operation l = 128 * length l.self.now.cursor.rest.now + 1
 
 abbrev pub decreases-par : goal.decreases-par
 decreases-par l = 128 * length l.self.now.cursor.rest.now + 38
@@ -124,17 +91,11 @@ decreases-pattern_alternative l = 128 * length l.self.now.cursor.rest.now + 70
 abbrev pub decreases-pattern_alternative-loop-self : goal.decreases-pattern_alternative-loop-self
 decreases-pattern_alternative-loop-self l = length l.self.cursor.rest.now
 
-abbrev pub decreases-pattern_any : goal.decreases-pattern_any
-decreases-pattern_any l = 128 * length l.self.now.cursor.rest.now + 70
+abbrev pub decreases-pattern_block : goal.decreases-pattern_block
+decreases-pattern_block l = 128 * length l.self.now.cursor.rest.now + 87
 
-abbrev pub decreases-pattern_atom : goal.decreases-pattern_atom
-decreases-pattern_atom l = 128 * length l.self.now.cursor.rest.now + 64
-
-abbrev pub decreases-pattern_brace : goal.decreases-pattern_brace
-decreases-pattern_brace l = 128 * length l.self.now.cursor.rest.now + 62
-
-abbrev pub decreases-pattern_bundle : goal.decreases-pattern_bundle
-decreases-pattern_bundle l = 128 * length l.self.now.cursor.rest.now + 70
+abbrev pub decreases-pattern_block-loop-self : goal.decreases-pattern_block-loop-self
+decreases-pattern_block-loop-self l = length l.self.cursor.rest.now
 
 abbrev pub decreases-pattern_conjunction : goal.decreases-pattern_conjunction
 decreases-pattern_conjunction l = 128 * length l.self.now.cursor.rest.now + 68
@@ -142,8 +103,8 @@ decreases-pattern_conjunction l = 128 * length l.self.now.cursor.rest.now + 68
 abbrev pub decreases-pattern_conjunction-loop-self : goal.decreases-pattern_conjunction-loop-self
 decreases-pattern_conjunction-loop-self l = length l.self.cursor.rest.now
 
-abbrev pub decreases-pattern_list : goal.decreases-pattern_list
-decreases-pattern_list l = 128 * length l.self.now.cursor.rest.now + 62
+abbrev pub decreases-pattern_group : goal.decreases-pattern_group
+decreases-pattern_group l = 128 * length l.self.now.cursor.rest.now + 1
 
 abbrev pub decreases-pattern_name : goal.decreases-pattern_name
 decreases-pattern_name l = 128 * length l.self.now.cursor.rest.now + 93
@@ -154,15 +115,6 @@ decreases-pattern_not l = 128 * length l.self.now.cursor.rest.now + 66
 abbrev pub decreases-pattern_one : goal.decreases-pattern_one
 decreases-pattern_one l = 128 * length l.self.now.cursor.rest.now + 75
 
-abbrev pub decreases-pattern_open : goal.decreases-pattern_open
-decreases-pattern_open l = 128 * length l.self.now.cursor.rest.now + 62
-
-abbrev pub decreases-pattern_pairs : goal.decreases-pattern_pairs
-decreases-pattern_pairs l = 128 * length l.self.now.cursor.rest.now + 87
-
-abbrev pub decreases-pattern_pairs-loop-self : goal.decreases-pattern_pairs-loop-self
-decreases-pattern_pairs-loop-self l = length l.self.cursor.rest.now
-
 abbrev pub decreases-pattern_pairs_more : goal.decreases-pattern_pairs_more
 decreases-pattern_pairs_more l = 128 * length l.self.now.cursor.rest.now + 86
 
@@ -172,20 +124,14 @@ decreases-pattern_par l = 128 * length l.self.now.cursor.rest.now + 80
 abbrev pub decreases-pattern_par-loop-self : goal.decreases-pattern_par-loop-self
 decreases-pattern_par-loop-self l = length l.self.cursor.rest.now
 
-abbrev pub decreases-pattern_quote : goal.decreases-pattern_quote
-decreases-pattern_quote l = 128 * length l.self.now.cursor.rest.now + 70
-
 abbrev pub decreases-pattern_row : goal.decreases-pattern_row
 decreases-pattern_row l = 128 * length l.self.now.cursor.rest.now + 90
 
 abbrev pub decreases-pattern_row-loop-self : goal.decreases-pattern_row-loop-self
 decreases-pattern_row-loop-self l = length l.self.cursor.rest.now
 
-abbrev pub decreases-pattern_same : goal.decreases-pattern_same
-decreases-pattern_same l = 128 * length l.self.now.cursor.rest.now + 62
-
 abbrev pub decreases-pattern_sent : goal.decreases-pattern_sent
-decreases-pattern_sent l = 128 * length l.self.now.cursor.rest.now + 60
+decreases-pattern_sent l = 128 * length l.self.now.cursor.rest.now + 91
 
 abbrev pub decreases-pattern_sequence : goal.decreases-pattern_sequence
 decreases-pattern_sequence l = 128 * length l.self.now.cursor.rest.now + 90
@@ -193,20 +139,8 @@ decreases-pattern_sequence l = 128 * length l.self.now.cursor.rest.now + 90
 abbrev pub decreases-pattern_sequence-loop-self : goal.decreases-pattern_sequence-loop-self
 decreases-pattern_sequence-loop-self l = length l.self.cursor.rest.now
 
-abbrev pub decreases-pattern_set : goal.decreases-pattern_set
-decreases-pattern_set l = 128 * length l.self.now.cursor.rest.now + 62
-
-abbrev pub decreases-pattern_word : goal.decreases-pattern_word
-decreases-pattern_word l = 128 * length l.self.now.cursor.rest.now + 70
-
 abbrev pub decreases-pre : goal.decreases-pre
 decreases-pre l = 128 * length l.self.now.cursor.rest.now + 21
-
-abbrev pub decreases-pre_minus : goal.decreases-pre_minus
-decreases-pre_minus l = 128 * length l.self.now.cursor.rest.now + 20
-
-abbrev pub decreases-pre_not : goal.decreases-pre_not
-decreases-pre_not l = 128 * length l.self.now.cursor.rest.now + 20
 
 abbrev pub decreases-row : goal.decreases-row
 decreases-row l = 128 * length l.self.now.cursor.rest.now + 40
@@ -214,26 +148,16 @@ decreases-row l = 128 * length l.self.now.cursor.rest.now + 40
 abbrev pub decreases-row-loop-self : goal.decreases-row-loop-self
 decreases-row-loop-self l = length l.self.cursor.rest.now
 
+abbrev pub decreases-sent : goal.decreases-sent
+decreases-sent l = 128 * length l.self.now.cursor.rest.now + 41
+
 abbrev pub decreases-two : goal.decreases-two
 decreases-two l = 128 * length l.self.now.cursor.rest.now + 36
 
-abbrev pub decreases-two_quote : goal.decreases-two_quote
-decreases-two_quote l = 128 * length l.self.now.cursor.rest.now + 35
-
-abbrev pub decreases-two_word : goal.decreases-two_word
-decreases-two_word l = 128 * length l.self.now.cursor.rest.now + 35
-
-abbrev pub invariant-brace_pair-loop-self : goal.invariant-brace_pair-loop-self
-invariant-brace_pair-loop-self l = record {
-  turns : (out : Outcome) → Runs Tutorial l.free (last (Sort.Pairs (pairs_written l.pairs.value.items) l.pairs.height)) (view l.self.cursor.rest.now) out → Runs Tutorial l.free (rule Tutorial (Prod.brace_pair (of_proc l.fn.inner))) (view l.fn.self.cursor.rest.now) out;
+abbrev pub invariant-block-loop-self : goal.invariant-block-loop-self
+invariant-block-loop-self l = record {
+  turns : (out : Outcome) → Runs Tutorial l.free (last (Sort.Pairs (pairs_written l.pairs.value.items) l.pairs.height)) (view l.self.cursor.rest.now) out → Runs Tutorial l.free (rule Tutorial (choose (Sort.BraceTail (of_proc l.fn.inner)) (view l.fn.self.cursor.rest.now))) (view l.fn.self.cursor.rest.now) out;
   room : l.pairs.height < l.free;
-  shorter : length l.self.cursor.rest.now ≤ length l.fn.self.cursor.rest.now;
-}
-
-abbrev pub invariant-cases-loop-self : goal.invariant-cases-loop-self
-invariant-cases-loop-self l = record {
-  turns : (w : Written) (out : Outcome) → Runs Tutorial l.free (last (Sort.CaseTail (spelt w l.height) (map case_written l.cases.value.items) l.cases.height)) (view l.self.cursor.rest.now) out → Runs Tutorial l.free (rule Tutorial (Prod.case (spelt w l.height) [] l.height)) (view l.fn.self.cursor.rest.now) out;
-  room : l.cases.height < l.free;
   shorter : length l.self.cursor.rest.now ≤ length l.fn.self.cursor.rest.now;
 }
 
@@ -251,8 +175,15 @@ invariant-level-loop-mark l = record {
   shorter : length l.self.cursor.rest.now ≤ length l.fn.self.cursor.rest.now;
 }
 
-abbrev pub invariant-meth-loop-self : goal.invariant-meth-loop-self
-invariant-meth-loop-self l = record {
+abbrev pub invariant-match_form-each : goal.invariant-match_form-each
+invariant-match_form-each l = record {
+  turns : (out : Outcome) → Runs Tutorial l.free (rule Tutorial (Prod.case (of_proc l.target) (map case_written l.cases.value.items) l.cases.height)) (view l.self.cursor.rest.now) out → Runs Tutorial l.free (rule Tutorial Prod.match_form) (view l.fn.self.cursor.rest.now) out;
+  room : l.cases.height < l.free;
+  shorter : length l.self.cursor.rest.now < length l.fn.self.cursor.rest.now;
+}
+
+abbrev pub invariant-meth-calls : goal.invariant-meth-calls
+invariant-meth-calls l = record {
   turns : (out : Outcome) → Runs Tutorial l.free (last (Sort.MethTail (of_proc l.target))) (view l.self.cursor.rest.now) out → Runs Tutorial l.free (rule Tutorial Prod.meth) (view l.fn.self.cursor.rest.now) out;
   room : l.target.height ≤ l.free;
   shorter : length l.self.cursor.rest.now ≤ length l.fn.self.cursor.rest.now;
@@ -272,17 +203,17 @@ invariant-pattern_alternative-loop-self l = record {
   shorter : length l.self.cursor.rest.now ≤ length l.fn.self.cursor.rest.now;
 }
 
+abbrev pub invariant-pattern_block-loop-self : goal.invariant-pattern_block-loop-self
+invariant-pattern_block-loop-self l = record {
+  turns : (out : Outcome) → Runs Tutorial l.free (last (Sort.PPairs (pat_pairs_written l.pairs.value.items) l.pairs.height)) (view l.self.cursor.rest.now) out → Runs Tutorial l.free (rule Tutorial (choose (Sort.PBraceTail (of_pat l.fn.first)) (view l.fn.self.cursor.rest.now))) (view l.fn.self.cursor.rest.now) out;
+  room : l.pairs.height < l.free;
+  shorter : length l.self.cursor.rest.now ≤ length l.fn.self.cursor.rest.now;
+}
+
 abbrev pub invariant-pattern_conjunction-loop-self : goal.invariant-pattern_conjunction-loop-self
 invariant-pattern_conjunction-loop-self l = record {
   turns : (out : Outcome) → Runs Tutorial l.free (last (Sort.PAndTail (of_pat l.left))) (view l.self.cursor.rest.now) out → Runs Tutorial l.free (rule Tutorial Prod.pand) (view l.fn.self.cursor.rest.now) out;
   room : l.left.height ≤ l.free;
-  shorter : length l.self.cursor.rest.now ≤ length l.fn.self.cursor.rest.now;
-}
-
-abbrev pub invariant-pattern_pairs-loop-self : goal.invariant-pattern_pairs-loop-self
-invariant-pattern_pairs-loop-self l = record {
-  turns : (out : Outcome) → Runs Tutorial l.free (last (Sort.PPairs (pat_pairs_written l.pairs.value.items) l.pairs.height)) (view l.self.cursor.rest.now) out → Runs Tutorial l.free (rule Tutorial (Prod.pbrace_pair (of_pat l.fn.first))) (view l.fn.self.cursor.rest.now) out;
-  room : l.pairs.height < l.free;
   shorter : length l.self.cursor.rest.now ≤ length l.fn.self.cursor.rest.now;
 }
 

@@ -1,9 +1,11 @@
-use Rattle.std.proofs.Common.{◌≡◌, ℕ, true, false, List, map, sym, ◌∙◌, ap}
+use Rattle.std.proofs.Common.{◌≡◌, ℕ, true, false, List, [], ◌∷◌, ◌++◌, map, sym, ◌∙◌, ap}
+use Rattle.std.specs.Borrow.{Bor}
 use Rattle.calculus.specs.Order.{up_to}
 use Rattle.calculus.specs.Rows.{Row, row_code}
 use Rattle.calculus.specs.Steps.{is_one_of}
 use Rattle.state_reader.specs.Reading.{last_code}
 use Rattle.state_reader.proofs.Placing.{placed-last, placed-low, placed-twice, last-push, turned-not, ids-push}
+use Rattle.checkpoint.proofs.Adding.{map-push}
 use Rattle.state_reader.proofs.read.RowsRead.add.Goals as goal
 
 pub returns-then-not-may_follow-clause-no : goal.returns-then-not-may_follow-clause-no
@@ -28,6 +30,9 @@ returns-clause-yes c = λ e.
     let items = c.in_ok-push.ensures.items in (
       record {
         order = rw items (placed-last rows c.args.row c.requires.hand.order c.requires.storable up new);
+        codes = ap (map (λ (s : Bor (List ℕ)). s.now)) c.in_ok-push-2.ensures.items ∙ map-push (λ (s : Bor (List ℕ)). s.now) c.args.self.now.codes.items c.args.code
+            ∙ ap (λ (cs : List (List ℕ)). cs ++ c.args.code.now ∷ []) c.requires.hand.codes ∙ ap (λ (z : List ℕ). map row_code rows ++ z ∷ []) c.requires.code
+            ∙ sym (map-push row_code rows c.args.row) ∙ ap (map row_code) (sym items);
         ids = ids-push rows c.args.row c.id.result.0 _ c.push.new.self.items items c.id.ensures (c.in_ok-add_id.ensures.ids _ c.requires.hand.ids);
         last = c.requires.code ∙ sym (ap last_code items ∙ last-push rows c.args.row);
       },

@@ -1,0 +1,27 @@
+//! The binds of a receive.
+ghost use Rattle.grammar.specs.Choice.{choose};
+ghost use Rattle.grammar.specs.Grammar.{rule};
+ghost use Rattle.grammar.specs.Rules.{Sort};
+ghost use Rattle.grammar.specs.Values.{Spelt};
+ghost use Rattle.grammar.specs.declared.dialect.Dialect.TheVariants.{Tutorial};
+ghost use Rattle.calculus.specs.declared.plain.Kind.{Kind};
+ghost use Rattle.token_cursor.specs.Meaning.{view};
+ghost use Rattle.token_cursor.specs.Reading.{separator_of};
+ghost use Rattle.std.specs.Prelude.{◌≡◌, ◌∷◌, []};
+
+use grammar::Mark;
+use token_cursor::Cursor;
+use token_cursor::part::Separator;
+
+/// The separator after a first bind; where none is next, the semicolon.
+pub fn next_separator(cursor: &Cursor<'_>) -> Separator
+    ensures { (k : Kind) (b : Spelt) → rule Tutorial (choose (Sort.FirstTail k b) (view cursor.now.rest.now)) ≡ rule Tutorial (choose (Sort.BindsTail k (separator_of result) 15 (b.tree ∷ []) b.height) (view cursor.now.rest.now)) }
+{
+    if cursor.sees(Mark::Semicolon) {
+        return Separator::Semicolon;
+    }
+    if cursor.sees(Mark::Ampersand) {
+        return Separator::Ampersand;
+    }
+    Separator::Semicolon
+}

@@ -1,0 +1,120 @@
+//! The parts of a process or a pattern: keyed forms, bundles, sends and chains of operators.
+ghost use Rattle.form_steps.specs.Parts.{HasRoomForPart, HasRoomForTerm, PassesPart, PassesTerm, after_part_step, after_term_step, after_leading};
+ghost use Rattle.grammar.specs.Choice.{choose};
+ghost use Rattle.grammar.specs.Grammar.{rule};
+ghost use Rattle.grammar.specs.Rules.{Sort, last};
+ghost use Rattle.grammar.specs.Values.{Side};
+ghost use Rattle.grammar.specs.declared.dialect.Dialect.TheVariants.{Tutorial};
+ghost use Rattle.token_cursor.specs.Meaning.{view};
+ghost use Rattle.token_cursor.specs.Reading.{Turns};
+ghost use Rattle.std.specs.Prelude.{◌≡◌, ◌<◌, ◌≤◌, IfOk, MatchResult, length};
+ghost use Rattle.form_steps.specs.Parts.{after_bundle, keyed_part, part_or};
+ghost use Rattle.grammar.specs.Productions.{Prod};
+
+use crate::step::{FormKey, PartStep, TermStep};
+use calculus::Rights;
+use grammar::{Fault, Mark};
+use token_cursor::Cursor;
+
+/// The form with which a process begins that may end in a `|`.
+pub fn leading_form(cursor: &Cursor<'_>) -> Option<FormKey>
+    ensures { rule Tutorial (choose Sort.One (view cursor.now.rest.now)) ≡ after_leading result }
+{
+    if cursor.sees(Mark::New) {
+        return Some(FormKey::New);
+    }
+    if cursor.sees(Mark::If) {
+        return Some(FormKey::If);
+    }
+    if cursor.sees(Mark::Contract) {
+        return Some(FormKey::Contract);
+    }
+    None
+}
+
+/// Two ::= For | Match | Bundle | Name ( "!" | "!!" ) "(" [ Par { "," Par } ] ")" | Or, up to its first constituent
+pub fn begin_term(cursor: &mut Cursor<'_>, free: u32) -> Result<TermStep, Fault>
+    ensures reads { Turns free (rule Tutorial (choose Sort.Two (view cursor.old.rest.now))) after_term_step (view cursor.old.rest.now) result (view cursor.new.rest.now) }
+    ensures room { IfOk result (HasRoomForTerm free) }
+    ensures shorter { MatchResult result (PassesTerm (length cursor.new.rest.now) (length cursor.old.rest.now)) (λ _. length cursor.new.rest.now ≤ length cursor.old.rest.now) }
+{
+    if cursor.sees(Mark::For) {
+        return Ok(TermStep::Form(FormKey::For));
+    }
+    if cursor.sees(Mark::Match) {
+        return Ok(TermStep::Form(FormKey::Match));
+    }
+    if cursor.sees_bundle() {
+        let rights = begin_bundle(cursor, free)?;
+        return Ok(TermStep::Bundle(rights));
+    }
+    if cursor.sees(Mark::At) {
+        cursor.opens(Mark::At, 0, free)?;
+        return Ok(TermStep::Quoted);
+    }
+    if cursor.sees_send() {
+        return Ok(TermStep::Send);
+    }
+    Ok(TermStep::Chain)
+}
+
+/// The key of a bundle and a brace.
+fn begin_bundle(cursor: &mut Cursor<'_>, free: u32) -> Result<Rights, Fault>
+    ensures reads { (side : Side) → Turns free (rule Tutorial (choose (Sort.Bundle side) (view cursor.old.rest.now))) (after_bundle side) (view cursor.old.rest.now) result (view cursor.new.rest.now) }
+    ensures room { IfOk result (λ _. 0 < free) }
+    ensures shorter { MatchResult result (λ _. length cursor.new.rest.now < length cursor.old.rest.now) (λ _. length cursor.new.rest.now ≤ length cursor.old.rest.now) }
+{
+    let rights = cursor.rights();
+    cursor.opens_bundle(rights, free)?;
+    cursor.expect(Mark::OpenBrace)?;
+    Ok(rights)
+}
+
+/// The keyed form of processes that a pattern begins with.
+fn keyed_form(cursor: &Cursor<'_>) -> Option<FormKey>
+    ensures { (p : Prod Sort.POne) → keyed_part (view cursor.now.rest.now) p ≡ part_or result p }
+{
+    if cursor.sees(Mark::New) {
+        return Some(FormKey::New);
+    }
+    if cursor.sees(Mark::If) {
+        return Some(FormKey::If);
+    }
+    if cursor.sees(Mark::Contract) {
+        return Some(FormKey::Contract);
+    }
+    if cursor.sees(Mark::For) {
+        return Some(FormKey::For);
+    }
+    if cursor.sees(Mark::Match) {
+        return Some(FormKey::Match);
+    }
+    None
+}
+
+/// POne ::= New | If | Contract | For | Match | Bundle | PName ( "!" | "!!" ) "(" [ PPar { "," PPar } ] ")" | PAlt,
+/// up to its first constituent
+pub fn begin_part(cursor: &mut Cursor<'_>, free: u32) -> Result<PartStep, Fault>
+    ensures reads { Turns free (rule Tutorial (choose Sort.POne (view cursor.old.rest.now))) after_part_step (view cursor.old.rest.now) result (view cursor.new.rest.now) }
+    ensures room { IfOk result (HasRoomForPart free) }
+    ensures shorter { MatchResult result (PassesPart (length cursor.new.rest.now) (length cursor.old.rest.now)) (λ _. length cursor.new.rest.now ≤ length cursor.old.rest.now) }
+{
+    if let Some(key) = keyed_form(cursor) {
+        return Ok(PartStep::Form(key));
+    }
+    if cursor.sees_bundle() {
+        let rights = begin_bundle(cursor, free)?;
+        return Ok(PartStep::Bundle(rights));
+    }
+    if cursor.sees(Mark::At) {
+        cursor.opens(Mark::At, 0, free)?;
+        return Ok(PartStep::Quoted);
+    }
+    if cursor.sees_any_send() {
+        return Ok(PartStep::AnySend);
+    }
+    if cursor.sees_send() {
+        return Ok(PartStep::Send);
+    }
+    Ok(PartStep::Alternative)
+}

@@ -1,0 +1,142 @@
+//! Patterns without `\/` and `/\`.
+ghost use Rattle.form_steps.specs.Steps.{HasRoomForPattern, PassesPattern, after_pattern_step, form_of_pattern, type_or, typed_pattern};
+ghost use Rattle.grammar.specs.Choice.{choose};
+ghost use Rattle.grammar.specs.Grammar.{rule};
+ghost use Rattle.grammar.specs.Productions.{Prod};
+ghost use Rattle.grammar.specs.Rules.{Sort, last};
+ghost use Rattle.grammar.specs.declared.dialect.Dialect.TheVariants.{Tutorial};
+ghost use Rattle.token_cursor.specs.Meaning.{view};
+ghost use Rattle.token_cursor.specs.Reading.{Turns};
+ghost use Rattle.std.specs.Prelude.{◌≡◌, ◌≤◌, IfOk, MatchResult, length};
+
+use crate::step::{PatternStep, PlainPattern};
+use calculus::Simple;
+use grammar::{Fault, Mark};
+use token_cursor::Cursor;
+use token_cursor::part::Bracket;
+
+/// PNot ::= "~" PNot | PAtom, up to its first constituent
+pub fn begin_pattern(cursor: &mut Cursor<'_>, free: u32) -> Result<PatternStep, Fault>
+    ensures reads { Turns free (rule Tutorial (choose Sort.PNot (view cursor.old.rest.now))) after_pattern_step (view cursor.old.rest.now) result (view cursor.new.rest.now) }
+    ensures room { IfOk result (HasRoomForPattern free) }
+    ensures shorter { MatchResult result (PassesPattern (length cursor.new.rest.now) (length cursor.old.rest.now)) (λ _. length cursor.new.rest.now ≤ length cursor.old.rest.now) }
+{
+    if !cursor.sees(Mark::Tilde) {
+        return begin_pattern_atom(cursor, free);
+    }
+    cursor.opens(Mark::Tilde, 0, free)?;
+    Ok(PatternStep::Not)
+}
+
+/// The simple type that is next.
+fn simple_type(cursor: &Cursor<'_>) -> Option<Simple>
+    ensures { (p : Prod Sort.PAtom) → typed_pattern (view cursor.now.rest.now) p ≡ type_or result p }
+{
+    if cursor.sees(Mark::Bool) {
+        return Some(Simple::Bool);
+    }
+    if cursor.sees(Mark::Int) {
+        return Some(Simple::Int);
+    }
+    if cursor.sees(Mark::String) {
+        return Some(Simple::Str);
+    }
+    if cursor.sees(Mark::Uri) {
+        return Some(Simple::Uri);
+    }
+    if cursor.sees(Mark::ByteArray) {
+        return Some(Simple::Bytes);
+    }
+    None
+}
+
+/// PAtom, up to its first constituent
+fn begin_pattern_atom(cursor: &mut Cursor<'_>, free: u32) -> Result<PatternStep, Fault>
+    ensures reads { Turns free (rule Tutorial (choose Sort.PAtom (view cursor.old.rest.now))) after_pattern_step (view cursor.old.rest.now) result (view cursor.new.rest.now) }
+    ensures room { IfOk result (HasRoomForPattern free) }
+    ensures shorter { MatchResult result (PassesPattern (length cursor.new.rest.now) (length cursor.old.rest.now)) (λ _. length cursor.new.rest.now ≤ length cursor.old.rest.now) }
+{
+    if cursor.sees_word() {
+        return Ok(PatternStep::Plain(PlainPattern::Word));
+    }
+    if cursor.sees(Mark::Underscore) {
+        return Ok(PatternStep::Plain(PlainPattern::Any));
+    }
+    match simple_type(cursor) {
+        Some(simple) => Ok(PatternStep::Plain(PlainPattern::Type(simple))),
+        None => begin_pattern_form(cursor, free),
+    }
+}
+
+/// A pattern that is no variable, no `_` and no simple type, up to its first constituent.
+fn begin_pattern_form(cursor: &mut Cursor<'_>, free: u32) -> Result<PatternStep, Fault>
+    ensures reads { Turns free (rule Tutorial (form_of_pattern (view cursor.old.rest.now))) after_pattern_step (view cursor.old.rest.now) result (view cursor.new.rest.now) }
+    ensures room { IfOk result (HasRoomForPattern free) }
+    ensures shorter { MatchResult result (PassesPattern (length cursor.new.rest.now) (length cursor.old.rest.now)) (λ _. length cursor.new.rest.now ≤ length cursor.old.rest.now) }
+{
+    if cursor.sees(Mark::Assign) {
+        return begin_same(cursor, free);
+    }
+    if cursor.sees(Mark::Nil) {
+        return Ok(PatternStep::Plain(PlainPattern::Nil));
+    }
+    if cursor.sees(Mark::Open) {
+        cursor.opens(Mark::Open, 0, free)?;
+        return Ok(PatternStep::Group);
+    }
+    if cursor.sees(Mark::OpenBrace) {
+        return begin_pattern_block(cursor, free);
+    }
+    if cursor.sees(Mark::OpenSquare) {
+        cursor.opens(Mark::OpenSquare, 0, free)?;
+        return Ok(PatternStep::Members(Bracket::Square));
+    }
+    if cursor.sees(Mark::Set) {
+        return begin_pattern_set(cursor, free);
+    }
+    Ok(PatternStep::Plain(PlainPattern::Ground))
+}
+
+/// A `=`, and what follows it.
+fn begin_same(cursor: &mut Cursor<'_>, free: u32) -> Result<PatternStep, Fault>
+    ensures reads { Turns free (rule Tutorial Prod.patom_same) after_pattern_step (view cursor.old.rest.now) result (view cursor.new.rest.now) }
+    ensures room { IfOk result (HasRoomForPattern free) }
+    ensures shorter { MatchResult result (PassesPattern (length cursor.new.rest.now) (length cursor.old.rest.now)) (λ _. length cursor.new.rest.now ≤ length cursor.old.rest.now) }
+{
+    cursor.opens(Mark::Assign, 0, free)?;
+    if cursor.sees(Mark::Star) {
+        return Ok(PatternStep::Plain(PlainPattern::SameDropped));
+    }
+    if !cursor.sees(Mark::OpenBrace) {
+        return Ok(PatternStep::Plain(PlainPattern::SameWord));
+    }
+    cursor.expect(Mark::OpenBrace)?;
+    Ok(PatternStep::Same)
+}
+
+/// A `{`, and whether a pattern follows.
+fn begin_pattern_block(cursor: &mut Cursor<'_>, free: u32) -> Result<PatternStep, Fault>
+    ensures reads { Turns free (rule Tutorial Prod.patom_brace) after_pattern_step (view cursor.old.rest.now) result (view cursor.new.rest.now) }
+    ensures room { IfOk result (HasRoomForPattern free) }
+    ensures shorter { MatchResult result (PassesPattern (length cursor.new.rest.now) (length cursor.old.rest.now)) (λ _. length cursor.new.rest.now ≤ length cursor.old.rest.now) }
+{
+    cursor.opens(Mark::OpenBrace, 0, free)?;
+    if cursor.sees(Mark::CloseBrace) {
+        return Ok(PatternStep::Plain(PlainPattern::EmptyMap));
+    }
+    if cursor.sees(Mark::Ellipsis) {
+        return Ok(PatternStep::Plain(PlainPattern::RestMap));
+    }
+    Ok(PatternStep::Block)
+}
+
+/// `Set` and a parenthesis.
+fn begin_pattern_set(cursor: &mut Cursor<'_>, free: u32) -> Result<PatternStep, Fault>
+    ensures reads { Turns free (rule Tutorial Prod.patom_set) after_pattern_step (view cursor.old.rest.now) result (view cursor.new.rest.now) }
+    ensures room { IfOk result (HasRoomForPattern free) }
+    ensures shorter { MatchResult result (PassesPattern (length cursor.new.rest.now) (length cursor.old.rest.now)) (λ _. length cursor.new.rest.now ≤ length cursor.old.rest.now) }
+{
+    cursor.opens(Mark::Set, 0, free)?;
+    cursor.expect(Mark::Open)?;
+    Ok(PatternStep::Members(Bracket::Round))
+}

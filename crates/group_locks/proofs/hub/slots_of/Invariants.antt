@@ -1,7 +1,0 @@
-use Rattle.std.proofs.Common.{◌≡◌, ◌++◌, List}
-use Rattle.std.specs.Vec.Iter.{into_iter_items}
-use Rattle.group_locks.specs.Works.{Laid}
-use Rattle.group_locks.proofs.hub.slots_of.Given as goal
-
-abbrev pub invariant-loop : goal.invariant-loop
-invariant-loop g l = (done : List _) × Laid l.counter l.fn.shards.items done l.slots.items × (done ++ into_iter_items l.works ≡ l.fn.work.items)

@@ -1,8 +1,0 @@
-use Rattle.std.proofs.Common.{◌≡◌, ◌++◌, map, Some, vec_capacity}
-use Rattle.group_locks.proofs.order.unwrap_all.Given as goal
-
-abbrev pub invariant-loop-place : goal.invariant-loop-place
-invariant-loop-place g l = record {
-  all : map (λ x. Some x) l.out.items ++ l.place-iterator.rest.items ≡ l.fn.places.items;
-  room : vec_capacity l.out ≡ vec_capacity l.fn.out;
-}

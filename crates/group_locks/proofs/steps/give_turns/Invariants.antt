@@ -1,8 +1,0 @@
-use Rattle.group_locks.proofs.Loops.{Returning}
-use Rattle.group_locks.proofs.steps.give_turns.Given as goal
-
-abbrev pub invariant-loop-rest : goal.invariant-loop-rest
-invariant-loop-rest g l = Returning g.S.Scene.meaning l.initial.token l.token (g.S.Scene.in_hand l.held) l.rest
-
-abbrev pub decreases-loop-rest : goal.decreases-loop-rest
-decreases-loop-rest g l = l.rest

@@ -1,5 +1,0 @@
-use Rattle.group_locks.proofs.Loops.{Stays}
-use Rattle.group_locks.proofs.steps.take_turn.Given as goal
-
-abbrev pub invariant-loop : goal.invariant-loop
-invariant-loop g l = Stays l.initial.token l.token

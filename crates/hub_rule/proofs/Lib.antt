@@ -1,0 +1,14 @@
+pub mod Sums
+pub mod Lookups
+pub mod Tallies
+pub mod Piles
+pub mod Offers
+pub mod Counting
+pub mod Charges
+pub mod Turns
+pub mod DeskTurns
+pub mod Draws
+pub mod Seats
+pub mod Deals
+pub mod Opens
+pub mod Ends

@@ -1,0 +1,5 @@
+pub mod Counts
+pub mod Meaning
+pub mod Works
+pub mod Rule
+pub mod Stops

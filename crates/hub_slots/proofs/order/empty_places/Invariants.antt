@@ -1,0 +1,9 @@
+use Rattle.std.proofs.Common.{◌≡◌, ◌≤◌, None, replicate, vec_len, vec_capacity}
+use Rattle.hub_slots.proofs.order.empty_places.Given as goal
+
+abbrev pub invariant-loop : goal.invariant-loop
+invariant-loop g l = record {
+  items : l.places.items ≡ replicate l.counter None;
+  len : vec_len l.places ≡ l.counter;
+  room : l.count ≤ vec_capacity l.places;
+}

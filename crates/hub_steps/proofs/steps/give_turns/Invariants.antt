@@ -1,0 +1,8 @@
+use Rattle.hub_steps.proofs.Loops.{Returning}
+use Rattle.hub_steps.proofs.steps.give_turns.Given as goal
+
+abbrev pub invariant-loop-rest : goal.invariant-loop-rest
+invariant-loop-rest g l = Returning g.S.Scene.meaning l.initial.token l.token (g.S.Scene.in_hand l.held) l.rest
+
+abbrev pub decreases-loop-rest : goal.decreases-loop-rest
+decreases-loop-rest g l = l.rest

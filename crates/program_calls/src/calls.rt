@@ -1,0 +1,31 @@
+use crate::ended::{Ended, ended_of};
+use rho_main::run;
+use rho_outside::{Gate, MemShelf, MemSink};
+use std::alloc::{AllocError, Global};
+use std::sync::Wait;
+use std::thread::Threads;
+
+// The words of a command line, which stand between spaces. An empty text has none.
+fn words_of(alloc: Global, text: &str) -> Result<Vec<String>, AllocError> {
+    let mut words = Vec::new(alloc);
+    for word in text.split(' ') {
+        if !word.is_empty() {
+            words.push(String::from_str(alloc, word)?)?;
+        }
+    }
+    Ok(words)
+}
+
+/// Calls `run` with the words of a text, which stand between spaces, over files and an output in memory.
+pub fn call<R: Threads + Wait + Sync, G: Gate + Sync>(
+    rt: &R,
+    alloc: Global,
+    text: &str,
+    shelf: &mut MemShelf,
+    out: &mut MemSink,
+    gate: &G,
+) -> Result<Ended, AllocError> {
+    let words = words_of(alloc, text)?;
+    let status = run(rt, alloc, words.as_slice(), shelf, out, gate);
+    ended_of(alloc, &status)
+}

@@ -1,6 +1,0 @@
-use Rattle.std.proofs.Common.{◌≡◌, ◌++◌, eqb, filter}
-use Rattle.rspace_table.specs.Homes.{home}
-use Rattle.rspace_table.proofs.gathering.gather_one.Given as goal
-
-abbrev pub invariant-loop-row : goal.invariant-loop-row
-invariant-loop-row l = l.rows.items ≡ l.initial.rows.items ++ filter (λ r. eqb (home r) l.number) l.yielded
