@@ -1,15 +1,16 @@
 -- Codes of the rows of a key, one row after another and in another order.
 use Rattle.std.proofs.Common.{◌≡◌, ℕ, zero, suc, ◌<◌, ◌+◌, Bool, true, false, cond, List, [], ◌∷◌, ◌++◌, length, map as each, take, drop, get_or, refl, ap, sym, ◌∙◌, subst, arith, append-nil, inl, inr}
-use Rattle.std.specs.Prelude.{◌⊎◌, IsPermutation, All}
+use Rattle.std.specs.Prelude.{◌⊎◌, ◌≢◌, IsPermutation, All}
 use Rattle.std.specs.Str.{bytes_eq}
 use Rattle.std.proofs.Math.Seq.{drop-cons}
 use Rattle.std.proofs.lemmas.List.{take_more}
 use Rattle.std.proofs.lemmas.List.Elements.{All-head, All-tail, All-cons}
 use Rattle.list_laws.specs.Exchanges.{Exchanges, nothing, under, neighbours, then}
-use Rattle.list_laws.proofs.Permutations.{exchanges, keep, join, unmoved, exchange}
+use Rattle.list_laws.proofs.Permutations.{exchanges, keep, join, unmoved, exchange, moved_so, moved-nothing}
 use Rattle.calculus.specs.Order.{sorted, up_to, IsAscending, IsBelowFirst}
 use Rattle.calculus.specs.Rows.{Row, row_code}
 use Rattle.calculus.specs.Root.{key}
+use Rattle.calculus.specs.Steps.{differ, is_one_of}
 use Rattle.calculus.proofs.Ordered.{up_to_total, up_to_both, up_to_trans}
 use Rattle.states.proofs.Groups.{same, equal, sorted-moved}
 use Rattle.term_encoder.proofs.Codes.{sorted-ascending}
@@ -18,11 +19,16 @@ use Rattle.radix_root.specs.Groups.{given, digest_after}
 use Rattle.radix_root.specs.declared.group.Group.{Group}
 use Rattle.checkpoint.specs.declared.keyed.KeyedRow.{KeyedRow}
 use Rattle.checkpoint.specs.declared.groups.Groups.{Groups}
-use Rattle.checkpoint.specs.Groups.{row_of, Give, Holds, IsKeyed}
+use Rattle.checkpoint.specs.Groups.{row_of, keys_in, AreApart, Give, Holds, IsKeyed}
+use Rattle.checkpoint.proofs.Apart.{one-push, differ-push, append-some}
 
 pub sorted-none : sorted [] ≡ []
 unfolding sorted
 sorted-none = refl
+
+pub map-push : {A B : Type 0} (f : A → B) (xs : List A) (x : A) → each f (xs ++ x ∷ []) ≡ each f xs ++ f x ∷ []
+map-push f [] x = refl
+map-push f (y ∷ ys) x = ap (λ zs. f y ∷ zs) (map-push f ys x)
 
 pub codes-push : (rows : List Row) (r : Row) (k : List ℕ) → codes_at (rows ++ r ∷ []) k ≡ codes_at rows k ++ cond (bytes_eq k (key r)) (row_code r ∷ []) []
 codes-push [] r k = refl
@@ -96,6 +102,10 @@ codes-moved k p = go (exchanges p)
     go (neighbours r q zs) = pair-moved k (bytes_eq k (key r)) (bytes_eq k (key q)) (row_code r) (row_code q) (codes_at zs k)
     go (then e f) = join (go e) (go f)
 
+-- groups that have rows have them in any order
+pub apart-moved : {rows others : List Row} (gs : List Group) → IsPermutation rows others → AreApart gs others → AreApart gs rows
+apart-moved {rows} {others} gs p h = record { once = h.once; some = λ k m e. h.some k m (moved-nothing (moved_so (codes-moved k p)) e) }
+
 -- and the same groups
 pub groups-moved : {rows others : List Row} (gs : List Group) → IsPermutation rows others → Give gs (groups_of others) → Give gs (groups_of rows)
 groups-moved gs p h k = h k ∙ ap (group_digest k) (sym (sorted-moved (codes-moved k p)))
@@ -136,20 +146,51 @@ fresh-or-last low x rows h (inr l) = go (h x)
     go (inl n) = inr n
     go (inr g) = inl (up_to_both x low g l)
 
-pub map-push : {A B : Type 0} (f : A → B) (xs : List A) (x : A) → each f (xs ++ x ∷ []) ≡ each f xs ++ f x ∷ []
-map-push f [] x = refl
-map-push f (y ∷ ys) x = ap (λ zs. f y ∷ zs) (map-push f ys x)
-
 -- the codes of the last group with that of one more row
 pub codes-added : {V : Type 0} (code : V → List ℕ) (old new : List V) (v : V) (rows : List Row) (r : Row) (k0 : List ℕ)
     → new ≡ old ++ v ∷ [] → code v ≡ row_code r → each code old ≡ codes_at rows k0 → key r ≡ k0 → each code new ≡ codes_at (rows ++ r ∷ []) k0
 codes-added code old new v rows r k0 e f g h = ap (each code) e ∙ map-push code old v ∙ ap (λ cs. cs ++ code v ∷ []) g ∙ ap (λ c. codes_at rows k0 ++ c ∷ []) f ∙ sym (codes-same rows r k0 h)
+
+-- one more row of these groups or of others
+pub apart-more : (gs : List Group) (rows : List Row) (r : Row) → AreApart gs rows → AreApart gs (rows ++ r ∷ [])
+apart-more gs rows r h = record {
+  once = h.once;
+  some = λ k m e. append-some (codes_at rows k) (cond (bytes_eq k (key r)) (row_code r ∷ []) []) (h.some k m) (sym (codes-push rows r k) ∙ e);
+}
+
+-- the last group is closed, which has rows
+pub apart-closed : (gs after : List Group) (g : Group) (k0 : List ℕ) (rows : List Row) → after ≡ gs ++ g ∷ [] → g.key.0 ≡ k0 → codes_at rows k0 ≢ [] → is_one_of k0 (keys_in gs) ≡ false → AreApart gs rows → AreApart after rows
+apart-closed gs after g k0 rows pushed own some new h = record {
+  once = ap differ whole ∙ differ-push (keys_in gs) k0 h.once new;
+  some = λ k m. go k (one-push k k0 (keys_in gs) (sym (ap (is_one_of k) whole) ∙ m));
+}
+  where
+    whole : keys_in after ≡ keys_in gs ++ k0 ∷ []
+    whole = ap keys_in pushed ∙ map-push (λ (x : Group). x.key.0) gs g ∙ ap (λ (k : List ℕ). keys_in gs ++ k ∷ []) own
+
+    go : (k : List ℕ) → (is_one_of k (keys_in gs) ≡ true) ⊎ (k ≡ k0) → codes_at rows k ≢ []
+    go k (inl m) = h.some k m
+    go k (inr e) = λ f. some (sym (ap (codes_at rows) e) ∙ f)
+
+-- no group is closed, and the last one has no rows
+pub closed-nothing : (gs : List Group) (k0 : List ℕ) (rows : List Row) → codes_at rows k0 ≡ [] → Give gs (λ k. cond (bytes_eq k k0) [] (groups_of rows k)) → Give gs (groups_of rows)
+closed-nothing gs k0 rows n h k = go (bytes_eq k k0) refl (h k)
+  where
+    go : (b : Bool) → bytes_eq k k0 ≡ b → digest_after gs [] k ≡ group_digest k (cond b [] (groups_of rows k)) → digest_after gs [] k ≡ group_digest k (groups_of rows k)
+    go true q m = m ∙ ap (group_digest k) (sym (ap (λ l. sorted (codes_at rows l)) (same k k0 q) ∙ ap sorted n ∙ sorted-none))
+    go false q m = m
+
+none-apart : (gs : List Group) → gs ≡ [] → AreApart gs []
+none-apart [] e = record { once = refl; some = λ k m. absurd (cc m) }
+none-apart (g ∷ gs) e = absurd (cc e)
 
 -- nothing was added
 pub none-held : (gs : Groups) → gs.closed.items ≡ [] → gs.codes.items ≡ [] → Holds gs []
 none-held gs e f = record {
   codes = ap (each (λ c. c.now)) f;
   closed = λ k. ap (λ xs. digest_after xs [] k) e ∙ ap (group_digest k) (go k (bytes_eq k gs.key.0));
+  apart = none-apart gs.closed.items e;
+  last = ap (λ xs. is_one_of gs.key.0 (keys_in xs)) e;
 }
   where
     go : (k : List ℕ) (b : Bool) → [] ≡ cond b [] (groups_of [] k)

@@ -1,9 +1,10 @@
 // The tree of the groups of rows.
-ghost use Rattle.std.specs.Prelude.{◌≡◌, ◌⊎◌, ◌++◌, ◌∷◌, [], List, map, IfOk, OnOk};
+ghost use Rattle.std.specs.Prelude.{◌≡◌, ◌⊎◌, ◌≤◌, ◌*◌, ◌++◌, ◌∷◌, [], List, length, map, IfOk, OnOk};
 ghost use Rattle.std.specs.Str.{bytes_eq};
 ghost use Rattle.calculus.specs.Rows.{row_code as code_of_row, Row as AnyRow};
 ghost use Rattle.radix_root.specs.Leaves.{codes_at, groups_of, Keeps};
-ghost use Rattle.checkpoint.specs.Groups.{row_of, AreByKey, Give, Holds, IsKeyed};
+ghost use Rattle.checkpoint.specs.Groups.{row_of, AreApart, AreByKey, Give, Holds, IsKeyed};
+ghost use Rattle.checkpoint.specs.Made.{AreMade, no_codes};
 ghost use Rattle.checkpoint.specs.Marks.{AreMarks};
 
 use crate::keyed::{KeyedRow, rows_by_key};
@@ -46,11 +47,15 @@ impl<'a> Groups<'a> {
         Ok(())
     }
 
-    // Closes the last group.
+    // Closes the last group, where it has rows.
     fn close(&mut self) -> Result<(), AllocError>
         ensures closed { OnOk result ((rows : List AnyRow) → Holds self.old rows → Give self.new.closed.items (groups_of rows)) }
+        ensures apart { OnOk result ((rows : List AnyRow) → Holds self.old rows → AreApart self.new.closed.items rows) }
         ensures codes { OnOk result (self.new.codes.items ≡ []) }
     {
+        if self.codes.is_empty() {
+            return Ok(());
+        }
         self.codes.sort_by(|a, b| a.cmp(b))?;
         self.closed
             .push(Group::of(&self.key, self.codes.as_slice()))?;
@@ -108,17 +113,36 @@ pub fn coded_tree(
     ensures marks { IfOk result (λ p. AreMarks p.1.items rows.now) }
 {
     let marks = marks_of(alloc, rows, codes.as_slice())?;
-    let groups = groups_by_key(alloc, rows, codes, marks.as_slice())?;
-    let tree = tree_with(alloc, groups)?;
+    let (tree, _made) = counted_tree(alloc, rows, codes, marks.as_slice())?;
     Ok((tree, marks))
 }
 
-// The tree of these groups alone.
-fn tree_with(alloc: Global, groups: Vec<Group>) -> Result<RadixTree, AllocError>
-    ensures { IfOk result (λ t. (rows : List AnyRow) → Give groups.items (groups_of rows) → Keeps t (groups_of rows)) }
+/// The tree of the groups of these rows, whose codes and marks these are, and how many digests of groups and of nodes
+/// above them were made, at most 65 for each group.
+pub(crate) fn counted_tree(
+    alloc: Global,
+    rows: &[Row],
+    codes: Vec<&[u8]>,
+    marks: &[Mark],
+) -> Result<(RadixTree, u64), AllocError>
+    requires codes { map (λ c. c.now) codes.items ≡ map code_of_row rows.now }
+    requires marks { AreMarks marks.now rows.now }
+    ensures tree { IfOk result (λ p. Keeps p.0 (groups_of rows.now)) }
+    ensures made { IfOk result (λ p. AreMade no_codes (groups_of rows.now) p.1) }
 {
-    let (tree, _made) = RadixTree::new(alloc).with_groups(alloc, groups.as_slice())?;
-    Ok(tree)
+    let groups = groups_by_key(alloc, rows, codes, marks)?;
+    let counted = tree_with(alloc, groups)?;
+    Ok(counted)
+}
+
+// The tree of these groups alone, and how many digests it took: one of each group, and those of nodes.
+fn tree_with(alloc: Global, groups: Vec<Group>) -> Result<(RadixTree, u64), AllocError>
+    ensures tree { IfOk result (λ p. (rows : List AnyRow) → Give groups.items (groups_of rows) → Keeps p.0 (groups_of rows)) }
+    ensures made { IfOk result (λ p. p.1 ≤ 65 * length groups.items) }
+{
+    let number = groups.len() as u64;
+    let (tree, made) = RadixTree::new(alloc).with_groups(alloc, groups.as_slice())?;
+    Ok((tree, made.saturating_add(number)))
 }
 
 // The groups of these rows, whose codes and marks these are, in the order of their keys.
@@ -130,7 +154,8 @@ fn groups_by_key<'a>(
 ) -> Result<Vec<Group>, AllocError>
     requires codes { map (λ c. c.now) codes.items ≡ map code_of_row rows.now }
     requires marks { AreMarks marks.now rows.now }
-    ensures { IfOk result (λ v. Give v.items (groups_of rows.now)) }
+    ensures give { IfOk result (λ v. Give v.items (groups_of rows.now)) }
+    ensures apart { IfOk result (λ v. AreApart v.items rows.now) }
 {
     let keyed = rows_by_key(alloc, rows, codes, marks)?;
     let groups = grouped(alloc, keyed.as_slice())?;
@@ -140,7 +165,8 @@ fn groups_by_key<'a>(
 // The groups of rows that stand in the order of their keys.
 fn grouped(alloc: Global, keyed: &[KeyedRow<'_>]) -> Result<Vec<Group>, AllocError>
     requires { AreByKey keyed.now }
-    ensures { IfOk result (λ v. Give v.items (groups_of (map row_of keyed.now))) }
+    ensures give { IfOk result (λ v. Give v.items (groups_of (map row_of keyed.now))) }
+    ensures apart { IfOk result (λ v. AreApart v.items (map row_of keyed.now)) }
 {
     let mut groups = Groups {
         closed: Vec::with_capacity(alloc, keyed.len().saturating_add(1))?,

@@ -3,15 +3,26 @@ ghost use Rattle.calculus.specs.Bytes.{be64, joined};
 ghost use Rattle.calculus.specs.Order.{sorted};
 ghost use Rattle.calculus.specs.Root.{root};
 ghost use Rattle.calculus.specs.Rows.{row_code as code_of_row};
+ghost use Rattle.radix_root.specs.Leaves.{groups_of, Keeps};
 ghost use Rattle.states.specs.States.{state_text};
+ghost use Rattle.checkpoint.specs.Made.{AreMade, no_codes};
 ghost use Rattle.checkpoint.specs.Texts.{head_with, text_with};
 
 use crate::checkpoint::Checkpoint;
-use crate::groups::{coded_tree, codes_of_rows};
+use crate::groups::{codes_of_rows, counted_tree};
+use crate::marks::marks_of;
 use calculus::Digest;
-use radix_root::slices_of;
+use radix_root::{RadixTree, slices_of};
 use space_row::{Row, row_code};
 use std::alloc::{AllocError, Global};
+
+/// A state that was made: its root, its text, and how many digests of groups and of nodes above them the root took.
+#[derive(Drop)]
+pub struct MadeState {
+    pub root: Digest,
+    pub text: Vec<u8>,
+    pub made: u64,
+}
 
 /// The version of a state's text, after its name.
 pub(crate) const VERSION: u8 = 0x01;
@@ -69,21 +80,47 @@ pub fn state_of(alloc: Global, rows: Vec<Row>) -> Result<(Digest, Vec<u8>), Allo
     ensures root { IfOk result (λ p. p.0.0 ≡ root rows.items) }
     ensures text { IfOk result (λ p. p.1.items ≡ state_text rows.items) }
 {
-    let codes = codes_of_rows(alloc, rows.as_slice())?;
-    let root = root_with(alloc, rows, codes.as_slice())?;
-    let ascending = ordered(codes)?;
-    let text = text_of_codes(alloc, &root, ascending)?;
+    let MadeState { root, text, .. } = made_state(alloc, rows)?;
     Ok((root, text))
 }
 
-// The root of these rows, which have these codes. The rows are let go.
-fn root_with(alloc: Global, rows: Vec<Row>, codes: &[Vec<u8>]) -> Result<Digest, AllocError>
+/// The same, with the number of digests that were made, at most 65 for each group of these rows.
+pub fn made_state(alloc: Global, rows: Vec<Row>) -> Result<MadeState, AllocError>
+    ensures root { IfOk result (λ s. s.root.0 ≡ root rows.items) }
+    ensures text { IfOk result (λ s. s.text.items ≡ state_text rows.items) }
+    ensures made { IfOk result (λ s. AreMade no_codes (groups_of rows.items) s.made) }
+{
+    let codes = codes_of_rows(alloc, rows.as_slice())?;
+    let (root, made) = root_with(alloc, rows, codes.as_slice())?;
+    let ascending = ordered(codes)?;
+    let text = text_of_codes(alloc, &root, ascending)?;
+    Ok(MadeState { root, text, made })
+}
+
+// The root of these rows, which have these codes, and how many digests it took. The rows are let go.
+fn root_with(alloc: Global, rows: Vec<Row>, codes: &[Vec<u8>]) -> Result<(Digest, u64), AllocError>
     requires { map (λ c. c.items) codes.now ≡ map code_of_row rows.items }
-    ensures { IfOk result (λ d. d.0 ≡ root rows.items) }
+    ensures root { IfOk result (λ p. p.0.0 ≡ root rows.items) }
+    ensures made { IfOk result (λ p. AreMade no_codes (groups_of rows.items) p.1) }
 {
     let slices = slices_of(alloc, codes)?;
-    let (tree, _marks) = coded_tree(alloc, rows.as_slice(), slices)?;
-    Ok(tree.root())
+    let (tree, made) = tree_of_codes(alloc, rows.as_slice(), slices)?;
+    Ok((tree.root(), made))
+}
+
+// The tree of the groups of these rows, which have these codes, and how many digests it took.
+fn tree_of_codes(
+    alloc: Global,
+    rows: &[Row],
+    codes: Vec<&[u8]>,
+) -> Result<(RadixTree, u64), AllocError>
+    requires { map (λ c. c.now) codes.items ≡ map code_of_row rows.now }
+    ensures tree { IfOk result (λ p. Keeps p.0 (groups_of rows.now)) }
+    ensures made { IfOk result (λ p. AreMade no_codes (groups_of rows.now) p.1) }
+{
+    let marks = marks_of(alloc, rows, codes.as_slice())?;
+    let counted = counted_tree(alloc, rows, codes, marks.as_slice())?;
+    Ok(counted)
 }
 
 // These codes, ascending.

@@ -1,3 +1,4 @@
 pub mod Pairs
 pub mod Walking
 pub mod Gathering
+pub mod Finding

@@ -1,5 +1,5 @@
 -- Rows as pairs of keys and codes.
-use Rattle.std.proofs.Common.{◌≡◌, ℕ, ◌≤◌, Bool, true, false, cond, ◌||◌, List, [], ◌∷◌, ◌++◌, length, map as each, take, drop, min, get_or, refl, ap, sym, ◌∙◌, subst, arith, length-append, append_assoc}
+use Rattle.std.proofs.Common.{◌≡◌, ℕ, ◌≤◌, ◌*◌, ◌+◌, Bool, true, false, cond, ◌||◌, List, [], ◌∷◌, ◌++◌, length, map as each, take, drop, min, get_or, refl, ap, sym, ◌∙◌, subst, arith, length-append, append_assoc, append-nil}
 use Rattle.std.specs.Prelude.{All, IsPermutation}
 use Rattle.std.specs.Str.{bytes_eq}
 use Rattle.std.proofs.lemmas.List.Elements.{All-head, All-tail, All-cons, All-nil}
@@ -7,24 +7,27 @@ use Rattle.sha2.specs.Sha256.{sha256}
 use Rattle.list_laws.specs.Exchanges.{Exchanges, nothing, under, neighbours, then}
 use Rattle.list_laws.proofs.Permutations.{exchanges, keep, join, unmoved, exchange}
 use Rattle.calculus.specs.Bytes.{be64, joined}
-use Rattle.calculus.specs.Order.{sorted}
+use Rattle.calculus.specs.Order.{sorted, IsAscending}
 use Rattle.calculus.specs.Root.{key, group_code, root}
 use Rattle.calculus.specs.Rows.{Row, row_code}
 use Rattle.calculus.specs.Steps.{is_one_of}
 use Rattle.calculus.specs.Storing.{IsStorable}
 use Rattle.calculus.proofs.Tails.{length-be64}
+use Rattle.term_encoder.proofs.Codes.{length-map}
 use Rattle.states.proofs.Groups.{same, sorted-moved}
 use Rattle.states.specs.States.{state_text}
 use Rattle.radix_root.specs.Leaves.{Leaves, Keeps, group_digest, codes_at, groups_of}
 use Rattle.radix_root.specs.Groups.{given, digest_after}
 use Rattle.radix_root.specs.declared.group.Group.{Group}
 use Rattle.checkpoint.specs.Kept.{AreKept}
+use Rattle.checkpoint.specs.Made.{AreFor, AreMade}
 use Rattle.checkpoint.specs.Marks.{AreMarks, seen_mark, row_mark}
 use Rattle.checkpoint.specs.declared.marks.Mark.{Mark}
 use Rattle.state_reader.specs.Files.{heading}
-use Rattle.state_reader.proofs.SameRows.{same-rows, storable-row, storable-short}
+use Rattle.state_reader.proofs.SameRows.{same-rows, storable-row, storable-short, row-length}
 use Rattle.state_laws.proofs.Exact.{root-length, text-parts}
-use Rattle.next_states.specs.Pairs.{Pair, pair_of, codes_in, groups_in, cut_by, TellsKey, IsRight, IsKnown}
+use Rattle.state_laws.proofs.Same.{Compared, Next, longer, shorter, equal, compared, all-head, all-behind, heads}
+use Rattle.next_states.specs.Pairs.{Pair, pair_of, codes_in, groups_in, cut_by, seconds, TellsKey, IsChanged, IsRight, IsKnown}
 
 -- the codes of rows are those of their pairs
 pub codes-rows : (rows : List Row) (k : List ℕ) → codes_in (each pair_of rows) k ≡ codes_at rows k
@@ -150,6 +153,39 @@ codes-behind rows h =
     ∙ ap (λ n. drop n ((heading ++ (root rows ++ be64 (length rows))) ++ joined (each row_code rows))) (sym (header-length rows))
     ∙ behind (heading ++ (root rows ++ be64 (length rows))) (joined (each row_code rows))
 
+-- no code of a row that may be stored is empty, so none is left where nothing is
+none-left : {rows others : List Row} → All IsStorable rows → Next rows others [] [] → ⊥
+none-left {rows} {others} h n =
+    let s = all-head IsStorable n.row n.rest (all-behind IsStorable n.before (n.row ∷ n.rest) (subst (All IsStorable) n.is h)) in
+    omega (arith, ap length n.behind, length-append (row_code n.row) (joined (each row_code n.rest) ++ []), row-length n.row s.id.0 s.active)
+
+-- rows with one text have the same codes
+codes-one : (rows others : List Row) → AreKept rows → AreKept others → state_text rows ≡ state_text others → each row_code rows ≡ each row_code others
+codes-one rows others h k e = on (compared rows others [] [] h.order.storable k.order.storable (append-nil (joined (each row_code rows)) ∙ whole ∙ sym (append-nil (joined (each row_code others)))))
+  where
+    whole : joined (each row_code rows) ≡ joined (each row_code others)
+    whole = sym (codes-behind rows h) ∙ ap (drop 49) e ∙ codes-behind others k
+
+    on : Compared rows others [] [] → each row_code rows ≡ each row_code others
+    on (longer n) = absurd (none-left h.order.storable n)
+    on (shorter n) = absurd (none-left k.order.storable n)
+    on (equal c l) = c
+
+-- and the same marks
+marks-one : (rows others : List Row) → All IsStorable rows → All IsStorable others → each row_code rows ≡ each row_code others → each row_mark rows ≡ each row_mark others
+marks-one [] [] h k e = refl
+marks-one [] (q ∷ others) h k e = absurd (cc e)
+marks-one (r ∷ rows) [] h k e = absurd (cc e)
+marks-one (r ∷ rows) (q ∷ others) h k e =
+    let p = heads e in
+    ap (λ (x : List ℕ). (x, length (row_code r)) ∷ each row_mark rows) (one-key r q (All-head IsStorable r rows h) (All-head IsStorable q others k) p.0)
+    ∙ ap (λ (c : List ℕ). (key q, length c) ∷ each row_mark rows) p.0
+    ∙ ap (λ (ms : List (List ℕ × ℕ)). row_mark q ∷ ms) (marks-one rows others (All-tail IsStorable r rows h) (All-tail IsStorable q others k) p.1)
+
+codes-pairs : (rows : List Row) → seconds (each pair_of rows) ≡ each row_code rows
+codes-pairs [] = refl
+codes-pairs (r ∷ rows) = ap (λ cs. row_code r ∷ cs) (codes-pairs rows)
+
 -- what is known of the state of rows
 pub known-rows : (text : List ℕ) (ms : List Mark) (tree : Leaves) (rows : List Row) → text ≡ state_text rows → AreKept rows → Keeps tree (groups_of rows) → AreMarks ms rows → IsKnown text ms tree
 known-rows text ms tree rows e h k m =
@@ -157,9 +193,32 @@ known-rows text ms tree rows e h k m =
     record {
       long = omega (arith, ap length (e ∙ text-is rows h), length-append (heading ++ (root rows ++ be64 (length rows))) (joined (each row_code rows)), header-length rows);
       tell = subst (All TellsKey) (sym pairs) (tell-rows rows h.order.storable);
+      order = subst (λ (ps : List Pair). IsAscending (seconds ps)) (sym pairs) (subst IsAscending (sym (codes-pairs rows)) h.order.ascending);
+      rows = λ others t f. m ∙ marks-one rows others h.order.storable t.order.storable (codes-one rows others h t (sym e ∙ f));
       tree = subst (λ (ps : List Pair). Keeps tree (groups_in ps)) (sym pairs) (λ j. k j ∙ ap (λ cs. group_digest j (sorted cs)) (sym (codes-rows rows j)));
     }
 
 -- a tree with the codes of pairs in another order keeps those of the rows
 pub rows-kept : (rows : List Row) (ps : List Pair) (t : Leaves) → IsPermutation (each pair_of rows) ps → Keeps t (groups_in ps) → Keeps t (groups_of rows)
 rows-kept rows ps t p h k = h k ∙ ap (group_digest k) (sym (groups-moved k p) ∙ ap sorted (codes-rows rows k))
+
+-- the pairs of the rows whose text is known
+pub known-pairs : (text : List ℕ) (ms : List Mark) (tree : Leaves) (rows : List Row) → IsKnown text ms tree → AreKept rows → text ≡ state_text rows → cut_by ms (drop 49 text) ≡ each pair_of rows
+known-pairs text ms tree rows k h e = ap (λ (t : List ℕ). cut_by ms (drop 49 t)) e ∙ ap (cut_by ms) (codes-behind rows h) ∙ cut-rows ms rows (k.rows rows h e)
+
+-- and how many there are
+pub known-number : (text : List ℕ) (ms : List Mark) (tree : Leaves) (rows : List Row) → IsKnown text ms tree → AreKept rows → text ≡ state_text rows → length ms ≡ length rows
+known-number text ms tree rows k h e = sym (length-map seen_mark ms) ∙ ap length (k.rows rows h e) ∙ length-map row_mark rows
+
+-- a group that changes from the pairs of rows to others
+pub changed-rows : (base rows : List Row) (all ps : List Pair) (k : List ℕ) → all ≡ each pair_of base → IsPermutation (each pair_of rows) ps → IsChanged all ps k → groups_of base k ≡ groups_of rows k → ⊥
+changed-rows base rows all ps k e p h q =
+    h (ap (λ (qs : List Pair). groups_in qs k) e ∙ ap sorted (codes-rows base k) ∙ q ∙ sym (ap sorted (codes-rows rows k)) ∙ groups-moved k p)
+
+-- digests for keys that are so are for keys that are so too
+pub made-weaker : {P Q : List ℕ → Type 0} {n : ℕ} → AreFor P n → ((k : List ℕ) → P k → Q k) → AreFor Q n
+made-weaker h f = record { keys = h.keys; once = h.once; so = λ k m. f k (h.so k m); within = h.within }
+
+-- digests of groups and of nodes above them
+pub both-within : (gs ss ts : List Group) (nodes own made : ℕ) → ss ≡ gs → ts ≡ gs → nodes ≤ 64 * length ss → own ≤ length ts → made ≤ nodes + own → made ≤ 65 * length (each (λ g. g.key.0) gs)
+both-within gs ss ts nodes own made e f a b c = omega (arith, ap length e, ap length f, a, b, c, length-map (λ (g : Group). g.key.0) gs)

@@ -51,6 +51,9 @@ module _ (w : Walk) (all done : List Pair) where
       ap (λ cs. codes_in done k ++ cs) (codes-append (p ∷ []) ps k) ∙ sym (append_assoc (codes_in done k) (codes_in (p ∷ []) k) (codes_in ps k))
       ∙ ap (λ cs. cs ++ codes_in ps k) (sym (codes-append done (p ∷ []) k))
 
+  pub match-first : (l : Left) (r : Row) (d c : List ℕ) → pairs_left w.left ≡ (d, c) ∷ pairs_left l → c ≡ row_code r → IsStorable r → Agrees w all done → pairs_left w.left ≡ pair_of r ∷ pairs_left l
+  match-first l r d c e f s a = e ∙ ap (λ x. (x, c) ∷ pairs_left l) (sym (match-key l r d c e f s a)) ∙ ap (λ x. (key r, x) ∷ pairs_left l) f
+
   -- and nothing changes
   pub match-agrees : (l : Left) (r : Row) (d c : List ℕ) → pairs_left w.left ≡ (d, c) ∷ pairs_left l → c ≡ row_code r → IsStorable r → Agrees w all done
       → Agrees (record { left = l; changed = w.changed }) all (done ++ pair_of r ∷ [])
@@ -61,7 +64,7 @@ module _ (w : Walk) (all done : List Pair) where
   }
     where
       first : pairs_left w.left ≡ pair_of r ∷ pairs_left l
-      first = e ∙ ap (λ x. (x, c) ∷ pairs_left l) (sym (match-key l r d c e f s a)) ∙ ap (λ x. (key r, x) ∷ pairs_left l) f
+      first = match-first l r d c e f s a
 
       go : (k : List ℕ) → Has w.changed k ⊎ (codes_in all k ≡ codes_in done k ++ codes_in (pairs_left w.left) k) → Has w.changed k ⊎ (codes_in all k ≡ codes_in (done ++ pair_of r ∷ []) k ++ codes_in (pairs_left l) k)
       go k (inl h) = inl h

@@ -1,11 +1,13 @@
 -- A walk over the rows of a base and those of the next state.
-use Rattle.std.specs.Prelude.{◌≡◌, ◌⊎◌, ℕ, List, [], ◌++◌, map as each, All, Option, IfSome, IsSome}
+use Rattle.std.specs.Prelude.{◌≡◌, ◌⊎◌, ◌≤◌, ◌+◌, ℕ, true, List, [], ◌∷◌, ◌++◌, map as each, All, Option, Some, None, IfSome, IsSome}
+use Rattle.std.specs.Borrow.{Bor}
 use Rattle.std.specs.BTreeMap.{get}
 use Rattle.std.specs.declared.alloc.Global.{Global}
 use Rattle.std.specs.declared.vec.Vec.{Vec}
-use Rattle.calculus.specs.Order.{byte_cmp}
+use Rattle.calculus.specs.Order.{byte_cmp, IsAscending}
 use Rattle.calculus.specs.Rows.{Row, row_code}
-use Rattle.next_states.specs.Pairs.{Pair, codes_in, cut_by, TellsKey}
+use Rattle.calculus.specs.Steps.{is_one_of}
+use Rattle.next_states.specs.Pairs.{Pair, codes_in, cut_by, held, seconds, IsChanged, TellsKey}
 use Rattle.next_states.specs.declared.changed.Changed.{Changed}
 use Rattle.next_states.specs.declared.left.Left.{Left}
 use Rattle.next_states.specs.declared.walk.Coded.{Coded}
@@ -49,3 +51,16 @@ pub record Agrees (w : Walk) (all done : List Pair) : Type 0 where
 -- of a base and the next state the same codes stand under each key whose group does not change
 abbrev pub Covers : Changed → List Pair → List Pair → Type 0
 Covers c all next = (k : List ℕ) → Has c k ⊎ (codes_in all k ≡ codes_in next k)
+
+-- a walk stands at this code, which is no greater than those of the pairs to come, and of these there are none where it stands at none
+abbrev pub Stands : Option (Bor (List ℕ)) → List Pair → Type 0
+Stands None ps = ps ≡ []
+Stands (Some c) ps = IsAscending (c.now ∷ seconds ps)
+
+-- of all pairs of a base and those of the next state, of which these are done and these are to come, both in the order of their codes, each group that is found so far changes: a code that is left of the base stands among those done no more often than it should, and one that is to come no less often
+pub record Finds (w : Walk) (all done todo : List Pair) : Type 0 where
+  pub left : IsAscending (seconds (pairs_left w.left))
+  pub next : IsAscending (seconds todo)
+  pub few : (k c : List ℕ) → is_one_of c (seconds (pairs_left w.left)) ≡ true → held done k c + held (pairs_left w.left) k c ≤ held all k c
+  pub many : (k c : List ℕ) → is_one_of c (seconds todo) ≡ true → held all k c ≤ held done k c + held (pairs_left w.left) k c
+  pub found : (k : List ℕ) → Has w.changed k → IsChanged all (done ++ todo) k

@@ -1,7 +1,7 @@
 // The groups that change from a base to the next state.
-ghost use Rattle.std.specs.Prelude.{◌≡◌, ◌++◌, ◌∷◌, [], ℕ, List, true, map, All, IfOk, OnOk};
+ghost use Rattle.std.specs.Prelude.{◌≡◌, ◌≤◌, ◌⊎◌, ◌++◌, ◌∷◌, [], ℕ, List, true, length, map, All, IfOk, OnOk};
 ghost use Rattle.calculus.specs.Order.{sorted};
-ghost use Rattle.calculus.specs.Steps.{is_one_of};
+ghost use Rattle.calculus.specs.Steps.{differ, is_one_of};
 ghost use Rattle.radix_root.specs.Groups.{given};
 ghost use Rattle.radix_root.specs.Leaves.{group_digest};
 ghost use Rattle.next_states.specs.Pairs.{Pair, IsRight};
@@ -24,7 +24,8 @@ pub(crate) struct Changed {
 impl Changed {
     // No group changes.
     pub(crate) fn new(alloc: Global) -> Changed
-        ensures { Holds result [] }
+        ensures bare { Holds result [] }
+        ensures none { (k : List ℕ) → Has result k → ⊥ }
     {
         Changed {
             groups: BTreeMap::new(alloc),
@@ -36,6 +37,7 @@ impl Changed {
         ensures here { OnOk result (Has self.new key.now.0) }
         ensures others { OnOk result ((k : List ℕ) → Has self.old k → Has self.new k) }
         ensures bare { OnOk result (Holds self.old [] → Holds self.new []) }
+        ensures only { OnOk result ((k : List ℕ) → Has self.new k → Has self.old k ⊎ (k ≡ key.now.0)) }
     {
         self.groups.insert(key.0, Vec::new(alloc))?;
         Ok(())
@@ -44,6 +46,7 @@ impl Changed {
     // Gathers the code of a row with this key, where its group changes.
     pub(crate) fn put(&mut self, alloc: Global, key: &Digest, code: &[u8]) -> Result<(), AllocError>
         ensures others { OnOk result ((k : List ℕ) → Has self.old k → Has self.new k) }
+        ensures only { OnOk result ((k : List ℕ) → Has self.new k → Has self.old k) }
         ensures holds { OnOk result ((ps : List Pair) → Holds self.old ps → Holds self.new (ps ++ (key.now.0, code.now) ∷ [])) }
     {
         match self.groups.remove(&key.0) {
@@ -61,6 +64,8 @@ impl Changed {
     pub(crate) fn into_groups(self, alloc: Global) -> Result<Vec<Group>, AllocError>
         ensures right { IfOk result (λ v. (ps : List Pair) → Holds self ps → All (IsRight ps) v.items) }
         ensures each { IfOk result (λ v. (k : List ℕ) → Has self k → is_one_of k (map (λ g. g.key.0) v.items) ≡ true) }
+        ensures only { IfOk result (λ v. (k : List ℕ) → is_one_of k (map (λ g. g.key.0) v.items) ≡ true → Has self k) }
+        ensures once { IfOk result (λ v. differ (map (λ g. g.key.0) v.items) ≡ true) }
     {
         let mut groups = Vec::new(alloc);
         for (key, codes) in self.groups {
@@ -88,4 +93,17 @@ fn group_of(alloc: Global, key: &Digest, mut codes: Vec<Vec<u8>>) -> Result<Grou
     codes.sort_by(|a, b| a.cmp(b))?;
     let slices = slices_of(alloc, codes.as_slice())?;
     Ok(Group::of(key, slices.as_slice()))
+}
+
+// How many of these groups have rows, and so a digest.
+pub(crate) fn digests_of(groups: &[Group]) -> u64
+    ensures { result ≤ length groups.now }
+{
+    let mut made: u64 = 0;
+    for group in groups {
+        if group.digest.is_some() {
+            made = made.saturating_add(1);
+        }
+    }
+    made
 }

@@ -1,18 +1,19 @@
 // A state that a run starts from, and the next one.
-ghost use Rattle.std.specs.Prelude.{◌≡◌, ◌≤◌, [], List, ℕ, drop, length, map, IfOk, OnOk};
+ghost use Rattle.std.specs.Prelude.{◌≡◌, ◌≤◌, ◌<◌, ◌/◌, [], List, ℕ, drop, length, map, IfOk, OnOk};
 ghost use Rattle.calculus.specs.Order.{sorted};
 ghost use Rattle.calculus.specs.Root.{root};
-ghost use Rattle.calculus.specs.Rows.{row_code as code_of_row};
+ghost use Rattle.calculus.specs.Rows.{row_code as code_of_row, Row as AnyRow};
 ghost use Rattle.checkpoint.specs.Kept.{AreKept};
-ghost use Rattle.radix_root.specs.Leaves.{Keeps};
+ghost use Rattle.checkpoint.specs.Made.{AreFor, AreMade, no_codes};
+ghost use Rattle.radix_root.specs.Leaves.{Keeps, groups_of};
 ghost use Rattle.states.specs.States.{state_text};
 ghost use Rattle.next_states.specs.Pairs.{Pair, groups_in};
 ghost use Rattle.next_states.specs.Walks.{Covers, Has, Holds, pair_in};
 
-use crate::changed::Changed;
+use crate::changed::{Changed, digests_of};
 use crate::walk::{Keyed, compared};
 use calculus::Digest;
-use checkpoint::{Checkpoint, Mark, Parts, state_of, text_of_codes};
+use checkpoint::{Checkpoint, MadeState, Mark, Parts, made_state, text_of_codes};
 use radix_root::RadixTree;
 use space_row::Row;
 use std::alloc::{AllocError, Global};
@@ -73,35 +74,40 @@ impl KnownState {
     /// The root of these rows, which may stand in any order, and the text of the state that holds them. Want of
     /// memory is the one error.
     ///
-    /// The rows may be any: those that stand in this state too make it quick.
-    pub fn next_state(self, alloc: Global, rows: Vec<Row>) -> Result<(Digest, Vec<u8>), AllocError>
-        ensures root { IfOk result (λ p. p.0.0 ≡ root rows.items) }
-        ensures text { IfOk result (λ p. p.1.items ≡ state_text rows.items) }
+    /// At most 65 digests of groups and of nodes above them are made for each group that changed from this state to
+    /// the next; or, where that has over twice as many rows, for each of its groups.
+    pub fn next_state(self, alloc: Global, rows: Vec<Row>) -> Result<MadeState, AllocError>
+        ensures root { IfOk result (λ s. s.root.0 ≡ root rows.items) }
+        ensures text { IfOk result (λ s. s.text.items ≡ state_text rows.items) }
+        ensures made { IfOk result (λ s. (base : List AnyRow) → AreKept base → self ≡ state_text base → length rows.items / 2 ≤ length base → AreMade (groups_of base) (groups_of rows.items) s.made) }
+        ensures anew { IfOk result (λ s. (base : List AnyRow) → AreKept base → self ≡ state_text base → length base < length rows.items / 2 → AreMade no_codes (groups_of rows.items) s.made) }
     {
         if rows.len() / 2 > self.marks.len() {
-            return state_of(alloc, rows);
+            let state = made_state(alloc, rows)?;
+            return Ok(state);
         }
-        let (root, keyed) = next_root(alloc, self, rows)?;
+        let (root, keyed, made) = next_root(alloc, self, rows)?;
         let codes = codes_of(alloc, keyed)?;
         let text = text_of_codes(alloc, &root, codes)?;
-        Ok((root, text))
+        Ok(MadeState { root, text, made })
     }
 }
 
-// The root of these rows, and their codes, ascending.
+// The root of these rows, and their codes, ascending, and how many digests were made.
 fn next_root(
     alloc: Global,
     known: KnownState,
     rows: Vec<Row>,
-) -> Result<(Digest, Vec<Keyed>), AllocError>
+) -> Result<(Digest, Vec<Keyed>, u64), AllocError>
     ensures root { IfOk result (λ p. p.0.0 ≡ root rows.items) }
     ensures codes { IfOk result (λ p. map (λ k. k.code.items) p.1.items ≡ sorted (map code_of_row rows.items)) }
+    ensures made { IfOk result (λ p. (base : List AnyRow) → AreKept base → known ≡ state_text base → AreMade (groups_of base) (groups_of rows.items) p.2) }
 {
     let KnownState { text, marks, tree } = known;
     let codes = rest_of(text.as_slice(), HEADER);
     let (keyed, changed) = compared(alloc, rows.as_slice(), marks.as_slice(), codes)?;
-    let next = changed_tree(alloc, tree, changed, keyed.as_slice())?;
-    Ok((next.root(), keyed))
+    let (next, made) = changed_tree(alloc, tree, changed, keyed.as_slice())?;
+    Ok((next.root(), keyed, made))
 }
 
 // These bytes but for so many.
@@ -112,27 +118,30 @@ fn rest_of(bytes: &[u8], len: usize) -> &[u8]
     &bytes[len..]
 }
 
-// A tree with the codes of these pairs in each group that changes.
+// A tree with the codes of these pairs in each group that changes, and how many digests were made.
 fn changed_tree(
     alloc: Global,
     tree: RadixTree,
     changed: Changed,
     keyed: &[Keyed],
-) -> Result<RadixTree, AllocError>
+) -> Result<(RadixTree, u64), AllocError>
     requires { Holds changed [] }
-    ensures { IfOk result (λ t. (all : List Pair) → Keeps tree (groups_in all) → Covers changed all (map pair_in keyed.now) → Keeps t (groups_in (map pair_in keyed.now))) }
+    ensures tree { IfOk result (λ p. (all : List Pair) → Keeps tree (groups_in all) → Covers changed all (map pair_in keyed.now) → Keeps p.0 (groups_in (map pair_in keyed.now))) }
+    ensures made { IfOk result (λ p. AreFor (Has changed) p.1) }
 {
     let mut changed = changed;
     gather(alloc, &mut changed, keyed)?;
     let groups = changed.into_groups(alloc)?;
-    let (next, _made) = tree.with_groups(alloc, groups.as_slice())?;
-    Ok(next)
+    let (next, nodes) = tree.with_groups(alloc, groups.as_slice())?;
+    let made = nodes.saturating_add(digests_of(groups.as_slice()));
+    Ok((next, made))
 }
 
 // Gathers these codes, as far as their groups change.
 fn gather(alloc: Global, changed: &mut Changed, keyed: &[Keyed]) -> Result<(), AllocError>
     ensures holds { OnOk result (Holds changed.old [] → Holds changed.new (map pair_in keyed.now)) }
     ensures others { OnOk result ((k : List ℕ) → Has changed.old k → Has changed.new k) }
+    ensures only { OnOk result ((k : List ℕ) → Has changed.new k → Has changed.old k) }
 {
     for row in keyed {
         changed.put(alloc, &row.key, row.code.as_slice())?;

@@ -6,4 +6,5 @@ mod known;
 mod left;
 mod walk;
 
+pub use checkpoint::MadeState;
 pub use known::KnownState;

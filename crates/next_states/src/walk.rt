@@ -1,11 +1,11 @@
-// A walk over the rows of a base and those of the next state, both in the order of their codes. What the walk finds
-// is right in any order; in this one it finds the fewest changes.
-ghost use Rattle.std.specs.Prelude.{◌≡◌, ◌++◌, ◌∷◌, [], List, None, map, All, IfOk, OnOk, IsPermutation};
-ghost use Rattle.calculus.specs.Order.{IsAscending};
+// A walk over the rows of a base and those of the next state, both in the order of their codes. That it finds each
+// group that changes is right in any order; in this one it finds no other.
+ghost use Rattle.std.specs.Prelude.{◌≡◌, ◌++◌, ◌∷◌, [], ℕ, List, None, map, All, IfOk, IfSome, OnOk, IsPermutation};
+ghost use Rattle.calculus.specs.Order.{IsAscending, IsBelowFirst};
 ghost use Rattle.calculus.specs.Root.{key};
 ghost use Rattle.calculus.specs.Storing.{IsStorable};
-ghost use Rattle.next_states.specs.Pairs.{Pair, pair_of, TellsKey, cut_by};
-ghost use Rattle.next_states.specs.Walks.{Agrees, Covers, Holds, IsCoded, pair_in, pairs_left, row_of};
+ghost use Rattle.next_states.specs.Pairs.{Pair, pair_of, seconds, IsChanged, TellsKey, cut_by};
+ghost use Rattle.next_states.specs.Walks.{Agrees, Covers, Finds, Has, Holds, IsCoded, Stands, pair_in, pairs_left, row_of};
 
 use crate::changed::Changed;
 use crate::left::Left;
@@ -40,6 +40,8 @@ impl<'a> Walk<'a> {
     fn pass_below(&mut self, alloc: Global, code: Option<&[u8]>) -> Result<(), AllocError>
         ensures agrees { OnOk result ((all done : List Pair) → Agrees self.old all done → Agrees self.new all done) }
         ensures all { OnOk result (code.entry ≡ None → pairs_left self.new.left ≡ []) }
+        ensures finds { OnOk result ((all done next : List Pair) → Stands code.entry next → Finds self.old all done next → Finds self.new all done next) }
+        ensures least { OnOk result (IfSome code.entry (λ c. IsBelowFirst c.now (seconds (pairs_left self.new.left)))) }
     {
         'below: while self.left.is_below(code) {
             let key = self.left.pass();
@@ -52,6 +54,7 @@ impl<'a> Walk<'a> {
     fn take(&mut self, alloc: Global, coded: &Coded<'_>) -> Result<Digest, AllocError>
         ensures agrees { OnOk result ((all done : List Pair) → IsCoded coded.now → Agrees self.old all done → Agrees self.new all (done ++ pair_of (row_of coded.now) ∷ [])) }
         ensures key { IfOk result (λ d. (all done : List Pair) → IsCoded coded.now → Agrees self.old all done → d.0 ≡ key (row_of coded.now)) }
+        ensures finds { OnOk result ((all done next : List Pair) → IsCoded coded.now → Agrees self.old all done → Finds self.old all done (pair_of (row_of coded.now) ∷ next) → Finds self.new all (done ++ pair_of (row_of coded.now) ∷ []) next) }
     {
         self.pass_below(alloc, Some(coded.code.as_slice()))?;
         let key = self.take_next(alloc, coded)?;
@@ -62,6 +65,8 @@ impl<'a> Walk<'a> {
     fn take_next(&mut self, alloc: Global, coded: &Coded<'_>) -> Result<Digest, AllocError>
         ensures agrees { OnOk result ((all done : List Pair) → IsCoded coded.now → Agrees self.old all done → Agrees self.new all (done ++ pair_of (row_of coded.now) ∷ [])) }
         ensures key { IfOk result (λ d. (all done : List Pair) → IsCoded coded.now → Agrees self.old all done → d.0 ≡ key (row_of coded.now)) }
+        ensures finds { OnOk result ((all done next : List Pair) → IsCoded coded.now → Agrees self.old all done → IsBelowFirst coded.now.code.items (seconds (pairs_left self.old.left))
+            → Finds self.old all done (pair_of (row_of coded.now) ∷ next) → Finds self.new all (done ++ pair_of (row_of coded.now) ∷ []) next) }
     {
         known_storable(coded.row);
         if self.left.is_next(coded.code.as_slice()) {
@@ -113,6 +118,7 @@ fn keyed_codes(
     requires { All IsCoded rows.items }
     ensures pairs { IfOk result (λ v. (all : List Pair) → Agrees walk.old all [] → map pair_in v.items ≡ map pair_of (map row_of rows.entry.items)) }
     ensures agrees { OnOk result ((all : List Pair) → Agrees walk.old all [] → Agrees walk.new all (map pair_of (map row_of rows.entry.items))) }
+    ensures finds { OnOk result ((all : List Pair) → Agrees walk.old all [] → Finds walk.old all [] (map pair_of (map row_of rows.entry.items)) → Finds walk.new all (map pair_of (map row_of rows.entry.items)) []) }
 {
     let mut keyed = Vec::new(alloc);
     for coded in rows {
@@ -136,6 +142,7 @@ pub(crate) fn compared(
     ensures order { IfOk result (λ p. IsAscending (map (λ k. k.code.items) p.0.items)) }
     ensures bare { IfOk result (λ p. Holds p.1 []) }
     ensures covers { IfOk result (λ p. Covers p.1 (cut_by marks.now text.now) (map pair_in p.0.items)) }
+    ensures found { IfOk result (λ p. IsAscending (seconds (cut_by marks.now text.now)) → (k : List ℕ) → Has p.1 k → IsChanged (cut_by marks.now text.now) (map pair_in p.0.items) k) }
 {
     let coded = rows_by_code(alloc, rows)?;
     let changed = Changed::new(alloc);

@@ -6,7 +6,7 @@ ghost use Rattle.run_verdict.specs.View.{verdict_of};
 ghost use Rattle.states.specs.States.{state_text};
 
 use calculus::Digest;
-use next_states::KnownState;
+use next_states::{KnownState, MadeState};
 use run_verdict::Verdict;
 use space_row::Row;
 use std::alloc::{AllocError, Global};
@@ -34,7 +34,10 @@ pub fn next_state(
     ensures old { verdict ≢ Verdict.Done → IfOk result (λ next. (next.0.0 ≡ base.now.0) × (next.1.items ≡ state)) }
 {
     match verdict {
-        Verdict::Done => state.next_state(alloc, rows),
+        Verdict::Done => {
+            let MadeState { root, text, .. } = state.next_state(alloc, rows)?;
+            Ok((root, text))
+        }
         _ => Ok((*base, state.into_text())),
     }
 }

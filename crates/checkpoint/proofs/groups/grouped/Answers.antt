@@ -2,7 +2,7 @@ use Rattle.std.proofs.Common.{◌≡◌, ◌+◌, List, ◌∷◌, length, map, 
 use Rattle.std.proofs.Math.Seq.{take-length}
 use Rattle.radix_root.specs.Leaves.{groups_of}
 use Rattle.checkpoint.specs.declared.keyed.KeyedRow.{KeyedRow}
-use Rattle.checkpoint.specs.Groups.{row_of, Give}
+use Rattle.checkpoint.specs.Groups.{row_of, AreApart, Give}
 use Rattle.checkpoint.proofs.Adding.{Going, go-on, none-held, taken-more, dropped-more}
 use Rattle.checkpoint.proofs.groups.grouped.Goals as goal
 
@@ -18,8 +18,15 @@ loop-row-preserved c =
     subst (λ ds. Going c.add.new.self ds (drop (i + 1) ks)) (sym (taken-more ks i x c.loop-row-test.true c.row-item.is))
     (go-on c.loop-row.groups c.add.new.self (take i ks) (drop (i + 1) ks) x before c.in_ok-add.ensures.key c.in_ok-add.ensures.holds)
 
-pub returns : goal.returns
-returns c =
+pub returns-clause-apart : goal.returns-clause-apart
+returns-clause-apart c =
+    let ks = c.args.keyed.now in
+    let e : c.loop-row.row-index ≡ length ks = omega arith in
+    subst (λ (ds : List KeyedRow). AreApart c.close.new.self.closed.items (map row_of ds)) (ap (λ n. take n ks) e ∙ take-length ks)
+    (c.in_ok-close.ensures.apart (map row_of (take c.loop-row.row-index ks)) c.loop-row.invariant.holds)
+
+pub returns-clause-give : goal.returns-clause-give
+returns-clause-give c =
     let ks = c.args.keyed.now in
     let e : c.loop-row.row-index ≡ length ks = omega arith in
     subst (λ (ds : List KeyedRow). Give c.close.new.self.closed.items (groups_of (map row_of ds))) (ap (λ n. take n ks) e ∙ take-length ks)

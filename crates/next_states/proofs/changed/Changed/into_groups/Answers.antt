@@ -4,11 +4,11 @@ use Rattle.std.specs.Map.{keys_of}
 use Rattle.std.proofs.lemmas.Cmp.{nat_list_cmp_total}
 use Rattle.std.proofs.lemmas.List.Elements.{All-push}
 use Rattle.std.proofs.lemmas.Map.Iter.{btree_map_turn, iter_end}
-use Rattle.calculus.specs.Steps.{is_one_of}
+use Rattle.calculus.specs.Steps.{differ, is_one_of}
 use Rattle.radix_root.specs.declared.group.Group.{Group}
 use Rattle.checkpoint.proofs.Adding.{map-push}
 use Rattle.next_states.specs.Pairs.{IsRight, codes_in}
-use Rattle.next_states.proofs.Gathering.{Codes}
+use Rattle.next_states.proofs.Gathering.{Codes, one-found, sorted-differ}
 use Rattle.next_states.proofs.Walking.{found-one, right-group, same-list}
 use Rattle.next_states.proofs.changed.Changed.into_groups.Goals as goal
 
@@ -33,3 +33,15 @@ pub returns-clause-each : goal.returns-clause-each
 returns-clause-each c = λ k h.
     let whole = iter_end (λ x. x) c.args.self.groups.entries c.loop-key.yielded c.into_iter-key-iterator.result c.loop-key.key-iterator c.next.new.self c.next.result c.into_iter-key-iterator.ensures.into_iter_gives.0 c.loop-key.yielded_by c.in-None.is c.next.ensures.steps in
     ap (is_one_of k) (c.loop-key.invariant.keys ∙ ap (λ (es : List (List ℕ × Codes)). keys_of es) (sym (same-list c.loop-key.yielded) ∙ whole.0)) ∙ found-one k c.args.self.groups.entries h
+
+pub returns-clause-only : goal.returns-clause-only
+returns-clause-only c = λ k h.
+    let whole = iter_end (λ x. x) c.args.self.groups.entries c.loop-key.yielded c.into_iter-key-iterator.result c.loop-key.key-iterator c.next.new.self c.next.result c.into_iter-key-iterator.ensures.into_iter_gives.0 c.loop-key.yielded_by c.in-None.is c.next.ensures.steps in
+    one-found k c.args.self.groups.entries
+    (sym (ap (is_one_of k) (c.loop-key.invariant.keys ∙ ap (λ (es : List (List ℕ × Codes)). keys_of es) (sym (same-list c.loop-key.yielded) ∙ whole.0))) ∙ h)
+
+pub returns-clause-once : goal.returns-clause-once
+returns-clause-once c =
+    let whole = iter_end (λ x. x) c.args.self.groups.entries c.loop-key.yielded c.into_iter-key-iterator.result c.loop-key.key-iterator c.next.new.self c.next.result c.into_iter-key-iterator.ensures.into_iter_gives.0 c.loop-key.yielded_by c.in-None.is c.next.ensures.steps in
+    ap differ (c.loop-key.invariant.keys ∙ ap (λ (es : List (List ℕ × Codes)). keys_of es) (sym (same-list c.loop-key.yielded) ∙ whole.0))
+    ∙ sorted-differ (keys_of c.args.self.groups.entries) c.into_iter-key-iterator.ensures.into_iter_gives.5
