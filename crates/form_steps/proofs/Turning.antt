@@ -1,5 +1,5 @@
 -- The steps of descent up to the first constituent of a form.
-use Rattle.std.proofs.Common.{◌≡◌, ◌<◌, max, ℕ, List, Result, Ok, Err, Option, None, subst, sym, ap, arith, Bool, true, false}
+use Rattle.std.proofs.Common.{◌≡◌, ◌<◌, max, ℕ, List, Result, Ok, Err, Option, None, subst, sym, ap, arith, refl, not, ◌&&◌, Bool, true, false}
 use Rattle.std.specs.Prelude.{IfOk, MatchResult}
 use Rattle.calculus.specs.Meaning.{name_written}
 use Rattle.calculus.specs.Written.{Written}
@@ -10,7 +10,8 @@ use Rattle.grammar.specs.declared.dialect.Dialect.TheVariants.{Tutorial}
 use Rattle.grammar.specs.declared.fault.Fault.{Fault}
 use Rattle.grammar.specs.declared.fault.Fault.TheVariants.{NoMemory}
 use Rattle.grammar.specs.declared.mark.Mark.TheVariants as marks
-use Rattle.grammar.specs.Choice.{choose}
+use Rattle.std.proofs.lemmas.Bool.{false≢true}
+use Rattle.grammar.specs.Choice.{after, choose}
 use Rattle.grammar.specs.Descent.{Outcome, fault, Runs, shows, runs_under, no_under, runs_last, runs_opens_next, no_memory}
 use Rattle.grammar.specs.Grammar.{rule}
 use Rattle.grammar.specs.Productions.{Prod}
@@ -20,7 +21,7 @@ use Rattle.grammar.specs.Values.{Side, Spelt, spelt, leaf, opened, processes, se
 use Rattle.rho_lexer.specs.declared.token.Token.{Token}
 use Rattle.syntax_forms.specs.declared.part.Part.{Part}
 use Rattle.token_cursor.specs.Meaning.{view}
-use Rattle.token_cursor.specs.Reading.{Makes, of_name}
+use Rattle.token_cursor.specs.Reading.{Makes, of_name, sees_member}
 use Rattle.token_cursor.proofs.Fronts.{no_fresh}
 use Rattle.token_cursor.proofs.Steps.{ends, faulty}
 
@@ -104,3 +105,11 @@ flat_channel side q t n e h = under_as (λ r. ap (λ k. done (opened (send_of si
 -- no keyed form is next
 pub unkeyed : (ts : List Terminal) (k : Option FormKey) → k ≡ None → ((p : Prod Sort.POne) → keyed_part ts p ≡ part_or k p) → choose Sort.POne ts ≡ unkeyed_part ts
 unkeyed ts k e f = subst (λ (x : Option FormKey). keyed_part ts (unkeyed_part ts) ≡ part_or x (unkeyed_part ts)) e (f (unkeyed_part ts))
+
+-- where a member follows a comma, the comma is next
+pub sees_comma : (ts : List Terminal) → sees_member ts ≡ true → sees marks.Comma ts ≡ true
+sees_comma ts m = first (sees marks.Comma ts) (not (sees marks.Ellipsis (after ts))) m
+  where
+    first : (x y : Bool) → (x && y) ≡ true → x ≡ true
+    first true y e = refl
+    first false y e = absurd (false≢true e)

@@ -1,11 +1,17 @@
-//! Marks that may stand next.
+//! Marks that stand next, or may.
 ghost use Rattle.grammar.specs.Descent.{Takes};
-ghost use Rattle.grammar.specs.Terminals.{sees};
+ghost use Rattle.grammar.specs.Grammar.{arrow_mark};
+ghost use Rattle.grammar.specs.Rules.{Rule, closing, sign};
+ghost use Rattle.grammar.specs.Terminals.{Terminal, sees};
+ghost use Rattle.grammar.specs.declared.mark.Mark.TheVariants as marks;
 ghost use Rattle.token_cursor.specs.Meaning.{view};
-ghost use Rattle.std.specs.Prelude.{◌≡◌, ◌<◌, ◌≤◌, false, length, true};
+ghost use Rattle.token_cursor.specs.Reading.{Turns, bracket_of, sees_member};
+ghost use Rattle.std.specs.Prelude.{◌≡◌, ◌<◌, ◌≤◌, ℕ, IfOk, List, MatchResult, false, length, true};
 
-use grammar::Mark;
-use token_cursor::Cursor;
+use calculus::Kind;
+use grammar::{Fault, Mark};
+use token_cursor::part::Bracket;
+use token_cursor::{Cursor, parts};
 
 /// Takes this mark if it is next, and says whether it was.
 pub fn skip(cursor: &mut Cursor<'_>, mark: Mark) -> bool
@@ -16,4 +22,58 @@ pub fn skip(cursor: &mut Cursor<'_>, mark: Mark) -> bool
     ensures shorter { length cursor.new.rest.now ≤ length cursor.old.rest.now }
 {
     cursor.expect(mark).is_ok()
+}
+
+/// Takes a comma if it is next and no remainder follows it, and says whether it did.
+pub fn skip_comma(cursor: &mut Cursor<'_>) -> bool
+    ensures is { result ≡ sees_member (view cursor.old.rest.now) }
+    ensures takes { result ≡ true → Takes marks.Comma (view cursor.old.rest.now) (view cursor.new.rest.now) }
+    ensures less { result ≡ true → length cursor.new.rest.now < length cursor.old.rest.now }
+    ensures stays { result ≡ false → view cursor.new.rest.now ≡ view cursor.old.rest.now }
+    ensures shorter { length cursor.new.rest.now ≤ length cursor.old.rest.now }
+{
+    if !cursor.sees_member() {
+        return false;
+    }
+    skip(cursor, Mark::Comma)
+}
+
+/// The arrow of a kind of receive.
+pub fn arrow_mark(kind: Kind) -> Mark
+    ensures { result ≡ arrow_mark kind }
+{
+    match kind {
+        Kind::Linear => Mark::Arrow,
+        Kind::Persistent => Mark::LessEqual,
+        Kind::Peek => Mark::PeekArrow,
+    }
+}
+
+/// The sign that closes a bracket.
+pub fn closing_mark(bracket: Bracket) -> Mark
+    ensures { result ≡ closing (bracket_of bracket) }
+{
+    match bracket {
+        Bracket::Round => Mark::Close,
+        Bracket::Square => Mark::CloseSquare,
+    }
+}
+
+/// What was read, and this mark after it, which is taken; where it is missing, what was read is let go.
+pub fn then_mark<T: Drop>(
+    cursor: &mut Cursor<'_>,
+    read: Result<T, Fault>,
+    mark: Mark,
+) -> Result<T, Fault>
+    ensures reads { (free : ℕ) (r : Rule) (ts : List Terminal) (after : T → Rule) → Turns free r (λ x. sign mark (after x)) ts read (view cursor.old.rest.now) → Turns free r after ts result (view cursor.new.rest.now) }
+    ensures same { IfOk result (λ x. read ≡ Ok x) }
+    ensures shorter { MatchResult result (λ _. length cursor.new.rest.now < length cursor.old.rest.now) (λ _. length cursor.new.rest.now ≤ length cursor.old.rest.now) }
+{
+    match read {
+        Ok(value) => match cursor.expect(mark) {
+            Ok(()) => Ok(value),
+            Err(fault) => parts::give_up(value, fault),
+        },
+        Err(fault) => Err(fault),
+    }
 }

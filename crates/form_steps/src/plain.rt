@@ -1,20 +1,22 @@
 //! Processes and patterns that hold no further ones.
 ghost use Rattle.form_steps.specs.Steps.{member_patterns_of, members_of, plain_height, plain_pattern_height, plain_pattern_rule, plain_rule};
 ghost use Rattle.calculus.specs.Meaning.{pat_written, proc_written, row_of};
-ghost use Rattle.grammar.specs.Rules.{done, sign};
-ghost use Rattle.grammar.specs.Values.{bundle_of, drop_of, opened, patterns, processes, quote_of, same_of};
+ghost use Rattle.grammar.specs.Rules.{Rule, done, sign};
+ghost use Rattle.grammar.specs.Terminals.{Terminal};
+ghost use Rattle.grammar.specs.Values.{bundle_of, drop_of, not_of, opened, patterns, processes, quote_of, same_of};
 ghost use Rattle.grammar.specs.declared.mark.Mark.TheVariants as marks;
 ghost use Rattle.grammar.specs.declared.fault.Fault.TheVariants.{NoMemory};
 ghost use Rattle.token_cursor.specs.Meaning.{view};
-ghost use Rattle.token_cursor.specs.Reading.{Makes, of_pat, of_proc, sequence_written};
-ghost use Rattle.std.specs.Prelude.{◌≡◌, ◌+◌, ◌<◌, ◌≤◌, ◌^◌, ℕ, IfOk, MatchResult, length, map};
+ghost use Rattle.token_cursor.specs.Reading.{Makes, Turns, of_pat, of_proc, of_row, of_sequence, sequence_written};
+ghost use Rattle.std.specs.Prelude.{◌≡◌, ◌+◌, ◌<◌, ◌≤◌, ◌^◌, ℕ, IfOk, List, MatchResult, length, map};
 
+use crate::next_mark::then_mark;
 use crate::step::{PlainPattern, PlainProcess};
 use calculus::{Pat, Proc, Rights};
 use grammar::{Fault, Mark};
 use std::alloc::Global;
 use token_cursor::part::{Bracket, Part, Sequence};
-use token_cursor::{Cursor, parts, pattern_forms, process_forms};
+use token_cursor::{Cursor, pattern_forms, process_forms};
 
 /// A process that holds no further one.
 pub fn plain_process(cursor: &mut Cursor<'_>, plain: PlainProcess) -> Result<Part<Proc>, Fault>
@@ -51,8 +53,8 @@ pub fn plain_pattern(cursor: &mut Cursor<'_>, plain: PlainPattern) -> Result<Par
 }
 
 /// The list or the set of these members.
-pub fn members(bracket: Bracket, row: Part<Vec<Proc>>) -> Part<Proc>
-    requires row { row.height + 1 < 2 ^ 32 }
+fn list_or_set(bracket: Bracket, row: Part<Vec<Proc>>) -> Part<Proc>
+    requires { row.height + 1 < 2 ^ 32 }
     ensures tree { proc_written result.value ≡ members_of bracket (row_of (map proc_written row.value.items)) }
     ensures height { result.height ≡ row.height + 1 }
 {
@@ -62,9 +64,21 @@ pub fn members(bracket: Bracket, row: Part<Vec<Proc>>) -> Part<Proc>
     }
 }
 
+/// The list or the set of the members that were read.
+pub fn members(bracket: Bracket, row: Result<Part<Vec<Proc>>, Fault>) -> Result<Part<Proc>, Fault>
+    requires { IfOk row (λ p. p.height + 1 < 2 ^ 32) }
+    ensures reads { (free : ℕ) (r : Rule) (ts us : List Terminal) → Turns free r (λ p. done (opened (members_of bracket (of_row p).tree) p.height)) ts row us → Makes free r of_proc ts result us }
+    ensures room { (n : ℕ) → IfOk row (λ p. p.height < n) → IfOk result (λ p. p.height ≤ n) }
+{
+    match row {
+        Ok(row) => Ok(list_or_set(bracket, row)),
+        Err(fault) => Err(fault),
+    }
+}
+
 /// The pattern of a list or a set of these members.
-pub fn member_patterns(bracket: Bracket, sequence: Part<Sequence>) -> Part<Pat>
-    requires sequence { sequence.height + 1 < 2 ^ 32 }
+fn list_or_set_pattern(bracket: Bracket, sequence: Part<Sequence>) -> Part<Pat>
+    requires { sequence.height + 1 < 2 ^ 32 }
     ensures tree { pat_written result.value ≡ member_patterns_of bracket (sequence_written sequence.value) }
     ensures height { result.height ≡ sequence.height + 1 }
 {
@@ -74,9 +88,24 @@ pub fn member_patterns(bracket: Bracket, sequence: Part<Sequence>) -> Part<Pat>
     }
 }
 
-/// The process that a quoted process stands for.
-pub fn dropped_quote(alloc: Global, quoted: Part<Proc>) -> Result<Part<Proc>, Fault>
-    requires quoted { quoted.height + 1 < 2 ^ 32 }
+/// The pattern of a list or a set of the members that were read.
+pub fn member_patterns(
+    bracket: Bracket,
+    sequence: Result<Part<Sequence>, Fault>,
+) -> Result<Part<Pat>, Fault>
+    requires { IfOk sequence (λ p. p.height + 1 < 2 ^ 32) }
+    ensures reads { (free : ℕ) (r : Rule) (ts us : List Terminal) → Turns free r (λ p. done (opened (member_patterns_of bracket (of_sequence p).tree) p.height)) ts sequence us → Makes free r of_pat ts result us }
+    ensures room { (n : ℕ) → IfOk sequence (λ p. p.height < n) → IfOk result (λ p. p.height ≤ n) }
+{
+    match sequence {
+        Ok(sequence) => Ok(list_or_set_pattern(bracket, sequence)),
+        Err(fault) => Err(fault),
+    }
+}
+
+/// The process that this one stands for when it is quoted and dropped.
+fn drop_quoted(alloc: Global, quoted: Part<Proc>) -> Result<Part<Proc>, Fault>
+    requires { quoted.height + 1 < 2 ^ 32 }
     ensures tree { MatchResult result (λ p. proc_written p.value ≡ drop_of (quote_of (proc_written quoted.value))) (λ e. e ≡ NoMemory) }
     ensures height { IfOk result (λ p. p.height ≡ quoted.height + 1) }
 {
@@ -84,49 +113,70 @@ pub fn dropped_quote(alloc: Global, quoted: Part<Proc>) -> Result<Part<Proc>, Fa
     Ok(process_forms::dropped_quote(name))
 }
 
-/// The end of a bundle of this process.
+/// The process that was read, quoted and dropped.
+pub fn dropped_quote(alloc: Global, quoted: Result<Part<Proc>, Fault>) -> Result<Part<Proc>, Fault>
+    requires { IfOk quoted (λ p. p.height + 1 < 2 ^ 32) }
+    ensures reads { (free : ℕ) (r : Rule) (ts us : List Terminal) → Turns free r (λ p. done (opened (drop_of (quote_of (of_proc p).tree)) p.height)) ts quoted us → Makes free r of_proc ts result us }
+    ensures room { (n : ℕ) → IfOk quoted (λ p. p.height < n) → IfOk result (λ p. p.height ≤ n) }
+{
+    match quoted {
+        Ok(quoted) => drop_quoted(alloc, quoted),
+        Err(fault) => Err(fault),
+    }
+}
+
+/// The pattern that takes what the one that was read doesn't take.
+pub fn negated(alloc: Global, arg: Result<Part<Pat>, Fault>) -> Result<Part<Pat>, Fault>
+    requires { IfOk arg (λ p. p.height + 1 < 2 ^ 32) }
+    ensures reads { (free : ℕ) (r : Rule) (ts us : List Terminal) → Turns free r (λ p. done (opened (not_of (of_pat p).tree) p.height)) ts arg us → Makes free r of_pat ts result us }
+    ensures room { (n : ℕ) → IfOk arg (λ p. p.height < n) → IfOk result (λ p. p.height ≤ n) }
+{
+    match arg {
+        Ok(arg) => pattern_forms::not_pat(alloc, arg),
+        Err(fault) => Err(fault),
+    }
+}
+
+/// The end of a bundle of the process that was read.
 pub fn close_bundle(
     cursor: &mut Cursor<'_>,
     rights: Rights,
-    body: Part<Proc>,
+    body: Result<Part<Proc>, Fault>,
 ) -> Result<Part<Proc>, Fault>
-    requires { body.height + 1 < 2 ^ 32 }
-    ensures reads { (free : ℕ) → Makes free (sign marks.CloseBrace (done (opened (bundle_of processes rights (proc_written body.value)) body.height))) of_proc (view cursor.old.rest.now) result (view cursor.new.rest.now) }
-    ensures height { IfOk result (λ p. p.height ≡ body.height + 1) }
+    requires { IfOk body (λ p. p.height + 1 < 2 ^ 32) }
+    ensures reads { (free : ℕ) (r : Rule) (ts : List Terminal) → Turns free r (λ p. sign marks.CloseBrace (done (opened (bundle_of processes rights (of_proc p).tree) p.height))) ts body (view cursor.old.rest.now) → Makes free r of_proc ts result (view cursor.new.rest.now) }
+    ensures room { (n : ℕ) → IfOk body (λ p. p.height < n) → IfOk result (λ p. p.height ≤ n) }
     ensures shorter { length cursor.new.rest.now ≤ length cursor.old.rest.now }
 {
-    match cursor.expect(Mark::CloseBrace) {
-        Ok(()) => process_forms::bundle(cursor.alloc, rights, body),
-        Err(fault) => parts::give_up(body, fault),
-    }
+    let inner = then_mark(cursor, body, Mark::CloseBrace)?;
+    process_forms::bundle(cursor.alloc, rights, inner)
 }
 
-/// The end of a bundle of this pattern.
+/// The end of a bundle of the pattern that was read.
 pub fn close_bundle_pattern(
     cursor: &mut Cursor<'_>,
     rights: Rights,
-    body: Part<Pat>,
+    body: Result<Part<Pat>, Fault>,
 ) -> Result<Part<Pat>, Fault>
-    requires { body.height + 1 < 2 ^ 32 }
-    ensures reads { (free : ℕ) → Makes free (sign marks.CloseBrace (done (opened (bundle_of patterns rights (pat_written body.value)) body.height))) of_pat (view cursor.old.rest.now) result (view cursor.new.rest.now) }
-    ensures height { IfOk result (λ p. p.height ≡ body.height + 1) }
+    requires { IfOk body (λ p. p.height + 1 < 2 ^ 32) }
+    ensures reads { (free : ℕ) (r : Rule) (ts : List Terminal) → Turns free r (λ p. sign marks.CloseBrace (done (opened (bundle_of patterns rights (of_pat p).tree) p.height))) ts body (view cursor.old.rest.now) → Makes free r of_pat ts result (view cursor.new.rest.now) }
+    ensures room { (n : ℕ) → IfOk body (λ p. p.height < n) → IfOk result (λ p. p.height ≤ n) }
     ensures shorter { length cursor.new.rest.now ≤ length cursor.old.rest.now }
 {
-    match cursor.expect(Mark::CloseBrace) {
-        Ok(()) => pattern_forms::bundle_pat(cursor.alloc, rights, body),
-        Err(fault) => parts::give_up(body, fault),
-    }
+    let inner = then_mark(cursor, body, Mark::CloseBrace)?;
+    pattern_forms::bundle_pat(cursor.alloc, rights, inner)
 }
 
-/// The end of a process that is to be the same.
-pub fn close_same(cursor: &mut Cursor<'_>, body: Part<Proc>) -> Result<Part<Pat>, Fault>
-    requires { body.height + 1 < 2 ^ 32 }
-    ensures reads { (free : ℕ) → Makes free (sign marks.CloseBrace (done (opened (same_of (proc_written body.value)) body.height))) of_pat (view cursor.old.rest.now) result (view cursor.new.rest.now) }
-    ensures height { IfOk result (λ p. p.height ≡ body.height + 1) }
+/// The end of a process that was read and is to be the same.
+pub fn close_same(
+    cursor: &mut Cursor<'_>,
+    body: Result<Part<Proc>, Fault>,
+) -> Result<Part<Pat>, Fault>
+    requires { IfOk body (λ p. p.height + 1 < 2 ^ 32) }
+    ensures reads { (free : ℕ) (r : Rule) (ts : List Terminal) → Turns free r (λ p. sign marks.CloseBrace (done (opened (same_of (of_proc p).tree) p.height))) ts body (view cursor.old.rest.now) → Makes free r of_pat ts result (view cursor.new.rest.now) }
+    ensures room { (n : ℕ) → IfOk body (λ p. p.height < n) → IfOk result (λ p. p.height ≤ n) }
     ensures shorter { length cursor.new.rest.now ≤ length cursor.old.rest.now }
 {
-    match cursor.expect(Mark::CloseBrace) {
-        Ok(()) => pattern_forms::same(cursor.alloc, body),
-        Err(fault) => parts::give_up(body, fault),
-    }
+    let inner = then_mark(cursor, body, Mark::CloseBrace)?;
+    pattern_forms::same(cursor.alloc, inner)
 }

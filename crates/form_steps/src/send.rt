@@ -3,12 +3,13 @@ ghost use Rattle.calculus.specs.Meaning.{pat_written, proc_written};
 ghost use Rattle.form_steps.specs.Parts.{after_channel, after_channel_pattern};
 ghost use Rattle.grammar.specs.Grammar.{rule};
 ghost use Rattle.grammar.specs.Productions.{Prod};
-ghost use Rattle.grammar.specs.Rules.{Sort, last};
+ghost use Rattle.grammar.specs.Rules.{Rule, Sort, last};
+ghost use Rattle.grammar.specs.Terminals.{Terminal};
 ghost use Rattle.grammar.specs.Values.{patterns, processes, quote_of, quoted_of, spelt};
 ghost use Rattle.grammar.specs.declared.dialect.Dialect.TheVariants.{Tutorial};
 ghost use Rattle.token_cursor.specs.Meaning.{view};
 ghost use Rattle.token_cursor.specs.Reading.{Turns, of_name_pat};
-ghost use Rattle.std.specs.Prelude.{◌≡◌, ◌<◌, ◌≤◌, ℕ, IfOk, MatchResult, length};
+ghost use Rattle.std.specs.Prelude.{◌≡◌, ◌<◌, ◌≤◌, ℕ, IfOk, List, MatchResult, length};
 
 use crate::step::Sending;
 use calculus::{Name, NamePat, Pat, Proc};
@@ -39,7 +40,7 @@ pub fn begin_send(cursor: &mut Cursor<'_>, free: u32) -> Result<Sending<Name>, F
 }
 
 /// The channel that this process is when it is quoted, the mark of a send and a parenthesis.
-pub fn quoted_send(cursor: &mut Cursor<'_>, quoted: Part<Proc>) -> Result<Sending<Name>, Fault>
+fn send_on(cursor: &mut Cursor<'_>, quoted: Part<Proc>) -> Result<Sending<Name>, Fault>
     ensures reads { (free : ℕ) → Turns free (last (Sort.SentTail processes (spelt (quote_of (proc_written quoted.value)) quoted.height))) after_channel (view cursor.old.rest.now) result (view cursor.new.rest.now) }
     ensures height { IfOk result (λ s. s.channel.height ≡ quoted.height) }
     ensures shorter { length cursor.new.rest.now ≤ length cursor.old.rest.now }
@@ -56,6 +57,21 @@ pub fn quoted_send(cursor: &mut Cursor<'_>, quoted: Part<Proc>) -> Result<Sendin
             persistent,
         }),
         Err(fault) => parts::give_up(channel, fault),
+    }
+}
+
+/// The same after the process that was read.
+pub fn quoted_send(
+    cursor: &mut Cursor<'_>,
+    quoted: Result<Part<Proc>, Fault>,
+) -> Result<Sending<Name>, Fault>
+    ensures reads { (free : ℕ) (r : Rule) (ts : List Terminal) → Turns free r (λ p. last (Sort.SentTail processes (spelt (quote_of (proc_written p.value)) p.height))) ts quoted (view cursor.old.rest.now) → Turns free r after_channel ts result (view cursor.new.rest.now) }
+    ensures room { (n : ℕ) → IfOk quoted (λ p. p.height < n) → IfOk result (λ s. s.channel.height < n) }
+    ensures shorter { length cursor.new.rest.now ≤ length cursor.old.rest.now }
+{
+    match quoted {
+        Ok(quoted) => send_on(cursor, quoted),
+        Err(fault) => Err(fault),
     }
 }
 
@@ -105,10 +121,7 @@ fn begin_sent(
 }
 
 /// The channel that this pattern is when it is quoted, the mark of a send and a parenthesis.
-pub fn quoted_send_pattern(
-    cursor: &mut Cursor<'_>,
-    quoted: Part<Pat>,
-) -> Result<Sending<NamePat>, Fault>
+fn send_on_pattern(cursor: &mut Cursor<'_>, quoted: Part<Pat>) -> Result<Sending<NamePat>, Fault>
     ensures reads { (free : ℕ) → Turns free (last (Sort.SentTail patterns (spelt (quoted_of (pat_written quoted.value)) quoted.height))) after_channel_pattern (view cursor.old.rest.now) result (view cursor.new.rest.now) }
     ensures height { IfOk result (λ s. s.channel.height ≡ quoted.height) }
     ensures shorter { length cursor.new.rest.now ≤ length cursor.old.rest.now }
@@ -125,5 +138,20 @@ pub fn quoted_send_pattern(
             persistent,
         }),
         Err(fault) => parts::give_up(channel, fault),
+    }
+}
+
+/// The same after the pattern that was read.
+pub fn quoted_send_pattern(
+    cursor: &mut Cursor<'_>,
+    quoted: Result<Part<Pat>, Fault>,
+) -> Result<Sending<NamePat>, Fault>
+    ensures reads { (free : ℕ) (r : Rule) (ts : List Terminal) → Turns free r (λ p. last (Sort.SentTail patterns (spelt (quoted_of (pat_written p.value)) p.height))) ts quoted (view cursor.old.rest.now) → Turns free r after_channel_pattern ts result (view cursor.new.rest.now) }
+    ensures room { (n : ℕ) → IfOk quoted (λ p. p.height < n) → IfOk result (λ s. s.channel.height < n) }
+    ensures shorter { length cursor.new.rest.now ≤ length cursor.old.rest.now }
+{
+    match quoted {
+        Ok(quoted) => send_on_pattern(cursor, quoted),
+        Err(fault) => Err(fault),
     }
 }

@@ -1,8 +1,6 @@
 -- The steps of descent of the forms that hold further processes.
-use Rattle.std.proofs.Common.{◌≡◌, ◌&&◌, ◌-◌, zero, suc, not, refl, Option, arith, ◌+◌, max, map, ◌++◌, ℕ, ◌<◌, List, ◌∷◌, [], Result, Ok, Err, None, Some, subst, sym, ap, ◌∙◌, Bool, true, false}
+use Rattle.std.proofs.Common.{◌≡◌, ◌-◌, zero, suc, not, refl, Option, arith, max, map, ◌++◌, ℕ, List, ◌∷◌, [], Result, Ok, Err, None, Some, subst, sym, ap, ◌∙◌, Bool, true, false}
 use Rattle.std.specs.Prelude.{IfOk, MatchResult}
-use Rattle.std.specs.declared.alloc.Global.{Global}
-use Rattle.std.specs.declared.vec.Vec.{Vec}
 use Rattle.std.proofs.lemmas.List.{map-append}
 use Rattle.calculus.specs.Meaning.{pair_of, pat_written, proc_written}
 use Rattle.calculus.specs.Written.{Written}
@@ -15,21 +13,23 @@ use Rattle.grammar.specs.declared.mark.Mark.TheVariants as marks
 use Rattle.std.proofs.lemmas.Bool.{false≢true}
 use Rattle.calculus.specs.declared.plain.Kind.{Kind}
 use Rattle.rho_lexer.specs.declared.token.Token.{Token}
-use Rattle.grammar.specs.Choice.{after, choose}
-use Rattle.grammar.specs.Descent.{Outcome, read, fault, Runs, Stuck, Takes, shows, runs_sign, runs_next, runs_opens_next, runs_at, no_at, runs_last, no_memory}
+use Rattle.grammar.specs.Choice.{choose}
+use Rattle.grammar.specs.Descent.{Outcome, read, fault, Runs, Stuck, Takes, shows, runs_sign, runs_next, runs_at, no_at, runs_last, runs_under, no_under, no_memory}
 use Rattle.grammar.specs.Grammar.{rule}
 use Rattle.grammar.specs.Productions.{Prod}
-use Rattle.grammar.specs.Rules.{Bracket, Separator, Sort, Rule, done, last, next, opens_next}
+use Rattle.grammar.specs.declared.mark.Mark.{Mark}
+use Rattle.grammar.specs.Rules.{Bracket, Separator, Sort, Rule, at, last, next, sign, under}
 use Rattle.grammar.specs.Terminals.{Terminal, mark, sees}
-use Rattle.grammar.specs.Values.{Spelt, spelt}
+use Rattle.grammar.specs.Values.{Side, Spelt, spelt}
 use Rattle.token_cursor.specs.Levels.{inner_of, level_or_prefix, operand_of, sort_of, tail_of}
 use Rattle.token_cursor.specs.declared.level.Level.{Level}
 use Rattle.token_cursor.specs.declared.level.Level.TheVariants as levels
 use Rattle.syntax_forms.specs.declared.part.Part.{Part}
 use Rattle.token_cursor.specs.Meaning.{view}
 use Rattle.token_cursor.specs.Reading.{Makes, Turns, sees_bind, sees_member, pairs_written, pat_pairs_written}
-use Rattle.form_steps.proofs.Turning.{as_rule, chosen, tails}
-use Rattle.token_cursor.proofs.Steps.{comma, ends, faulty, rows}
+use Rattle.form_steps.proofs.Handed.{at_read}
+use Rattle.form_steps.proofs.Turning.{as_rule, chosen, sees_comma, tails}
+use Rattle.token_cursor.proofs.Steps.{comma, faulty}
 
 -- a tail goes on with the value that is made, unless memory runs out
 pub turned : {T : Type 0} (free : ℕ) (ts : List Terminal) (tail : Spelt → Rule) (f : T → Written) (v : Spelt) (res : Result (Part T) Fault)
@@ -38,28 +38,32 @@ pub turned : {T : Type 0} (free : ℕ) (ts : List Terminal) (tail : Spelt → Ru
 turned free ts tail f v (Ok p) e g = λ out h. tails tail v (spelt (f p.value) p.height) e g h
 turned free ts tail f v (Err d) e g = faulty d NoMemory e no_memory
 
--- a tail goes on with one more part, unless memory runs out
-pub pushes : {T : Type 0} (free : ℕ) (ts : List Terminal) (tail : List Written → ℕ → Rule) (f : T → Written) (ps : List T) (p : T) (h k : ℕ) (res : Result (Part (Vec T Global)) Fault)
-    → MatchResult res (λ r. r.value.items ≡ ps ++ (p ∷ [])) (λ e. e ≡ NoMemory) → IfOk res (λ r. r.height ≡ max h k)
-    → Turns free (tail (map f ps ++ (f p ∷ [])) (max h k)) (λ r. tail (map f r.value.items) r.height) ts res ts
-pushes free ts tail f ps p h k (Ok r) e g = λ out t. rows tail (map f ps ++ (f p ∷ [])) (map f r.value.items) (max h k) r.height (ap (map f) e ∙ map-append f ps (p ∷ [])) g t
-pushes free ts tail f ps p h k (Err d) e g = faulty d NoMemory e no_memory
+-- a tail goes on with one more tree at the end
+pub appended : {T : Type 0} (free : ℕ) (r : Rule) (ts us : List Terminal) (f : T → Written) (tail : List Written → ℕ → Rule) (xs : List T) (h : ℕ) (res : Result (Part T) Fault)
+    → Turns free r (λ p. tail (map f xs ++ (f p.value ∷ [])) (max h p.height)) ts res us
+    → Turns free r (λ p. tail (map f (xs ++ (p.value ∷ []))) (max h p.height)) ts res us
+appended {T} free r ts us f tail xs h (Ok p) t = λ out k. t out (subst (λ (qs : List Written). Runs Tutorial free (tail qs (max h p.height)) us out) (map-append f xs (p.value ∷ [])) k)
+appended free r ts us f tail xs h (Err d) t = t
 
--- a tail goes on with one more tree, unless memory runs out
-pub pushed_by : {T : Type 0} (free : ℕ) (ts : List Terminal) (tail : List Written → ℕ → Rule) (f : List T → List Written) (ps : List T) (p : Part T) (x : Written) (h k : ℕ) (res : Result (Part (Vec T Global)) Fault)
-    → f (ps ++ (p.value ∷ [])) ≡ f ps ++ (x ∷ []) → p.height ≡ k
-    → MatchResult res (λ r. r.value.items ≡ ps ++ (p.value ∷ [])) (λ e. e ≡ NoMemory) → IfOk res (λ r. r.height ≡ max h p.height)
-    → Turns free (tail (f ps ++ (x ∷ [])) (max h k)) (λ r. tail (f r.value.items) r.height) ts res ts
-pushed_by free ts tail f ps p x h k (Ok r) i j e g = λ out t. rows tail (f ps ++ (x ∷ [])) (f r.value.items) (max h k) r.height (ap f e ∙ i) (g ∙ ap (max h) j) t
-pushed_by free ts tail f ps p x h k (Err d) i j e g = faulty d NoMemory e no_memory
+-- a first constituent, and one more
+pub begun : {T : Type 0} {free : ℕ} {ts : List Terminal} (s : Sort) (us : List Terminal) (f : T → Written) (tail : List Written → ℕ → Rule) (res : Result (Part T) Fault)
+    → Makes free (rule Tutorial (choose s ts)) (λ p. spelt (f p.value) p.height) ts res us
+    → Turns free (at s (λ a. tail (a.tree ∷ []) a.height)) (λ p. tail (map f (p.value ∷ [])) p.height) ts res us
+begun s us f tail (Ok p) g = λ out h. runs_at g h
+begun s us f tail (Err d) g = no_at g
 
--- the same, tree by tree
-pub pushed_as : {T : Type 0} (free : ℕ) (ts : List Terminal) (tail : List Written → ℕ → Rule) (f : T → Written) (ps : List T) (p : Part T) (x : Written) (h k : ℕ) (res : Result (Part (Vec T Global)) Fault)
-    → f p.value ≡ x → p.height ≡ k
-    → MatchResult res (λ r. r.value.items ≡ ps ++ (p.value ∷ [])) (λ e. e ≡ NoMemory) → IfOk res (λ r. r.height ≡ max h p.height)
-    → Turns free (tail (map f ps ++ (x ∷ [])) (max h k)) (λ r. tail (map f r.value.items) r.height) ts res ts
-pushed_as free ts tail f ps p x h k res i j e g =
-    pushed_by free ts tail (map f) ps p x h k res (map-append f ps (p.value ∷ []) ∙ ap (λ y. map f ps ++ (y ∷ [])) i) j e g
+pub grown : {T : Type 0} {free : ℕ} {ts : List Terminal} (s : Sort) (us : List Terminal) (f : T → Written) (tail : List Written → ℕ → Rule) (xs : List T) (h : ℕ) (res : Result (Part T) Fault)
+    → Makes free (rule Tutorial (choose s ts)) (λ p. spelt (f p.value) p.height) ts res us
+    → Turns free (at s (λ a. tail (map f xs ++ (a.tree ∷ [])) (max h a.height))) (λ p. tail (map f (xs ++ (p.value ∷ []))) (max h p.height)) ts res us
+grown {T} {free} {ts} s us f tail xs h res g = appended free (at s (λ a. tail (map f xs ++ (a.tree ∷ [])) (max h a.height))) ts us f tail xs h res (at_read s us (λ p. spelt (f p.value) p.height) (λ a. tail (map f xs ++ (a.tree ∷ [])) (max h a.height)) res g)
+
+-- a value after its key, in one more pair
+pub pair_grown : {T : Type 0} {ts : List Terminal} (free : ℕ) (s : Sort) (us : List Terminal) (f : T → Written) (of : List (T × T) → List Written) (tail : List Written → ℕ → Rule) (xs : List (T × T)) (h : ℕ) (key : Part T) (res : Result (Part T) Fault)
+    → ((v : T) → of (xs ++ ((key.value, v) ∷ [])) ≡ of xs ++ (pair_of (f key.value, f v) ∷ []))
+    → Makes (free - 1) (rule Tutorial (choose s ts)) (λ p. spelt (f p.value) p.height) ts res us
+    → Turns free (under s (λ v. tail (of xs ++ (pair_of (f key.value, v.tree) ∷ [])) (max h (max key.height v.height)))) (λ v. tail (of (xs ++ ((key.value, v.value) ∷ []))) (max h (max key.height v.height))) ts res us
+pair_grown {T} {ts} free s us f of tail xs h key (Ok v) e g = λ out k. runs_under g (subst (λ (qs : List Written). Runs Tutorial free (tail qs (max h (max key.height v.height))) us out) (e v.value) k)
+pair_grown free s us f of tail xs h key (Err d) e g = no_under g
 
 -- pairs, and one more of them
 pub pairs_pushed : (ps : List (Proc × Proc)) (p : Proc × Proc) (a b : Proc) → p ≡ (a, b) → pairs_written (ps ++ (p ∷ [])) ≡ pairs_written ps ++ (pair_of (proc_written a, proc_written b) ∷ [])
@@ -78,13 +82,6 @@ not_true true e = absurd (false≢true e)
 
 member_next : {ts us : List Terminal} → sees_member ts ≡ true → Takes marks.Comma ts us → sees marks.Ellipsis us ≡ false
 member_next {ts} {us} m t = not_true (sees marks.Ellipsis us) (sym (comma t) ∙ m)
-
-sees_comma : (ts : List Terminal) → sees_member ts ≡ true → sees marks.Comma ts ≡ true
-sees_comma ts m = first (sees marks.Comma ts) (not (sees marks.Ellipsis (after ts))) m
-  where
-    first : (x y : Bool) → (x && y) ≡ true → x ≡ true
-    first true y e = refl
-    first false y e = absurd (false≢true e)
 
 -- where a member follows a comma, the comma isn't missing
 pub no_comma : {free : ℕ} {r : Rule} {ts us : List Terminal} {e : Fault} → sees_member ts ≡ true → Stuck (sees marks.Comma ts) ts e us → Runs Tutorial free r ts (fault e us)
@@ -172,6 +169,19 @@ level_as {free} {ts} {out} l o e h = subst (λ (x : Option Level). Runs Tutorial
 -- the terminals are the same
 pub unmoved : {free : ℕ} {r : Rule} {ts us : List Terminal} {out : Outcome} → us ≡ ts → Runs Tutorial free r us out → Runs Tutorial free r ts out
 unmoved {free} {r} {ts} {us} {out} e h = subst (λ (x : List Terminal). Runs Tutorial free r x out) e h
+
+-- the same of a sort
+pub unmoved_tail : {free : ℕ} {ts us : List Terminal} {out : Outcome} (s : Sort) → us ≡ ts → Runs Tutorial free (rule Tutorial (choose s us)) us out → Runs Tutorial free (rule Tutorial (choose s ts)) ts out
+unmoved_tail {free} {ts} {us} {out} s e h = subst (λ (x : List Terminal). Runs Tutorial free (rule Tutorial (choose s x)) x out) e h
+
+-- a mark is this one
+pub signed : {free : ℕ} {r : Rule} {us : List Terminal} {out : Outcome} {m n : Mark} → m ≡ n → Runs Tutorial free (sign m r) us out → Runs Tutorial free (sign n r) us out
+signed {free} {r} {us} {out} e h = subst (λ (k : Mark). Runs Tutorial free (sign k r) us out) e h
+
+-- no further member, and nothing was taken
+pub row_ends : {free : ℕ} {ts us : List Terminal} {out : Outcome} (side : Side) (b : Bracket) (ps : List Written) (h : ℕ) → sees marks.Comma ts ≡ false → us ≡ ts
+    → Runs Tutorial free (rule Tutorial (Prod.row_end side b ps h)) us out → Runs Tutorial free (rule Tutorial (choose (Sort.RowTail side b ps h) ts)) ts out
+row_ends side b ps h e m r = rw e (unmoved m r)
 
 -- what comes last is read by its own production
 pub unlast : {free : ℕ} {s : Sort} {ts : List Terminal} {out : Outcome} → Runs Tutorial free (last s) ts out → Runs Tutorial free (rule Tutorial (choose s ts)) ts out

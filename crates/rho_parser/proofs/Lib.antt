@@ -1,6 +1,6 @@
 mod Cycle
 mod Ends
 mod Lengths
-mod Patterns
 mod Processes
+mod Remains
 mod Wholes

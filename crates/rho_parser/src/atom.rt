@@ -12,7 +12,10 @@ ghost use Rattle.std.specs.Prelude.{◌<◌, ◌≤◌, IfOk, MatchResult, lengt
 use crate::parser::Parser;
 use calculus::{Name, Proc};
 use form_steps::step::ProcessStep;
-use form_steps::{begin_atom, dropped_quote, members, plain_process, skip};
+use form_steps::{
+    begin_atom, closing_mark, dropped_quote, first_of, members, one_more, paired, plain_process,
+    skip, then_mark,
+};
 use grammar::{Fault, Mark};
 use token_cursor::part::{Bracket, Part};
 use token_cursor::{parts, process_forms};
@@ -28,7 +31,7 @@ impl<'a> Parser<'a> {
         match begin_atom(&mut self.cursor, free) {
             Ok(ProcessStep::Plain(plain)) => plain_process(&mut self.cursor, plain),
             Ok(ProcessStep::Dropped) => {
-                let quoted = self.drop_form(free - 1)?;
+                let quoted = self.drop_form(free - 1);
                 dropped_quote(self.cursor.alloc, quoted)
             }
             Ok(ProcessStep::Group) => {
@@ -40,8 +43,8 @@ impl<'a> Parser<'a> {
                 self.block(first, free)
             }
             Ok(ProcessStep::Members(bracket)) => {
-                let row = self.row(bracket, free - 1)?;
-                Ok(members(bracket, row))
+                let row = self.row(bracket, free - 1);
+                members(bracket, row)
             }
             Err(fault) => Err(fault),
         }
@@ -90,11 +93,8 @@ impl<'a> Parser<'a> {
         if !skip(&mut self.cursor, Mark::Colon) {
             return self.cursor.brace_close(inner);
         }
-        let value = match self.par(free - 1) {
-            Ok(value) => value,
-            Err(fault) => return parts::give_up(inner, fault),
-        };
-        let mut pairs = parts::start(self.cursor.alloc, parts::pair(inner, value))?;
+        let pair = paired(inner, self.par(free - 1));
+        let mut pairs = first_of(self.cursor.alloc, pair)?;
         while self.cursor.sees(Mark::Comma) {
             pairs = self.next_pair(pairs, free)?;
         }
@@ -114,15 +114,10 @@ impl<'a> Parser<'a> {
         ensures shorter { MatchResult result (λ _. length self.new.cursor.rest.now < length self.old.cursor.rest.now) (λ _. length self.new.cursor.rest.now ≤ length self.old.cursor.rest.now) }
     {
         self.cursor.expect(Mark::Comma)?;
-        let key = self.par(free - 1)?;
-        match self.cursor.expect(Mark::Colon) {
-            Ok(()) => {}
-            Err(fault) => return parts::give_up(key, fault),
-        }
-        match self.par(free - 1) {
-            Ok(value) => parts::push(pairs, parts::pair(key, value)),
-            Err(fault) => parts::give_up(key, fault),
-        }
+        let found = self.par(free - 1);
+        let key = then_mark(&mut self.cursor, found, Mark::Colon)?;
+        let pair = paired(key, self.par(free - 1));
+        one_more(pairs, pair)
     }
 
     /// Row ::= [ Par { "," Par } ], and the sign that closes it
@@ -135,14 +130,12 @@ impl<'a> Parser<'a> {
         if self.cursor.sees_closing(bracket) {
             return self.cursor.row_none(bracket);
         }
-        let first = self.par(free)?;
-        let mut members = parts::start(self.cursor.alloc, first)?;
-        while self.cursor.sees(Mark::Comma) {
-            self.cursor.expect(Mark::Comma)?;
-            let next = self.par(free)?;
-            members = parts::push(members, next)?;
+        let first = self.par(free);
+        let mut members = first_of(self.cursor.alloc, first)?;
+        'each: while skip(&mut self.cursor, Mark::Comma) {
+            let next = self.par(free);
+            members = one_more(members, next)?;
         }
-        self.cursor.expect_closing(bracket)?;
-        Ok(members)
+        then_mark(&mut self.cursor, Ok(members), closing_mark(bracket))
     }
 }

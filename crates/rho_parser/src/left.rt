@@ -11,9 +11,9 @@ ghost use Rattle.std.specs.Prelude.{◌≡◌, ◌<◌, ◌≤◌, IfOk, MatchRe
 
 use crate::parser::Parser;
 use calculus::NamePat;
-use grammar::{Fault, Mark};
+use form_steps::{first_of, one_more, skip_comma};
+use grammar::Fault;
 use token_cursor::part::{Left, Part};
-use token_cursor::parts;
 
 impl<'a> Parser<'a> {
     /// Left ::= [ PName { "," PName } ] [ [","] "..." "@" ( Word | "_" ) ], with the comma only after a PName
@@ -26,12 +26,11 @@ impl<'a> Parser<'a> {
         if !self.cursor.sees_name_pattern() {
             return self.cursor.left_alone();
         }
-        let first = self.pattern_name(free)?;
-        let mut pats = parts::start(self.cursor.alloc, first)?;
-        while self.cursor.sees_member() {
-            self.cursor.expect(Mark::Comma)?;
-            let next = self.pattern_name(free)?;
-            pats = parts::push(pats, next)?;
+        let first = self.pattern_name(free);
+        let mut pats = first_of(self.cursor.alloc, first)?;
+        'each: while skip_comma(&mut self.cursor) {
+            let next = self.pattern_name(free);
+            pats = one_more(pats, next)?;
         }
         self.cursor.left_end(pats)
     }

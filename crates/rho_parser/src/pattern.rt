@@ -16,7 +16,8 @@ use calculus::{NamePat, Pat};
 use form_steps::step::{PartStep, PatternStep, Sending};
 use form_steps::{
     begin_any_send, begin_part, begin_pattern, begin_send_pattern, close_bundle_pattern,
-    close_same, member_patterns, plain_pattern, quoted_send_pattern,
+    close_same, first_of, member_patterns, negated, one_more, plain_pattern, quoted_send_pattern,
+    skip,
 };
 use grammar::{Fault, Mark};
 use token_cursor::part::{Bracket, Part};
@@ -30,12 +31,11 @@ impl<'a> Parser<'a> {
         ensures room { IfOk result (λ p. p.height ≤ free) }
         ensures shorter { length self.new.cursor.rest.now ≤ length self.old.cursor.rest.now }
     {
-        let first = self.pattern_one(free)?;
-        let mut parts = parts::start(self.cursor.alloc, first)?;
-        while self.cursor.sees(Mark::Bar) {
-            self.cursor.expect(Mark::Bar)?;
-            let next = self.pattern_one(free)?;
-            parts = parts::push(parts, next)?;
+        let first = self.pattern_one(free);
+        let mut parts = first_of(self.cursor.alloc, first)?;
+        'each: while skip(&mut self.cursor, Mark::Bar) {
+            let next = self.pattern_one(free);
+            parts = one_more(parts, next)?;
         }
         Ok(pattern_forms::composed_pat(parts))
     }
@@ -50,11 +50,11 @@ impl<'a> Parser<'a> {
         match begin_part(&mut self.cursor, free) {
             Ok(PartStep::Form(key)) => closed_form(self.cursor.alloc, self.form(key, free)),
             Ok(PartStep::Bundle(rights)) => {
-                let body = self.pattern_par(free - 1)?;
+                let body = self.pattern_par(free - 1);
                 close_bundle_pattern(&mut self.cursor, rights, body)
             }
             Ok(PartStep::Quoted) => {
-                let quoted = self.pattern_alternative(free - 1)?;
+                let quoted = self.pattern_alternative(free - 1);
                 let channel = quoted_send_pattern(&mut self.cursor, quoted)?;
                 self.pattern_sent(channel, free)
             }
@@ -139,11 +139,11 @@ impl<'a> Parser<'a> {
         match begin_pattern(&mut self.cursor, free) {
             Ok(PatternStep::Plain(plain)) => plain_pattern(&mut self.cursor, plain),
             Ok(PatternStep::Not) => {
-                let arg = self.pattern_not(free - 1)?;
-                pattern_forms::not_pat(self.cursor.alloc, arg)
+                let arg = self.pattern_not(free - 1);
+                negated(self.cursor.alloc, arg)
             }
             Ok(PatternStep::Same) => {
-                let body = self.par(free - 1)?;
+                let body = self.par(free - 1);
                 close_same(&mut self.cursor, body)
             }
             Ok(PatternStep::Group) => {
@@ -155,8 +155,8 @@ impl<'a> Parser<'a> {
                 self.pattern_block(first, free)
             }
             Ok(PatternStep::Members(bracket)) => {
-                let sequence = self.pattern_sequence(bracket, free - 1)?;
-                Ok(member_patterns(bracket, sequence))
+                let sequence = self.pattern_sequence(bracket, free - 1);
+                member_patterns(bracket, sequence)
             }
             Err(fault) => Err(fault),
         }

@@ -12,7 +12,7 @@ ghost use Rattle.std.specs.Prelude.{◌≡◌, ◌<◌, ◌≤◌, IfOk, MatchRe
 
 use crate::parser::Parser;
 use calculus::Pat;
-use form_steps::skip;
+use form_steps::{closing_mark, first_of, one_more, paired, skip, skip_comma, then_mark};
 use grammar::{Fault, Mark};
 use token_cursor::part::{Bracket, Part, Sequence};
 use token_cursor::{parts, pattern_forms};
@@ -45,15 +45,13 @@ impl<'a> Parser<'a> {
         if self.cursor.sees_closing(bracket) {
             return self.cursor.pattern_row_none(bracket);
         }
-        let first = self.pattern_par(free)?;
-        let mut members = parts::start(self.cursor.alloc, first)?;
-        while self.cursor.sees(Mark::Comma) {
-            self.cursor.expect(Mark::Comma)?;
-            let next = self.pattern_par(free)?;
-            members = parts::push(members, next)?;
+        let first = self.pattern_par(free);
+        let mut members = first_of(self.cursor.alloc, first)?;
+        'each: while skip(&mut self.cursor, Mark::Comma) {
+            let next = self.pattern_par(free);
+            members = one_more(members, next)?;
         }
-        self.cursor.expect_closing(bracket)?;
-        Ok(members)
+        then_mark(&mut self.cursor, Ok(members), closing_mark(bracket))
     }
 
     /// PSeq ::= [ PPar { "," PPar } ] [ [","] "..." ( Word | "_" ) ], with the comma only after a PPar, and the
@@ -70,12 +68,11 @@ impl<'a> Parser<'a> {
         if self.cursor.sees(Mark::Ellipsis) {
             return self.cursor.sequence_only_rest(bracket);
         }
-        let first = self.pattern_par(free)?;
-        let mut pats = parts::start(self.cursor.alloc, first)?;
-        while self.cursor.sees_member() {
-            self.cursor.expect(Mark::Comma)?;
-            let next = self.pattern_par(free)?;
-            pats = parts::push(pats, next)?;
+        let first = self.pattern_par(free);
+        let mut pats = first_of(self.cursor.alloc, first)?;
+        'each: while skip_comma(&mut self.cursor) {
+            let next = self.pattern_par(free);
+            pats = one_more(pats, next)?;
         }
         self.cursor.sequence_end(bracket, pats)
     }
@@ -91,12 +88,8 @@ impl<'a> Parser<'a> {
         if !skip(&mut self.cursor, Mark::Colon) {
             return self.cursor.pattern_brace_close(first);
         }
-        let value = match self.pattern_par(free - 1) {
-            Ok(value) => value,
-            Err(fault) => return parts::give_up(first, fault),
-        };
-        let pair = parts::pair(first, value);
-        let mut pairs = parts::start(self.cursor.alloc, pair)?;
+        let pair = paired(first, self.pattern_par(free - 1));
+        let mut pairs = first_of(self.cursor.alloc, pair)?;
         while self.cursor.sees_member() {
             pairs = self.pattern_pairs_more(pairs, free)?;
         }
@@ -117,16 +110,9 @@ impl<'a> Parser<'a> {
         ensures shorter { MatchResult result (λ _. length self.new.cursor.rest.now < length self.old.cursor.rest.now) (λ _. length self.new.cursor.rest.now ≤ length self.old.cursor.rest.now) }
     {
         self.cursor.expect(Mark::Comma)?;
-        let key = self.pattern_par(free - 1)?;
-        match self.cursor.expect(Mark::Colon) {
-            Ok(()) => {}
-            Err(fault) => return parts::give_up(key, fault),
-        }
-        let value = match self.pattern_par(free - 1) {
-            Ok(value) => value,
-            Err(fault) => return parts::give_up(key, fault),
-        };
-        let pair = parts::pair(key, value);
-        parts::push(pairs, pair)
+        let found = self.pattern_par(free - 1);
+        let key = then_mark(&mut self.cursor, found, Mark::Colon)?;
+        let pair = paired(key, self.pattern_par(free - 1));
+        one_more(pairs, pair)
     }
 }

@@ -13,7 +13,10 @@ ghost use Rattle.std.specs.Prelude.{◌≡◌, ◌<◌, ◌≤◌, IfOk, MatchRe
 use crate::parser::Parser;
 use calculus::{Name, Proc};
 use form_steps::step::{FormKey, Sending, TermStep};
-use form_steps::{begin_send, begin_term, close_bundle, leading_form, quoted_send};
+use form_steps::{
+    begin_send, begin_term, both, close_bundle, first_of, leading_form, one_more, quoted_send,
+    skip, then_mark,
+};
 use grammar::{Fault, Mark};
 use token_cursor::part::{Bracket, Part};
 use token_cursor::{Level, parts, process_forms};
@@ -26,12 +29,11 @@ impl<'a> Parser<'a> {
         ensures room { IfOk result (λ p. p.height ≤ free) }
         ensures shorter { length self.new.cursor.rest.now ≤ length self.old.cursor.rest.now }
     {
-        let first = self.one(free)?;
-        let mut parts = parts::start(self.cursor.alloc, first)?;
-        while self.cursor.sees(Mark::Bar) {
-            self.cursor.expect(Mark::Bar)?;
-            let next = self.one(free)?;
-            parts = parts::push(parts, next)?;
+        let first = self.one(free);
+        let mut parts = first_of(self.cursor.alloc, first)?;
+        'each: while skip(&mut self.cursor, Mark::Bar) {
+            let next = self.one(free);
+            parts = one_more(parts, next)?;
         }
         Ok(process_forms::composed(parts))
     }
@@ -88,26 +90,14 @@ impl<'a> Parser<'a> {
     {
         self.cursor.opens(Mark::If, 0, free)?;
         self.cursor.expect(Mark::Open)?;
-        let condition = self.par(free - 1)?;
-        match self.cursor.expect(Mark::Close) {
-            Ok(()) => {}
-            Err(fault) => return parts::give_up(condition, fault),
+        let condition = self.par(free - 1);
+        let test = then_mark(&mut self.cursor, condition, Mark::Close)?;
+        let arms = both(test, self.two(free - 1))?;
+        if !skip(&mut self.cursor, Mark::Else) {
+            return process_forms::if_only(self.cursor.alloc, arms.0, arms.1);
         }
-        let yes = match self.two(free - 1) {
-            Ok(yes) => yes,
-            Err(fault) => return parts::give_up(condition, fault),
-        };
-        if !self.cursor.sees(Mark::Else) {
-            return process_forms::if_only(self.cursor.alloc, condition, yes);
-        }
-        match self.cursor.expect(Mark::Else) {
-            Ok(()) => {}
-            Err(fault) => return parts::give_up((condition, yes), fault),
-        }
-        match self.one(free - 1) {
-            Ok(no) => process_forms::choice(self.cursor.alloc, condition, yes, no),
-            Err(fault) => parts::give_up((condition, yes), fault),
-        }
+        let all = both(arms, self.one(free - 1))?;
+        process_forms::choice(self.cursor.alloc, all.0.0, all.0.1, all.1)
     }
 
     /// Contract ::= "contract" Name "(" Left ")" "=" One
@@ -118,13 +108,13 @@ impl<'a> Parser<'a> {
         ensures shorter { length self.new.cursor.rest.now ≤ length self.old.cursor.rest.now }
     {
         self.cursor.opens(Mark::Contract, 0, free)?;
-        let name = self.name(free - 1)?;
-        self.cursor.expect(Mark::Open)?;
-        let left = self.left(free - 1)?;
-        self.cursor.expect(Mark::Close)?;
-        self.cursor.expect(Mark::Assign)?;
-        let body = self.one(free - 1)?;
-        process_forms::contract(self.cursor.alloc, name, left, body)
+        let channel = self.name(free - 1);
+        let name = then_mark(&mut self.cursor, channel, Mark::Open)?;
+        let left = self.left(free - 1);
+        let closed = then_mark(&mut self.cursor, both(name, left), Mark::Close);
+        let head = then_mark(&mut self.cursor, closed, Mark::Assign)?;
+        let all = both(head, self.one(free - 1))?;
+        process_forms::contract(self.cursor.alloc, all.0.0, all.0.1, all.1)
     }
 
     /// Two ::= For | Match | Bundle | Name ( "!" | "!!" ) "(" [ Par { "," Par } ] ")" | Or
@@ -137,11 +127,11 @@ impl<'a> Parser<'a> {
         match begin_term(&mut self.cursor, free) {
             Ok(TermStep::Form(key)) => self.form(key, free),
             Ok(TermStep::Bundle(rights)) => {
-                let body = self.par(free - 1)?;
+                let body = self.par(free - 1);
                 close_bundle(&mut self.cursor, rights, body)
             }
             Ok(TermStep::Quoted) => {
-                let quoted = self.drop_form(free - 1)?;
+                let quoted = self.drop_form(free - 1);
                 let channel = quoted_send(&mut self.cursor, quoted)?;
                 self.sent(channel, free)
             }

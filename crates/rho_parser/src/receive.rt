@@ -12,7 +12,9 @@ ghost use Rattle.std.specs.Prelude.{◌<◌, ◌≤◌, IfOk, MatchResult, ℕ, 
 
 use crate::parser::Parser;
 use calculus::{Bind, Case, Kind, Proc};
-use form_steps::{next_separator, skip};
+use form_steps::{
+    arrow_mark, both, bound, cased, first_of, next_separator, one_more, skip, then_mark,
+};
 use grammar::{Fault, Mark};
 use token_cursor::part::{Left, Part, Separator};
 use token_cursor::{Level, parts, process_forms};
@@ -27,12 +29,12 @@ impl<'a> Parser<'a> {
     {
         self.cursor.opens(Mark::For, 0, free)?;
         self.cursor.expect(Mark::Open)?;
-        let left = self.left(free - 1)?;
+        let pats = self.left(free - 1);
         let kind = self.cursor.arrow();
-        self.cursor.expect_arrow(kind)?;
-        let channel = self.name(free - 1)?;
-        let first = parts::start(self.cursor.alloc, process_forms::bind(left, channel))?;
+        let left = then_mark(&mut self.cursor, pats, arrow_mark(kind))?;
+        let bind = bound(left, self.name(free - 1));
         let separator = next_separator(&self.cursor);
+        let first = first_of(self.cursor.alloc, bind)?;
         self.binds_tail(kind, separator, 15, first, free)
     }
 
@@ -53,19 +55,17 @@ impl<'a> Parser<'a> {
     {
         if self.cursor.sees_bind(separator, more) {
             self.cursor.expect_separator(separator)?;
-            let left = self.left(free - 1)?;
-            self.cursor.expect_arrow(kind)?;
-            let channel = self.name(free - 1)?;
-            let all = parts::push(binds, process_forms::bind(left, channel))?;
+            let pats = self.left(free - 1);
+            let left = then_mark(&mut self.cursor, pats, arrow_mark(kind))?;
+            let bind = bound(left, self.name(free - 1));
+            let all = one_more(binds, bind)?;
             return self.binds_tail(kind, separator, more - 1, all, free);
         }
-        self.cursor.expect(Mark::Close)?;
-        self.cursor.expect(Mark::OpenBrace)?;
-        let body = self.par(free - 1)?;
-        match self.cursor.expect(Mark::CloseBrace) {
-            Ok(()) => process_forms::receive(self.cursor.alloc, kind, binds, body),
-            Err(fault) => parts::give_up(body, fault),
-        }
+        let closed = then_mark(&mut self.cursor, Ok(binds), Mark::Close);
+        let head = then_mark(&mut self.cursor, closed, Mark::OpenBrace)?;
+        let body = self.par(free - 1);
+        let whole = then_mark(&mut self.cursor, both(head, body), Mark::CloseBrace)?;
+        process_forms::receive(self.cursor.alloc, kind, whole.0, whole.1)
     }
 
     /// Match ::= "match" Or "{" Case { Case } "}"
@@ -76,11 +76,8 @@ impl<'a> Parser<'a> {
         ensures shorter { length self.new.cursor.rest.now ≤ length self.old.cursor.rest.now }
     {
         self.cursor.opens(Mark::Match, 0, free)?;
-        let target = self.level(Some(Level::Or), free - 1)?;
-        match self.cursor.expect(Mark::OpenBrace) {
-            Ok(()) => {}
-            Err(fault) => return parts::give_up(target, fault),
-        }
+        let value = self.level(Some(Level::Or), free - 1);
+        let target = then_mark(&mut self.cursor, value, Mark::OpenBrace)?;
         let mut cases = process_forms::no_cases(self.cursor.alloc, target.height);
         'each: loop {
             cases = match self.case(cases, free) {
@@ -102,14 +99,9 @@ impl<'a> Parser<'a> {
         ensures shorter { MatchResult result (λ _. length self.new.cursor.rest.now < length self.old.cursor.rest.now) (λ _. length self.new.cursor.rest.now ≤ length self.old.cursor.rest.now) }
     {
         self.cursor.refuse_minus()?;
-        let pattern = self.pattern_one(free - 1)?;
-        match self.cursor.expect(Mark::FatArrow) {
-            Ok(()) => {}
-            Err(fault) => return parts::give_up(pattern, fault),
-        }
-        match self.one(free - 1) {
-            Ok(body) => parts::push(cases, process_forms::case(pattern, body)),
-            Err(fault) => parts::give_up(pattern, fault),
-        }
+        let found = self.pattern_one(free - 1);
+        let pattern = then_mark(&mut self.cursor, found, Mark::FatArrow)?;
+        let case = cased(pattern, self.one(free - 1));
+        one_more(cases, case)
     }
 }

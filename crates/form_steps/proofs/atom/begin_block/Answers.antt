@@ -1,8 +1,7 @@
 use Rattle.grammar.specs.Descent.{no_opens, runs_last, runs_opens}
-use Rattle.grammar.specs.Terminals.{sees}
 use Rattle.form_steps.specs.Steps.{after_process_step}
 use Rattle.token_cursor.proofs.Steps.{leave}
-use Rattle.std.proofs.Common.{false, sym, true, ◌∙◌}
+use Rattle.std.proofs.Common.{sym, ◌∙◌}
 use Rattle.form_steps.proofs.atom.begin_block.Goals as goal
 
 pub returns-in_err-opens-clause-reads : goal.returns-in_err-opens-clause-reads

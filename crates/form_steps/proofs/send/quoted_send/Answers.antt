@@ -1,18 +1,16 @@
-use Rattle.grammar.specs.Descent.{no_sign, runs_sign}
-use Rattle.grammar.specs.Values.{processes}
+use Rattle.calculus.specs.Meaning.{proc_written}
+use Rattle.grammar.specs.Rules.{Sort, last}
+use Rattle.grammar.specs.Values.{processes, quote_of, spelt}
 use Rattle.form_steps.specs.Parts.{after_channel}
-use Rattle.form_steps.proofs.Turning.{forgets, sent_after, sent_tail_as}
-use Rattle.token_cursor.proofs.Steps.{leave, turns_back}
+use Rattle.form_steps.proofs.Handed.{as_fault, as_read, channel_room, if_read, resume}
+use Rattle.std.proofs.Common.{◌<◌}
 use Rattle.form_steps.proofs.send.quoted_send.Goals as goal
 
-pub returns-in_err-channel-clause-reads : goal.returns-in_err-channel-clause-reads
-returns-in_err-channel-clause-reads c = λ free. leave after_channel _ _ c.from_residual.ensures.1 (forgets _ c.in_err-channel.ensures.tree)
+pub returns-in-Ok-clause-reads : goal.returns-in-Ok-clause-reads
+returns-in-Ok-clause-reads c = λ free r ts t. resume _ after_channel _ (as_read (λ p. last (Sort.SentTail processes (spelt (quote_of (proc_written p.value)) p.height))) _ c.in-Ok.is t) (c.send_on.ensures.reads free)
+
+pub returns-in-Ok-clause-room : goal.returns-in-Ok-clause-room
+returns-in-Ok-clause-room c = λ n h. channel_room _ c.send_on.ensures.height (if_read (λ p. p.height < n) _ c.in-Ok.is h)
 
 pub returns-in-Err-clause-reads : goal.returns-in-Err-clause-reads
-returns-in-Err-clause-reads c = λ free. turns_back after_channel _ _ c.give_up.ensures (sent_after _ _ c.in_ok-channel.ensures.tree c.in_ok-channel.ensures.height (sent_tail_as processes _ _ c.sees-persistent.ensures (no_sign c.in-Err.ensures.reads)))
-
-pub returns-in-Err-expect-clause-reads : goal.returns-in-Err-expect-clause-reads
-returns-in-Err-expect-clause-reads c = λ free. turns_back after_channel _ _ c.give_up-in-Err-expect.ensures (sent_after _ _ c.in_ok-channel.ensures.tree c.in_ok-channel.ensures.height (sent_tail_as processes _ _ c.sees-persistent.ensures (runs_sign c.in-Ok.ensures.reads (no_sign c.in-Err-expect.ensures.reads))))
-
-pub returns-in-Ok-expect-clause-reads : goal.returns-in-Ok-expect-clause-reads
-returns-in-Ok-expect-clause-reads c = λ free out h. sent_after _ _ c.in_ok-channel.ensures.tree c.in_ok-channel.ensures.height (sent_tail_as processes _ _ c.sees-persistent.ensures (runs_sign c.in-Ok.ensures.reads (runs_sign c.in-Ok-expect.ensures.reads (h))))
+returns-in-Err-clause-reads c = λ free r ts t. as_fault (λ p. last (Sort.SentTail processes (spelt (quote_of (proc_written p.value)) p.height))) _ c.in-Err.is t

@@ -1,16 +1,15 @@
 use Rattle.calculus.specs.Meaning.{case_written, name_pat_written, pat_written, proc_written}
-use Rattle.calculus.specs.Written.{Written}
 use Rattle.grammar.specs.Choice.{choose}
 use Rattle.grammar.specs.Descent.{Outcome, Runs}
 use Rattle.grammar.specs.Grammar.{rule}
 use Rattle.grammar.specs.Productions.{Prod}
 use Rattle.grammar.specs.Rules.{Sort, last}
-use Rattle.grammar.specs.Values.{patterns, processes, spelt}
+use Rattle.grammar.specs.Values.{patterns, processes}
 use Rattle.grammar.specs.declared.dialect.Dialect.TheVariants.{Tutorial}
 use Rattle.token_cursor.specs.Levels.{levels_below, sort_of, tail_of}
 use Rattle.token_cursor.specs.Meaning.{view}
 use Rattle.token_cursor.specs.Reading.{bracket_of, of_pat, of_proc, pairs_written, pat_pairs_written}
-use Rattle.std.proofs.Common.{[], length, map, ◌*◌, ◌+◌, ◌<◌, ◌≤◌}
+use Rattle.std.proofs.Common.{length, map, ◌*◌, ◌+◌, ◌<◌, ◌≤◌}
 use Rattle.rho_parser.proofs.parser.Parser.+parse.Given as goal
 
 abbrev pub decreases-binds_tail : goal.decreases-binds_tail
@@ -46,8 +45,8 @@ decreases-if_form l = 128 * length l.self.now.cursor.rest.now + 34
 abbrev pub decreases-left : goal.decreases-left
 decreases-left l = 128 * length l.self.now.cursor.rest.now + 95
 
-abbrev pub decreases-left-loop-self : goal.decreases-left-loop-self
-decreases-left-loop-self l = length l.self.cursor.rest.now
+abbrev pub decreases-left-each : goal.decreases-left-each
+decreases-left-each l = length l.self.cursor.rest.now
 
 abbrev pub decreases-level : goal.decreases-level
 decreases-level l = 128 * length l.self.now.cursor.rest.now + (22 + 2 * levels_below l.within)
@@ -82,8 +81,8 @@ decreases-one l = 128 * length l.self.now.cursor.rest.now + 37
 abbrev pub decreases-par : goal.decreases-par
 decreases-par l = 128 * length l.self.now.cursor.rest.now + 38
 
-abbrev pub decreases-par-loop-self : goal.decreases-par-loop-self
-decreases-par-loop-self l = length l.self.cursor.rest.now
+abbrev pub decreases-par-each : goal.decreases-par-each
+decreases-par-each l = length l.self.cursor.rest.now
 
 abbrev pub decreases-pattern_alternative : goal.decreases-pattern_alternative
 decreases-pattern_alternative l = 128 * length l.self.now.cursor.rest.now + 70
@@ -121,14 +120,14 @@ decreases-pattern_pairs_more l = 128 * length l.self.now.cursor.rest.now + 86
 abbrev pub decreases-pattern_par : goal.decreases-pattern_par
 decreases-pattern_par l = 128 * length l.self.now.cursor.rest.now + 80
 
-abbrev pub decreases-pattern_par-loop-self : goal.decreases-pattern_par-loop-self
-decreases-pattern_par-loop-self l = length l.self.cursor.rest.now
+abbrev pub decreases-pattern_par-each : goal.decreases-pattern_par-each
+decreases-pattern_par-each l = length l.self.cursor.rest.now
 
 abbrev pub decreases-pattern_row : goal.decreases-pattern_row
 decreases-pattern_row l = 128 * length l.self.now.cursor.rest.now + 90
 
-abbrev pub decreases-pattern_row-loop-self : goal.decreases-pattern_row-loop-self
-decreases-pattern_row-loop-self l = length l.self.cursor.rest.now
+abbrev pub decreases-pattern_row-each : goal.decreases-pattern_row-each
+decreases-pattern_row-each l = length l.self.cursor.rest.now
 
 abbrev pub decreases-pattern_sent : goal.decreases-pattern_sent
 decreases-pattern_sent l = 128 * length l.self.now.cursor.rest.now + 91
@@ -136,8 +135,8 @@ decreases-pattern_sent l = 128 * length l.self.now.cursor.rest.now + 91
 abbrev pub decreases-pattern_sequence : goal.decreases-pattern_sequence
 decreases-pattern_sequence l = 128 * length l.self.now.cursor.rest.now + 90
 
-abbrev pub decreases-pattern_sequence-loop-self : goal.decreases-pattern_sequence-loop-self
-decreases-pattern_sequence-loop-self l = length l.self.cursor.rest.now
+abbrev pub decreases-pattern_sequence-each : goal.decreases-pattern_sequence-each
+decreases-pattern_sequence-each l = length l.self.cursor.rest.now
 
 abbrev pub decreases-pre : goal.decreases-pre
 decreases-pre l = 128 * length l.self.now.cursor.rest.now + 21
@@ -145,8 +144,8 @@ decreases-pre l = 128 * length l.self.now.cursor.rest.now + 21
 abbrev pub decreases-row : goal.decreases-row
 decreases-row l = 128 * length l.self.now.cursor.rest.now + 40
 
-abbrev pub decreases-row-loop-self : goal.decreases-row-loop-self
-decreases-row-loop-self l = length l.self.cursor.rest.now
+abbrev pub decreases-row-each : goal.decreases-row-each
+decreases-row-each l = length l.self.cursor.rest.now
 
 abbrev pub decreases-sent : goal.decreases-sent
 decreases-sent l = 128 * length l.self.now.cursor.rest.now + 41
@@ -161,8 +160,8 @@ invariant-block-loop-self l = record {
   shorter : length l.self.cursor.rest.now ≤ length l.fn.self.cursor.rest.now;
 }
 
-abbrev pub invariant-left-loop-self : goal.invariant-left-loop-self
-invariant-left-loop-self l = record {
+abbrev pub invariant-left-each : goal.invariant-left-each
+invariant-left-each l = record {
   turns : (out : Outcome) → Runs Tutorial l.free (last (Sort.LeftTail (map name_pat_written l.pats.value.items) l.pats.height)) (view l.self.cursor.rest.now) out → Runs Tutorial l.free (rule Tutorial Prod.left_some) (view l.fn.self.cursor.rest.now) out;
   room : l.pats.height ≤ l.free;
   shorter : length l.self.cursor.rest.now ≤ length l.fn.self.cursor.rest.now;
@@ -189,8 +188,8 @@ invariant-meth-calls l = record {
   shorter : length l.self.cursor.rest.now ≤ length l.fn.self.cursor.rest.now;
 }
 
-abbrev pub invariant-par-loop-self : goal.invariant-par-loop-self
-invariant-par-loop-self l = record {
+abbrev pub invariant-par-each : goal.invariant-par-each
+invariant-par-each l = record {
   turns : (out : Outcome) → Runs Tutorial l.free (last (Sort.ParTail processes (map proc_written l.parts.value.items) l.parts.height)) (view l.self.cursor.rest.now) out → Runs Tutorial l.free (rule Tutorial (Prod.par processes)) (view l.fn.self.cursor.rest.now) out;
   room : l.parts.height ≤ l.free;
   shorter : length l.self.cursor.rest.now ≤ length l.fn.self.cursor.rest.now;
@@ -217,29 +216,29 @@ invariant-pattern_conjunction-loop-self l = record {
   shorter : length l.self.cursor.rest.now ≤ length l.fn.self.cursor.rest.now;
 }
 
-abbrev pub invariant-pattern_par-loop-self : goal.invariant-pattern_par-loop-self
-invariant-pattern_par-loop-self l = record {
+abbrev pub invariant-pattern_par-each : goal.invariant-pattern_par-each
+invariant-pattern_par-each l = record {
   turns : (out : Outcome) → Runs Tutorial l.free (last (Sort.ParTail patterns (map pat_written l.parts.value.items) l.parts.height)) (view l.self.cursor.rest.now) out → Runs Tutorial l.free (rule Tutorial (Prod.par patterns)) (view l.fn.self.cursor.rest.now) out;
   room : l.parts.height ≤ l.free;
   shorter : length l.self.cursor.rest.now ≤ length l.fn.self.cursor.rest.now;
 }
 
-abbrev pub invariant-pattern_row-loop-self : goal.invariant-pattern_row-loop-self
-invariant-pattern_row-loop-self l = record {
+abbrev pub invariant-pattern_row-each : goal.invariant-pattern_row-each
+invariant-pattern_row-each l = record {
   turns : (out : Outcome) → Runs Tutorial l.free (last (Sort.RowTail patterns (bracket_of l.bracket) (map pat_written l.members.value.items) l.members.height)) (view l.self.cursor.rest.now) out → Runs Tutorial l.free (rule Tutorial (Prod.row_some patterns (bracket_of l.bracket))) (view l.fn.self.cursor.rest.now) out;
   room : l.members.height ≤ l.free;
   shorter : length l.self.cursor.rest.now ≤ length l.fn.self.cursor.rest.now;
 }
 
-abbrev pub invariant-pattern_sequence-loop-self : goal.invariant-pattern_sequence-loop-self
-invariant-pattern_sequence-loop-self l = record {
+abbrev pub invariant-pattern_sequence-each : goal.invariant-pattern_sequence-each
+invariant-pattern_sequence-each l = record {
   turns : (out : Outcome) → Runs Tutorial l.free (last (Sort.SeqTail (bracket_of l.bracket) (map pat_written l.pats.value.items) l.pats.height)) (view l.self.cursor.rest.now) out → Runs Tutorial l.free (rule Tutorial (Prod.seq_some (bracket_of l.bracket))) (view l.fn.self.cursor.rest.now) out;
   room : l.pats.height ≤ l.free;
   shorter : length l.self.cursor.rest.now ≤ length l.fn.self.cursor.rest.now;
 }
 
-abbrev pub invariant-row-loop-self : goal.invariant-row-loop-self
-invariant-row-loop-self l = record {
+abbrev pub invariant-row-each : goal.invariant-row-each
+invariant-row-each l = record {
   turns : (out : Outcome) → Runs Tutorial l.free (last (Sort.RowTail processes (bracket_of l.bracket) (map proc_written l.members.value.items) l.members.height)) (view l.self.cursor.rest.now) out → Runs Tutorial l.free (rule Tutorial (Prod.row_some processes (bracket_of l.bracket))) (view l.fn.self.cursor.rest.now) out;
   room : l.members.height ≤ l.free;
   shorter : length l.self.cursor.rest.now ≤ length l.fn.self.cursor.rest.now;
