@@ -1,5 +1,4 @@
-//! Answers about deploys and replays over files in memory. Each line of the input is a kind and its fields, and the output
-//! is the same line with the answer behind it.
+//! Answers about deploys and replays over files in memory. A line is a kind and its fields.
 #![tactic(auto)]
 
 mod place;
@@ -8,7 +7,7 @@ mod runs;
 use std::alloc::Global;
 use std::sync::Wait;
 use std::thread::Threads;
-use table_lines::{LineFault, answer_lines};
+use table_lines::LineFault;
 
 #[derive(Clone, Copy)]
 enum Kind {
@@ -32,7 +31,8 @@ impl Kind {
     }
 }
 
-fn answer<R: Threads + Wait + Sync>(
+/// The answer to a line of this kind with these fields.
+pub fn answer<R: Threads + Wait + Sync>(
     rt: &R,
     alloc: Global,
     word: &str,
@@ -45,11 +45,4 @@ fn answer<R: Threads + Wait + Sync>(
         Kind::DeployAndReplay => runs::deploy_and_replay(rt, alloc, fields),
         Kind::Replay => runs::replay(rt, alloc, fields),
     }
-}
-
-fn main(rt: HostRuntime) -> anyhow::Result<()> {
-    answer_lines(
-        &rt,
-        &|word: &str, fields: &str| { answer(&rt, rt.alloc(), word, fields) },
-    )
 }
