@@ -11,7 +11,7 @@ use Rattle.term_encoder.proofs.Codes.{length-map}
 use Rattle.radix_root.specs.Leaves.{codes_at, groups_of}
 use Rattle.radix_root.specs.declared.group.Group.{Group}
 use Rattle.checkpoint.specs.Groups.{keys_in, AreApart}
-use Rattle.checkpoint.specs.Made.{AreFor, AreMade, no_codes}
+use Rattle.checkpoint.specs.Made.{AreMade, no_codes}
 
 no-truth : false ≡ true → ⊥
 no-truth e = cc

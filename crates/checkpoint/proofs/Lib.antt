@@ -4,3 +4,4 @@ pub mod Apart
 pub mod Adding
 pub mod Nothing
 pub mod Ordering
+pub mod Channels

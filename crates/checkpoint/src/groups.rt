@@ -27,7 +27,9 @@ impl<'a> Groups<'a> {
     fn add(&mut self, keyed: &KeyedRow<'a>) -> Result<(), AllocError>
         requires { IsKeyed keyed.now }
         ensures key { OnOk result (self.new.key.0 ≡ keyed.now.key.now.0) }
-        ensures holds { OnOk result ((rows : List AnyRow) → Holds self.old rows → (keyed.now.key.now.0 ≡ self.old.key.0) ⊎ (codes_at rows keyed.now.key.now.0 ≡ []) → Holds self.new (rows ++ row_of keyed.now ∷ [])) }
+        ensures holds { OnOk result ((rows : List AnyRow) → Holds self.old rows →
+            (keyed.now.key.now.0 ≡ self.old.key.0) ⊎ (codes_at rows keyed.now.key.now.0 ≡ []) →
+            Holds self.new (rows ++ row_of keyed.now ∷ [])) }
     {
         self.turn(keyed.key)?;
         self.codes.push(keyed.code)?;
@@ -37,7 +39,8 @@ impl<'a> Groups<'a> {
     // Makes the group of a key the last one, where that has no rows so far or is the last one.
     fn turn(&mut self, key: &Digest) -> Result<(), AllocError>
         ensures key { OnOk result (self.new.key.0 ≡ key.now.0) }
-        ensures holds { OnOk result ((rows : List AnyRow) → Holds self.old rows → (key.now.0 ≡ self.old.key.0) ⊎ (codes_at rows key.now.0 ≡ []) → Holds self.new rows) }
+        ensures holds { OnOk result ((rows : List AnyRow) → Holds self.old rows → (key.now.0 ≡ self.old.key.0) ⊎
+            (codes_at rows key.now.0 ≡ []) → Holds self.new rows) }
     {
         if are_equal(key, &self.key) {
             return Ok(());

@@ -282,8 +282,10 @@ impl<'a> Reader<'a> {
         ensures is { IfOk result (λ i. self.old.input.now ≡ be32 i ++ self.new.input.now) }
         ensures has { IfOk result (λ i. HasVariable (scope_of scope.now.items) i (sense_of sense)) }
         ensures wrong { IfErr result (λ e. WrongVariable (scope_of scope.now.items) (sense_of sense) e self.old.input.now) }
-        ensures refuses { IfErr result (λ e. (i : ℕ) → i < 2 ^ 32 → HasVariable (scope_of scope.now.items) i (sense_of sense) → Denies e self.old.input.now (be32 i)) }
-        ensures begun { (tag : ℕ) → IfErr result (λ e. HasPlace e → Goes e (BegunVariable (scope_of scope.now.items) (sense_of sense) tag self.old.input.now)) }
+        ensures refuses { IfErr result (λ e. (i : ℕ) → i < 2 ^ 32 →
+            HasVariable (scope_of scope.now.items) i (sense_of sense) → Denies e self.old.input.now (be32 i)) }
+        ensures begun { (tag : ℕ) → IfErr result (λ e. HasPlace e →
+            Goes e (BegunVariable (scope_of scope.now.items) (sense_of sense) tag self.old.input.now)) }
     {
         let (tag, place) = (self.last_place(), self.place());
         if self.input.len() < 4 {
@@ -309,7 +311,8 @@ impl<'a> Reader<'a> {
 fn cut_text(kind: TextKind, bytes: &[u8], len: usize, at: usize, whole: usize) -> ReadFault
     requires { length bytes.now < len }
     ensures refuses { (x : List ℕ) → HasForm kind x → length x ≡ len → Denies result bytes.now x }
-    ensures begun { (BeginsText kind bytes.now len × (result ≡ Short whole)) ⊎ ((result ≡ NotCanonical at) × (BeginsText kind bytes.now len → ⊥)) }
+    ensures begun { (BeginsText kind bytes.now len × (result ≡ Short whole)) ⊎
+        ((result ≡ NotCanonical at) × (BeginsText kind bytes.now len → ⊥)) }
 {
     if begins_text(kind, bytes, len) {
         ReadFault::Short { at: whole }
@@ -332,7 +335,8 @@ fn ill_formed(length_at: usize, at: usize, len: usize) -> ReadFault
 // What is blamed for a variable that is not in scope: its index, or its tag where the scope has none of
 // its sense.
 fn blamed(scope: &Vec<Sense>, sense: Sense, tag: usize, index: usize) -> usize
-    ensures { ((result ≡ index) × IsInScope (scope_of scope.now.items) (sense_of sense)) ⊎ ((result ≡ tag) × ((i : ℕ) → HasVariable (scope_of scope.now.items) i (sense_of sense) → ⊥)) }
+    ensures { ((result ≡ index) × IsInScope (scope_of scope.now.items) (sense_of sense)) ⊎
+        ((result ≡ tag) × ((i : ℕ) → HasVariable (scope_of scope.now.items) i (sense_of sense) → ⊥)) }
 {
     if has_sense(scope, sense) { index } else { tag }
 }
@@ -386,7 +390,8 @@ fn has_variable(scope: &Vec<Sense>, index: usize, sense: Sense) -> bool
 
 // Whether these bytes begin the index of a variable of this sense.
 fn begins_index(scope: &Vec<Sense>, sense: Sense, bytes: &[u8]) -> bool
-    ensures all { (i : ℕ) (x y : List ℕ) → i < 2 ^ 32 → HasVariable (scope_of scope.now.items) i (sense_of sense) → bytes.now ++ x ≡ be32 i ++ y → IsTrue result }
+    ensures all { (i : ℕ) (x y : List ℕ) → i < 2 ^ 32 → HasVariable (scope_of scope.now.items) i (sense_of sense) →
+        bytes.now ++ x ≡ be32 i ++ y → IsTrue result }
     ensures only { IsTrue result → length bytes.now < 4 → BegunIndex (scope_of scope.now.items) (sense_of sense) bytes.now [] }
 {
     let (low, high) = number_bounds(bytes);

@@ -41,7 +41,8 @@ pub(crate) fn without<T: Keyed>(
     requires gone_keys { All IsOperand gone.now }
     requires items_up { IsAscending (map (λ x. code (T.key_tree x)) items.now) }
     requires gone_up { IsAscending (map code gone.now) }
-    ensures { IfOk result (λ v. v.items ≡ once_each (λ x. code (T.key_tree x)) (filter (λ x. not (has_key code (code (T.key_tree x)) gone.now)) items.now)) }
+    ensures { IfOk result (λ v. v.items ≡ once_each (λ x. code (T.key_tree x))
+        (filter (λ x. not (has_key code (code (T.key_tree x)) gone.now)) items.now)) }
 {
     let mut kept = Vec::new(alloc);
     let mut next = 0;
@@ -97,7 +98,10 @@ pub(crate) fn starts_with<T: Keyed>(items: &[T], at: usize, key: &Term) -> bool
 pub(crate) fn find<'a, T: Keyed>(items: &'a [T], key: &Term) -> Option<&'a T>
     requires items { All (λ x. IsOperand (T.key_tree x)) items.now }
     requires key { IsOperand key.now }
-    ensures { MatchOption result (first_with (λ x. code (T.key_tree x)) (code key.now) (high (λ x. code (T.key_tree x)) (code key.now) items.now) ≡ None) (λ x. first_with (λ y. code (T.key_tree y)) (code key.now) (high (λ y. code (T.key_tree y)) (code key.now) items.now) ≡ Some x.now) }
+    ensures { MatchOption result (first_with (λ x. code (T.key_tree x)) (code key.now)
+        (high (λ x. code (T.key_tree x)) (code key.now) items.now) ≡ None)
+        (λ x. first_with (λ y. code (T.key_tree y)) (code key.now)
+        (high (λ y. code (T.key_tree y)) (code key.now) items.now) ≡ Some x.now) }
 {
     let place = first_from(items, 0, key);
     if place >= items.len() {
@@ -155,7 +159,8 @@ fn put_unless<T: Keyed>(
 ) -> Result<(), AllocError>
     requires kept { All (λ x. IsOperand (T.key_tree x)) kept.old.items }
     requires item { IsOperand (T.key_tree item.now) }
-    ensures items { IfOk result (λ _. kept.new.items ≡ cond gone kept.old.items (puts_last (λ x. code (T.key_tree x)) kept.old.items item.now)) }
+    ensures items { IfOk result (λ _. kept.new.items ≡ cond gone kept.old.items
+        (puts_last (λ x. code (T.key_tree x)) kept.old.items item.now)) }
     ensures keys { IfOk result (λ _. All (λ x. IsOperand (T.key_tree x)) kept.new.items) }
 {
     if gone {
@@ -175,7 +180,8 @@ fn put_below<T: Keyed>(
     requires all { All (λ x. IsOperand (T.key_tree x)) all.old.items }
     requires items { All (λ x. IsOperand (T.key_tree x)) items.now }
     requires key { IsOperand key.now }
-    ensures items { IfOk result (λ n. all.new.items ≡ put_all (λ x. code (T.key_tree x)) all.old.items (low (λ x. code (T.key_tree x)) (code key.now) (drop start items.now))) }
+    ensures items { IfOk result (λ n. all.new.items ≡ put_all (λ x. code (T.key_tree x)) all.old.items
+        (low (λ x. code (T.key_tree x)) (code key.now) (drop start items.now))) }
     ensures rest { IfOk result (λ n. drop n items.now ≡ high (λ x. code (T.key_tree x)) (code key.now) (drop start items.now)) }
     ensures keys { IfOk result (λ n. All (λ x. IsOperand (T.key_tree x)) all.new.items) }
 {

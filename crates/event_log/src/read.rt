@@ -140,7 +140,8 @@ fn take_ids<'a>(
     bytes: &'a [u8],
     many: u8,
 ) -> Result<(Vec<Digest>, &'a [u8]), LogFault>
-    ensures { MatchResult result (λ r. data_ids whole many bytes.now ≡ Ok (map (λ id. id.0) r.0.items, r.1.now)) (λ e. (e ≡ LogFault.NoMemory) ⊎ (data_ids whole many bytes.now ≡ Err e)) }
+    ensures { MatchResult result (λ r. data_ids whole many bytes.now ≡ Ok (map (λ id. id.0) r.0.items, r.1.now))
+        (λ e. (e ≡ LogFault.NoMemory) ⊎ (data_ids whole many bytes.now ≡ Err e)) }
 {
     let mut ids = Vec::with_capacity(alloc, many as usize)?;
     let mut rest = bytes;
@@ -158,7 +159,8 @@ fn take_step<'a>(
     whole: usize,
     bytes: &'a [u8],
 ) -> Result<(LogStep, &'a [u8]), LogFault>
-    ensures { MatchResult result (λ r. step whole bytes.now ≡ Ok (step_of r.0, r.1.now)) (λ e. (e ≡ LogFault.NoMemory) ⊎ (step whole bytes.now ≡ Err e)) }
+    ensures { MatchResult result (λ r. step whole bytes.now ≡ Ok (step_of r.0, r.1.now))
+        (λ e. (e ≡ LogFault.NoMemory) ⊎ (step whole bytes.now ≡ Err e)) }
 {
     let (cont, rest) = take_digest(whole, bytes)?;
     let (many, rest) = take_data_count(whole, rest)?;
@@ -181,7 +183,8 @@ fn take_steps<'a>(
     bytes: &'a [u8],
     many: u32,
 ) -> Result<(Vec<LogStep>, &'a [u8]), LogFault>
-    ensures { MatchResult result (λ r. steps whole many bytes.now ≡ Ok (map step_of r.0.items, r.1.now)) (λ e. (e ≡ LogFault.NoMemory) ⊎ (steps whole many bytes.now ≡ Err e)) }
+    ensures { MatchResult result (λ r. steps whole many bytes.now ≡ Ok (map step_of r.0.items, r.1.now))
+        (λ e. (e ≡ LogFault.NoMemory) ⊎ (steps whole many bytes.now ≡ Err e)) }
 {
     let mut found = Vec::new(alloc);
     let mut rest = bytes;
@@ -213,7 +216,8 @@ fn take_end(whole: usize, bytes: &[u8]) -> Result<(), LogFault>
 /// read, in proportion to the bytes.
 #[tactic(auto, unfolding(crate::specs::Reading::log_of))]
 pub fn read_log(alloc: Global, bytes: &[u8]) -> Result<Log, LogFault>
-    ensures log { MatchResult result (λ log. log_of bytes.now ≡ Ok (header_of log.header, map step_of log.steps.items)) (λ e. (e ≡ LogFault.NoMemory) ⊎ (log_of bytes.now ≡ Err e)) }
+    ensures log { MatchResult result (λ log. log_of bytes.now ≡ Ok (header_of log.header, map step_of log.steps.items))
+        (λ e. (e ≡ LogFault.NoMemory) ⊎ (log_of bytes.now ≡ Err e)) }
 {
     let whole = bytes.len();
     let rest = take_name(whole, NAME, bytes)?;

@@ -18,7 +18,7 @@ use Rattle.grammar.specs.Grammar.{rule}
 use Rattle.grammar.specs.Productions.{Prod}
 use Rattle.grammar.specs.Rules.{Sort, Rule, round, at, done, sign, under, last}
 use Rattle.grammar.specs.Terminals.{Terminal, sees}
-use Rattle.grammar.specs.Values.{Side, bundle_of, closed_of, opened, patterns, processes, quote_of, quoted_of, send_of, spelt}
+use Rattle.grammar.specs.Values.{Side, Spelt, bundle_of, closed_of, opened, patterns, processes, quote_of, quoted_of, send_of, spelt}
 
 -- the sort of a keyed form
 abbrev pub form_sort : FormKey → Sort
@@ -33,15 +33,27 @@ abbrev pub after_leading : Option FormKey → Rule
 after_leading (Some k) = last (form_sort k)
 after_leading None = last Sort.Two
 
+-- the brace that closes a bundle of this
+abbrev pub bundle_end : Side → Rights → Spelt → Rule
+bundle_end side r a = sign marks.CloseBrace (done (opened (bundle_of side r a.tree) a.height))
+
 -- after the key of a bundle and a brace
 abbrev pub after_bundle : Side → Rights → Rule
-after_bundle side r = under (Sort.Par side) (λ p. sign marks.CloseBrace (done (opened (bundle_of side r p.tree) p.height)))
+after_bundle side r = under (Sort.Par side) (bundle_end side r)
+
+-- a send on the name that quotes this process
+abbrev pub after_quoted : Spelt → Rule
+after_quoted a = last (Sort.SentTail processes (spelt (quote_of a.tree) a.height))
+
+-- a send on the pattern of a name that quotes this pattern
+abbrev pub after_quoted_pattern : Spelt → Rule
+after_quoted_pattern a = last (Sort.SentTail patterns (spelt (quoted_of a.tree) a.height))
 
 -- after the step that begins a part of a process
 abbrev pub after_term_step : TermStep → Rule
 after_term_step (terms.Form k) = last (form_sort k)
 after_term_step (terms.Bundle r) = after_bundle processes r
-after_term_step terms.Quoted = under Sort.Drop (λ a. last (Sort.SentTail processes (spelt (quote_of a.tree) a.height)))
+after_term_step terms.Quoted = under Sort.Drop after_quoted
 after_term_step terms.Send = rule Tutorial Prod.two_word
 after_term_step terms.Chain = last Sort.Or
 
@@ -82,7 +94,7 @@ unkeyed_part ts = cond (sees_bundle ts) Prod.pone_bundle (cond (sees marks.At ts
 abbrev pub after_part_step : PartStep → Rule
 after_part_step (parts.Form k) = at (form_sort k) (λ a. done (closed_of a))
 after_part_step (parts.Bundle r) = after_bundle patterns r
-after_part_step parts.Quoted = under Sort.PAlt (λ a. last (Sort.SentTail patterns (spelt (quoted_of a.tree) a.height)))
+after_part_step parts.Quoted = under Sort.PAlt after_quoted_pattern
 after_part_step parts.AnySend = rule Tutorial Prod.pone_any
 after_part_step parts.Send = rule Tutorial Prod.pone_word
 after_part_step parts.Alternative = last Sort.PAlt
@@ -103,5 +115,6 @@ PassesPart new old _ = new ≤ old
 abbrev pub after_channel : Sending Name → Rule
 after_channel s = under (Sort.Row processes round) (λ r. done (opened (send_of processes s.persistent (name_written s.channel.value) r.tree) (max s.channel.height r.height)))
 
+-- after the pattern of the channel of a send and a parenthesis
 abbrev pub after_channel_pattern : Sending NamePat → Rule
 after_channel_pattern s = under (Sort.Row patterns round) (λ r. done (opened (send_of patterns s.persistent (name_pat_written s.channel.value) r.tree) (max s.channel.height r.height)))

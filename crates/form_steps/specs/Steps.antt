@@ -116,11 +116,15 @@ plain_pattern_height plain_patterns.EmptyMap = 1
 plain_pattern_height plain_patterns.RestMap = 1
 plain_pattern_height _ = 0
 
+-- the brace that closes the pattern of what is the same as this
+abbrev pub same_end : Spelt → Rule
+same_end a = sign marks.CloseBrace (done (opened (same_of a.tree) a.height))
+
 -- after the step that begins a pattern
 abbrev pub after_pattern_step : PatternStep → Rule
 after_pattern_step (pattern_steps.Plain p) = plain_pattern_rule p
 after_pattern_step pattern_steps.Not = under Sort.PNot (λ a. done (opened (not_of a.tree) a.height))
-after_pattern_step pattern_steps.Same = under (Sort.Par processes) (λ p. sign marks.CloseBrace (done (opened (same_of p.tree) p.height)))
+after_pattern_step pattern_steps.Same = under (Sort.Par processes) same_end
 after_pattern_step pattern_steps.Group = under (Sort.Par patterns) (λ p. last (Sort.Group patterns p))
 after_pattern_step pattern_steps.Block = under (Sort.Par patterns) (λ p. last (Sort.PBraceTail p))
 after_pattern_step (pattern_steps.Members b) = under (Sort.Seq (bracket_of b)) (λ s. done (opened (member_patterns_of b s.tree) s.height))

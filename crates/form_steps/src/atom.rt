@@ -1,13 +1,11 @@
 //! Processes without operators.
 ghost use Rattle.form_steps.specs.Steps.{HasRoomFor, Passes, after_process_step};
-ghost use Rattle.grammar.specs.Choice.{choose};
 ghost use Rattle.grammar.specs.Grammar.{rule};
 ghost use Rattle.grammar.specs.Productions.{Prod};
-ghost use Rattle.grammar.specs.Rules.{Sort, last};
+ghost use Rattle.grammar.specs.Rules.{Sort};
 ghost use Rattle.grammar.specs.declared.dialect.Dialect.TheVariants.{Tutorial};
-ghost use Rattle.token_cursor.specs.Meaning.{view};
-ghost use Rattle.token_cursor.specs.Reading.{Turns};
-ghost use Rattle.std.specs.Prelude.{◌≤◌, IfOk, MatchResult, length};
+ghost use Rattle.token_cursor.specs.Cursors.{BeginsWithin, ContinuesWithin, ShortensAs};
+ghost use Rattle.std.specs.Prelude.{IfOk};
 
 use crate::step::{PlainProcess, ProcessStep};
 use grammar::{Fault, Mark};
@@ -16,9 +14,9 @@ use token_cursor::part::Bracket;
 
 /// Drop ::= "*" Dropped | Atom, up to its first constituent
 pub fn begin_atom(cursor: &mut Cursor<'_>, free: u32) -> Result<ProcessStep, Fault>
-    ensures reads { Turns free (rule Tutorial (choose Sort.Drop (view cursor.old.rest.now))) after_process_step (view cursor.old.rest.now) result (view cursor.new.rest.now) }
+    ensures reads { BeginsWithin free cursor.old Sort.Drop after_process_step result cursor.new }
     ensures room { IfOk result (HasRoomFor free) }
-    ensures shorter { MatchResult result (Passes (length cursor.new.rest.now) (length cursor.old.rest.now)) (λ _. length cursor.new.rest.now ≤ length cursor.old.rest.now) }
+    ensures shorter { ShortensAs Passes cursor.old result cursor.new }
 {
     if !cursor.sees(Mark::Star) {
         return begin_form(cursor, free);
@@ -34,9 +32,9 @@ pub fn begin_atom(cursor: &mut Cursor<'_>, free: u32) -> Result<ProcessStep, Fau
 /// Atom ::= Word | Ground | "Nil" | "(" Par Group | "{" Brace | "[" Row "]" | "Set" "(" Row ")", up to its
 /// first constituent
 fn begin_form(cursor: &mut Cursor<'_>, free: u32) -> Result<ProcessStep, Fault>
-    ensures reads { Turns free (rule Tutorial (choose Sort.Atom (view cursor.old.rest.now))) after_process_step (view cursor.old.rest.now) result (view cursor.new.rest.now) }
+    ensures reads { BeginsWithin free cursor.old Sort.Atom after_process_step result cursor.new }
     ensures room { IfOk result (HasRoomFor free) }
-    ensures shorter { MatchResult result (Passes (length cursor.new.rest.now) (length cursor.old.rest.now)) (λ _. length cursor.new.rest.now ≤ length cursor.old.rest.now) }
+    ensures shorter { ShortensAs Passes cursor.old result cursor.new }
 {
     if cursor.sees_word() {
         return Ok(ProcessStep::Plain(PlainProcess::Word));
@@ -63,9 +61,9 @@ fn begin_form(cursor: &mut Cursor<'_>, free: u32) -> Result<ProcessStep, Fault>
 
 /// A `{`, and whether a process follows.
 fn begin_block(cursor: &mut Cursor<'_>, free: u32) -> Result<ProcessStep, Fault>
-    ensures reads { Turns free (rule Tutorial Prod.atom_brace) after_process_step (view cursor.old.rest.now) result (view cursor.new.rest.now) }
+    ensures reads { ContinuesWithin free cursor.old (rule Tutorial Prod.atom_brace) after_process_step result cursor.new }
     ensures room { IfOk result (HasRoomFor free) }
-    ensures shorter { MatchResult result (Passes (length cursor.new.rest.now) (length cursor.old.rest.now)) (λ _. length cursor.new.rest.now ≤ length cursor.old.rest.now) }
+    ensures shorter { ShortensAs Passes cursor.old result cursor.new }
 {
     cursor.opens(Mark::OpenBrace, 0, free)?;
     if cursor.sees(Mark::CloseBrace) {
@@ -76,9 +74,9 @@ fn begin_block(cursor: &mut Cursor<'_>, free: u32) -> Result<ProcessStep, Fault>
 
 /// `Set` and a parenthesis.
 fn begin_set(cursor: &mut Cursor<'_>, free: u32) -> Result<ProcessStep, Fault>
-    ensures reads { Turns free (rule Tutorial Prod.atom_set) after_process_step (view cursor.old.rest.now) result (view cursor.new.rest.now) }
+    ensures reads { ContinuesWithin free cursor.old (rule Tutorial Prod.atom_set) after_process_step result cursor.new }
     ensures room { IfOk result (HasRoomFor free) }
-    ensures shorter { MatchResult result (Passes (length cursor.new.rest.now) (length cursor.old.rest.now)) (λ _. length cursor.new.rest.now ≤ length cursor.old.rest.now) }
+    ensures shorter { ShortensAs Passes cursor.old result cursor.new }
 {
     cursor.opens(Mark::Set, 0, free)?;
     cursor.expect(Mark::Open)?;

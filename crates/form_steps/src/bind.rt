@@ -1,12 +1,9 @@
 //! The binds of a receive.
-ghost use Rattle.grammar.specs.Choice.{choose};
-ghost use Rattle.grammar.specs.Grammar.{rule};
 ghost use Rattle.grammar.specs.Rules.{Sort};
 ghost use Rattle.grammar.specs.Values.{Spelt};
-ghost use Rattle.grammar.specs.declared.dialect.Dialect.TheVariants.{Tutorial};
 ghost use Rattle.calculus.specs.declared.plain.Kind.{Kind};
-ghost use Rattle.token_cursor.specs.Meaning.{view};
 ghost use Rattle.token_cursor.specs.Reading.{separator_of};
+ghost use Rattle.token_cursor.specs.Cursors.{rule_at};
 ghost use Rattle.std.specs.Prelude.{◌≡◌, ◌∷◌, []};
 
 use grammar::Mark;
@@ -15,7 +12,8 @@ use token_cursor::part::Separator;
 
 /// The separator after a first bind; where none is next, the semicolon.
 pub fn next_separator(cursor: &Cursor<'_>) -> Separator
-    ensures { (k : Kind) (b : Spelt) → rule Tutorial (choose (Sort.FirstTail k b) (view cursor.now.rest.now)) ≡ rule Tutorial (choose (Sort.BindsTail k (separator_of result) 15 (b.tree ∷ []) b.height) (view cursor.now.rest.now)) }
+    ensures { (k : Kind) (b : Spelt) → rule_at cursor.now (Sort.FirstTail k b) ≡
+        rule_at cursor.now (Sort.BindsTail k (separator_of result) 15 (b.tree ∷ []) b.height) }
 {
     if cursor.sees(Mark::Semicolon) {
         return Separator::Semicolon;

@@ -1,11 +1,9 @@
 //! Constituents that were read, or not, after what was read before them.
-ghost use Rattle.grammar.specs.Rules.{Rule};
-ghost use Rattle.grammar.specs.Terminals.{Terminal};
-ghost use Rattle.grammar.specs.Values.{Spelt, bind_of, case_of};
+ghost use Rattle.grammar.specs.Values.{bind_of, case_of};
 ghost use Rattle.calculus.specs.Meaning.{case_written, pat_written, proc_written};
-ghost use Rattle.calculus.specs.Written.{Written};
-ghost use Rattle.token_cursor.specs.Reading.{Turns, of_bind, of_left, of_name};
-ghost use Rattle.std.specs.Prelude.{◌≡◌, ◌≤◌, ◌∷◌, ◌++◌, [], ℕ, IfOk, List, MatchResult, max};
+ghost use Rattle.token_cursor.specs.Reading.{of_bind, of_left, of_name};
+ghost use Rattle.form_steps.specs.Handing.{HandsOn, HandsOnPart};
+ghost use Rattle.std.specs.Prelude.{◌≡◌, ◌≤◌, ◌∷◌, ◌++◌, [], ℕ, IfOk, MatchResult, max};
 
 use calculus::{Bind, Case, Name, Pat, Proc};
 use grammar::Fault;
@@ -28,7 +26,7 @@ pub fn first_of<T: Drop>(
     alloc: Global,
     first: Result<Part<T>, Fault>,
 ) -> Result<Part<Vec<T>>, Fault>
-    ensures reads { (free : ℕ) (r : Rule) (ts us : List Terminal) (after : List T → ℕ → Rule) → Turns free r (λ p. after (p.value ∷ []) p.height) ts first us → Turns free r (λ ps. after ps.value.items ps.height) ts result us }
+    ensures reads { HandsOnPart first (λ x. x ∷ []) (λ h. h) result (λ xs. xs.items) }
     ensures room { (n : ℕ) → IfOk first (λ p. p.height ≤ n) → IfOk result (λ ps. ps.height ≤ n) }
 {
     match first {
@@ -42,7 +40,7 @@ pub fn one_more<T: Drop>(
     parts: Part<Vec<T>>,
     next: Result<Part<T>, Fault>,
 ) -> Result<Part<Vec<T>>, Fault>
-    ensures reads { (free : ℕ) (r : Rule) (ts us : List Terminal) (after : List T → ℕ → Rule) → Turns free r (λ p. after (parts.value.items ++ (p.value ∷ [])) (max parts.height p.height)) ts next us → Turns free r (λ ps. after ps.value.items ps.height) ts result us }
+    ensures reads { HandsOnPart next (λ x. parts.value.items ++ (x ∷ [])) (max parts.height) result (λ xs. xs.items) }
     ensures room { (n : ℕ) → parts.height ≤ n → IfOk next (λ p. p.height ≤ n) → IfOk result (λ ps. ps.height ≤ n) }
 {
     match next {
@@ -53,7 +51,7 @@ pub fn one_more<T: Drop>(
 
 /// A key with the value that was read after it.
 pub fn paired<T: Drop>(key: Part<T>, value: Result<Part<T>, Fault>) -> Result<Part<(T, T)>, Fault>
-    ensures reads { (free : ℕ) (r : Rule) (ts us : List Terminal) (after : T × T → ℕ → Rule) → Turns free r (λ v. after (key.value, v.value) (max key.height v.height)) ts value us → Turns free r (λ p. after p.value p.height) ts result us }
+    ensures reads { HandsOnPart value (λ x. (key.value, x)) (max key.height) result (λ p. p) }
     ensures room { (n : ℕ) → key.height ≤ n → IfOk value (λ v. v.height ≤ n) → IfOk result (λ p. p.height ≤ n) }
 {
     match value {
@@ -64,7 +62,7 @@ pub fn paired<T: Drop>(key: Part<T>, value: Result<Part<T>, Fault>) -> Result<Pa
 
 /// The bind of these patterns on the channel that was read after them.
 pub fn bound(left: Part<Left>, channel: Result<Part<Name>, Fault>) -> Result<Part<Bind>, Fault>
-    ensures reads { (free : ℕ) (r : Rule) (ts us : List Terminal) (after : Spelt → Rule) → Turns free r (λ n. after (bind_of (of_left left) (of_name n))) ts channel us → Turns free r (λ b. after (of_bind b)) ts result us }
+    ensures reads { HandsOn channel (λ n. bind_of (of_left left) (of_name n)) result of_bind }
     ensures room { (n : ℕ) → left.height ≤ n → IfOk channel (λ c. c.height ≤ n) → IfOk result (λ b. b.height ≤ n) }
 {
     match channel {
@@ -75,7 +73,7 @@ pub fn bound(left: Part<Left>, channel: Result<Part<Name>, Fault>) -> Result<Par
 
 /// The case of this pattern with the body that was read after it.
 pub fn cased(pattern: Part<Pat>, body: Result<Part<Proc>, Fault>) -> Result<Part<Case>, Fault>
-    ensures reads { (free : ℕ) (r : Rule) (ts us : List Terminal) (after : Written → ℕ → Rule) → Turns free r (λ p. after (case_of (pat_written pattern.value) (proc_written p.value)) (max pattern.height p.height)) ts body us → Turns free r (λ c. after (case_written c.value) c.height) ts result us }
+    ensures reads { HandsOnPart body (λ p. case_of (pat_written pattern.value) (proc_written p)) (max pattern.height) result case_written }
     ensures room { (n : ℕ) → pattern.height ≤ n → IfOk body (λ p. p.height ≤ n) → IfOk result (λ c. c.height ≤ n) }
 {
     match body {

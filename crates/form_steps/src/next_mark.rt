@@ -1,12 +1,14 @@
 //! Marks that stand next, or may.
 ghost use Rattle.grammar.specs.Descent.{Takes};
 ghost use Rattle.grammar.specs.Grammar.{arrow_mark};
-ghost use Rattle.grammar.specs.Rules.{Rule, closing, sign};
-ghost use Rattle.grammar.specs.Terminals.{Terminal, sees};
+ghost use Rattle.grammar.specs.Rules.{closing};
+ghost use Rattle.grammar.specs.Terminals.{sees};
 ghost use Rattle.grammar.specs.declared.mark.Mark.TheVariants as marks;
 ghost use Rattle.token_cursor.specs.Meaning.{view};
-ghost use Rattle.token_cursor.specs.Reading.{Turns, bracket_of, sees_member};
-ghost use Rattle.std.specs.Prelude.{◌≡◌, ◌<◌, ◌≤◌, ℕ, IfOk, List, MatchResult, false, length, true};
+ghost use Rattle.token_cursor.specs.Reading.{bracket_of, sees_member};
+ghost use Rattle.form_steps.specs.Handing.{TakesMarkAfter};
+ghost use Rattle.token_cursor.specs.Cursors.{Shortens};
+ghost use Rattle.std.specs.Prelude.{◌≡◌, ◌<◌, ◌≤◌, IfOk, false, length, true};
 
 use calculus::Kind;
 use grammar::{Fault, Mark};
@@ -65,9 +67,9 @@ pub fn then_mark<T: Drop>(
     read: Result<T, Fault>,
     mark: Mark,
 ) -> Result<T, Fault>
-    ensures reads { (free : ℕ) (r : Rule) (ts : List Terminal) (after : T → Rule) → Turns free r (λ x. sign mark (after x)) ts read (view cursor.old.rest.now) → Turns free r after ts result (view cursor.new.rest.now) }
+    ensures reads { TakesMarkAfter cursor.old read mark result cursor.new }
     ensures same { IfOk result (λ x. read ≡ Ok x) }
-    ensures shorter { MatchResult result (λ _. length cursor.new.rest.now < length cursor.old.rest.now) (λ _. length cursor.new.rest.now ≤ length cursor.old.rest.now) }
+    ensures shorter { Shortens cursor.old result cursor.new }
 {
     match read {
         Ok(value) => match cursor.expect(mark) {

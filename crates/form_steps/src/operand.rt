@@ -1,14 +1,10 @@
 //! Operands of the tightest operators.
 ghost use Rattle.form_steps.specs.Steps.{HasRoomAfter, HasRoomToCall, PassesName, PassesOperator, after_operator, after_target};
-ghost use Rattle.grammar.specs.Choice.{choose};
-ghost use Rattle.grammar.specs.Grammar.{rule};
-ghost use Rattle.grammar.specs.Rules.{Sort, last};
+ghost use Rattle.grammar.specs.Rules.{Sort};
 ghost use Rattle.grammar.specs.Values.{spelt};
 ghost use Rattle.calculus.specs.Written.{Written};
-ghost use Rattle.grammar.specs.declared.dialect.Dialect.TheVariants.{Tutorial};
-ghost use Rattle.token_cursor.specs.Meaning.{view};
-ghost use Rattle.token_cursor.specs.Reading.{Turns};
-ghost use Rattle.std.specs.Prelude.{◌≡◌, ◌≤◌, IfOk, MatchResult, length};
+ghost use Rattle.token_cursor.specs.Cursors.{BeginsWithin, ShortensAs};
+ghost use Rattle.std.specs.Prelude.{IfOk};
 
 use calculus::UnaryOp;
 use grammar::{Fault, Mark};
@@ -16,9 +12,9 @@ use token_cursor::Cursor;
 
 /// The operator before an operand, which opens its form; `None` where a method call or its target is next.
 pub fn begin_operand(cursor: &mut Cursor<'_>, free: u32) -> Result<Option<UnaryOp>, Fault>
-    ensures reads { Turns free (rule Tutorial (choose Sort.Pre (view cursor.old.rest.now))) after_operator (view cursor.old.rest.now) result (view cursor.new.rest.now) }
+    ensures reads { BeginsWithin free cursor.old Sort.Pre after_operator result cursor.new }
     ensures room { IfOk result (HasRoomAfter free) }
-    ensures shorter { MatchResult result (PassesOperator (length cursor.new.rest.now) (length cursor.old.rest.now)) (λ _. length cursor.new.rest.now ≤ length cursor.old.rest.now) }
+    ensures shorter { ShortensAs PassesOperator cursor.old result cursor.new }
 {
     if cursor.sees(Mark::Not) {
         cursor.opens(Mark::Not, 0, free)?;
@@ -35,9 +31,10 @@ pub fn begin_operand(cursor: &mut Cursor<'_>, free: u32) -> Result<Option<UnaryO
 /// The name of a method that is called on a target of this height, up to the arguments; `None` where no call
 /// follows.
 pub fn begin_call(cursor: &mut Cursor<'_>, height: u32, free: u32) -> Result<Option<String>, Fault>
-    ensures reads { (t : Written) → Turns free (rule Tutorial (choose (Sort.MethTail (spelt t height)) (view cursor.old.rest.now))) (after_target (spelt t height)) (view cursor.old.rest.now) result (view cursor.new.rest.now) }
+    ensures reads { (t : Written) → BeginsWithin free cursor.old (Sort.MethTail (spelt t height))
+        (after_target (spelt t height)) result cursor.new }
     ensures room { IfOk result (HasRoomToCall height free) }
-    ensures shorter { MatchResult result (PassesName (length cursor.new.rest.now) (length cursor.old.rest.now)) (λ _. length cursor.new.rest.now ≤ length cursor.old.rest.now) }
+    ensures shorter { ShortensAs PassesName cursor.old result cursor.new }
 {
     if !cursor.sees(Mark::Dot) {
         return Ok(None);

@@ -1,15 +1,12 @@
 //! The parts of a process or a pattern: keyed forms, bundles, sends and chains of operators.
 ghost use Rattle.form_steps.specs.Parts.{HasRoomForPart, HasRoomForTerm, PassesPart, PassesTerm, after_part_step, after_term_step, after_leading};
-ghost use Rattle.grammar.specs.Choice.{choose};
-ghost use Rattle.grammar.specs.Grammar.{rule};
-ghost use Rattle.grammar.specs.Rules.{Sort, last};
+ghost use Rattle.grammar.specs.Rules.{Sort};
 ghost use Rattle.grammar.specs.Values.{Side};
-ghost use Rattle.grammar.specs.declared.dialect.Dialect.TheVariants.{Tutorial};
 ghost use Rattle.token_cursor.specs.Meaning.{view};
-ghost use Rattle.token_cursor.specs.Reading.{Turns};
-ghost use Rattle.std.specs.Prelude.{◌≡◌, ◌<◌, ◌≤◌, IfOk, MatchResult, length};
+ghost use Rattle.std.specs.Prelude.{◌≡◌, ◌<◌, IfOk};
 ghost use Rattle.form_steps.specs.Parts.{after_bundle, keyed_part, part_or};
 ghost use Rattle.grammar.specs.Productions.{Prod};
+ghost use Rattle.token_cursor.specs.Cursors.{BeginsWithin, Shortens, ShortensAs, rule_at};
 
 use crate::step::{FormKey, PartStep, TermStep};
 use calculus::Rights;
@@ -18,7 +15,7 @@ use token_cursor::Cursor;
 
 /// The form with which a process begins that may end in a `|`.
 pub fn leading_form(cursor: &Cursor<'_>) -> Option<FormKey>
-    ensures { rule Tutorial (choose Sort.One (view cursor.now.rest.now)) ≡ after_leading result }
+    ensures { rule_at cursor.now Sort.One ≡ after_leading result }
 {
     if cursor.sees(Mark::New) {
         return Some(FormKey::New);
@@ -34,9 +31,9 @@ pub fn leading_form(cursor: &Cursor<'_>) -> Option<FormKey>
 
 /// Two ::= For | Match | Bundle | Name ( "!" | "!!" ) "(" [ Par { "," Par } ] ")" | Or, up to its first constituent
 pub fn begin_term(cursor: &mut Cursor<'_>, free: u32) -> Result<TermStep, Fault>
-    ensures reads { Turns free (rule Tutorial (choose Sort.Two (view cursor.old.rest.now))) after_term_step (view cursor.old.rest.now) result (view cursor.new.rest.now) }
+    ensures reads { BeginsWithin free cursor.old Sort.Two after_term_step result cursor.new }
     ensures room { IfOk result (HasRoomForTerm free) }
-    ensures shorter { MatchResult result (PassesTerm (length cursor.new.rest.now) (length cursor.old.rest.now)) (λ _. length cursor.new.rest.now ≤ length cursor.old.rest.now) }
+    ensures shorter { ShortensAs PassesTerm cursor.old result cursor.new }
 {
     if cursor.sees(Mark::For) {
         return Ok(TermStep::Form(FormKey::For));
@@ -60,9 +57,9 @@ pub fn begin_term(cursor: &mut Cursor<'_>, free: u32) -> Result<TermStep, Fault>
 
 /// The key of a bundle and a brace.
 fn begin_bundle(cursor: &mut Cursor<'_>, free: u32) -> Result<Rights, Fault>
-    ensures reads { (side : Side) → Turns free (rule Tutorial (choose (Sort.Bundle side) (view cursor.old.rest.now))) (after_bundle side) (view cursor.old.rest.now) result (view cursor.new.rest.now) }
+    ensures reads { (side : Side) → BeginsWithin free cursor.old (Sort.Bundle side) (after_bundle side) result cursor.new }
     ensures room { IfOk result (λ _. 0 < free) }
-    ensures shorter { MatchResult result (λ _. length cursor.new.rest.now < length cursor.old.rest.now) (λ _. length cursor.new.rest.now ≤ length cursor.old.rest.now) }
+    ensures shorter { Shortens cursor.old result cursor.new }
 {
     let rights = cursor.rights();
     cursor.opens_bundle(rights, free)?;
@@ -95,9 +92,9 @@ fn keyed_form(cursor: &Cursor<'_>) -> Option<FormKey>
 /// POne ::= New | If | Contract | For | Match | Bundle | PName ( "!" | "!!" ) "(" [ PPar { "," PPar } ] ")" | PAlt,
 /// up to its first constituent
 pub fn begin_part(cursor: &mut Cursor<'_>, free: u32) -> Result<PartStep, Fault>
-    ensures reads { Turns free (rule Tutorial (choose Sort.POne (view cursor.old.rest.now))) after_part_step (view cursor.old.rest.now) result (view cursor.new.rest.now) }
+    ensures reads { BeginsWithin free cursor.old Sort.POne after_part_step result cursor.new }
     ensures room { IfOk result (HasRoomForPart free) }
-    ensures shorter { MatchResult result (PassesPart (length cursor.new.rest.now) (length cursor.old.rest.now)) (λ _. length cursor.new.rest.now ≤ length cursor.old.rest.now) }
+    ensures shorter { ShortensAs PassesPart cursor.old result cursor.new }
 {
     if let Some(key) = keyed_form(cursor) {
         return Ok(PartStep::Form(key));

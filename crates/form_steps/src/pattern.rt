@@ -1,13 +1,12 @@
 //! Patterns without `\/` and `/\`.
 ghost use Rattle.form_steps.specs.Steps.{HasRoomForPattern, PassesPattern, after_pattern_step, form_of_pattern, type_or, typed_pattern};
-ghost use Rattle.grammar.specs.Choice.{choose};
 ghost use Rattle.grammar.specs.Grammar.{rule};
 ghost use Rattle.grammar.specs.Productions.{Prod};
-ghost use Rattle.grammar.specs.Rules.{Sort, last};
+ghost use Rattle.grammar.specs.Rules.{Sort};
 ghost use Rattle.grammar.specs.declared.dialect.Dialect.TheVariants.{Tutorial};
 ghost use Rattle.token_cursor.specs.Meaning.{view};
-ghost use Rattle.token_cursor.specs.Reading.{Turns};
-ghost use Rattle.std.specs.Prelude.{◌≡◌, ◌≤◌, IfOk, MatchResult, length};
+ghost use Rattle.token_cursor.specs.Cursors.{BeginsWithin, ContinuesWithin, ShortensAs, ahead};
+ghost use Rattle.std.specs.Prelude.{◌≡◌, IfOk};
 
 use crate::step::{PatternStep, PlainPattern};
 use calculus::Simple;
@@ -17,9 +16,9 @@ use token_cursor::part::Bracket;
 
 /// PNot ::= "~" PNot | PAtom, up to its first constituent
 pub fn begin_pattern(cursor: &mut Cursor<'_>, free: u32) -> Result<PatternStep, Fault>
-    ensures reads { Turns free (rule Tutorial (choose Sort.PNot (view cursor.old.rest.now))) after_pattern_step (view cursor.old.rest.now) result (view cursor.new.rest.now) }
+    ensures reads { BeginsWithin free cursor.old Sort.PNot after_pattern_step result cursor.new }
     ensures room { IfOk result (HasRoomForPattern free) }
-    ensures shorter { MatchResult result (PassesPattern (length cursor.new.rest.now) (length cursor.old.rest.now)) (λ _. length cursor.new.rest.now ≤ length cursor.old.rest.now) }
+    ensures shorter { ShortensAs PassesPattern cursor.old result cursor.new }
 {
     if !cursor.sees(Mark::Tilde) {
         return begin_pattern_atom(cursor, free);
@@ -52,9 +51,9 @@ fn simple_type(cursor: &Cursor<'_>) -> Option<Simple>
 
 /// PAtom, up to its first constituent
 fn begin_pattern_atom(cursor: &mut Cursor<'_>, free: u32) -> Result<PatternStep, Fault>
-    ensures reads { Turns free (rule Tutorial (choose Sort.PAtom (view cursor.old.rest.now))) after_pattern_step (view cursor.old.rest.now) result (view cursor.new.rest.now) }
+    ensures reads { BeginsWithin free cursor.old Sort.PAtom after_pattern_step result cursor.new }
     ensures room { IfOk result (HasRoomForPattern free) }
-    ensures shorter { MatchResult result (PassesPattern (length cursor.new.rest.now) (length cursor.old.rest.now)) (λ _. length cursor.new.rest.now ≤ length cursor.old.rest.now) }
+    ensures shorter { ShortensAs PassesPattern cursor.old result cursor.new }
 {
     if cursor.sees_word() {
         return Ok(PatternStep::Plain(PlainPattern::Word));
@@ -70,9 +69,10 @@ fn begin_pattern_atom(cursor: &mut Cursor<'_>, free: u32) -> Result<PatternStep,
 
 /// A pattern that is no variable, no `_` and no simple type, up to its first constituent.
 fn begin_pattern_form(cursor: &mut Cursor<'_>, free: u32) -> Result<PatternStep, Fault>
-    ensures reads { Turns free (rule Tutorial (form_of_pattern (view cursor.old.rest.now))) after_pattern_step (view cursor.old.rest.now) result (view cursor.new.rest.now) }
+    ensures reads { ContinuesWithin free cursor.old (rule Tutorial (form_of_pattern (ahead cursor.old)))
+        after_pattern_step result cursor.new }
     ensures room { IfOk result (HasRoomForPattern free) }
-    ensures shorter { MatchResult result (PassesPattern (length cursor.new.rest.now) (length cursor.old.rest.now)) (λ _. length cursor.new.rest.now ≤ length cursor.old.rest.now) }
+    ensures shorter { ShortensAs PassesPattern cursor.old result cursor.new }
 {
     if cursor.sees(Mark::Assign) {
         return begin_same(cursor, free);
@@ -99,9 +99,9 @@ fn begin_pattern_form(cursor: &mut Cursor<'_>, free: u32) -> Result<PatternStep,
 
 /// A `=`, and what follows it.
 fn begin_same(cursor: &mut Cursor<'_>, free: u32) -> Result<PatternStep, Fault>
-    ensures reads { Turns free (rule Tutorial Prod.patom_same) after_pattern_step (view cursor.old.rest.now) result (view cursor.new.rest.now) }
+    ensures reads { ContinuesWithin free cursor.old (rule Tutorial Prod.patom_same) after_pattern_step result cursor.new }
     ensures room { IfOk result (HasRoomForPattern free) }
-    ensures shorter { MatchResult result (PassesPattern (length cursor.new.rest.now) (length cursor.old.rest.now)) (λ _. length cursor.new.rest.now ≤ length cursor.old.rest.now) }
+    ensures shorter { ShortensAs PassesPattern cursor.old result cursor.new }
 {
     cursor.opens(Mark::Assign, 0, free)?;
     if cursor.sees(Mark::Star) {
@@ -116,9 +116,9 @@ fn begin_same(cursor: &mut Cursor<'_>, free: u32) -> Result<PatternStep, Fault>
 
 /// A `{`, and whether a pattern follows.
 fn begin_pattern_block(cursor: &mut Cursor<'_>, free: u32) -> Result<PatternStep, Fault>
-    ensures reads { Turns free (rule Tutorial Prod.patom_brace) after_pattern_step (view cursor.old.rest.now) result (view cursor.new.rest.now) }
+    ensures reads { ContinuesWithin free cursor.old (rule Tutorial Prod.patom_brace) after_pattern_step result cursor.new }
     ensures room { IfOk result (HasRoomForPattern free) }
-    ensures shorter { MatchResult result (PassesPattern (length cursor.new.rest.now) (length cursor.old.rest.now)) (λ _. length cursor.new.rest.now ≤ length cursor.old.rest.now) }
+    ensures shorter { ShortensAs PassesPattern cursor.old result cursor.new }
 {
     cursor.opens(Mark::OpenBrace, 0, free)?;
     if cursor.sees(Mark::CloseBrace) {
@@ -132,9 +132,9 @@ fn begin_pattern_block(cursor: &mut Cursor<'_>, free: u32) -> Result<PatternStep
 
 /// `Set` and a parenthesis.
 fn begin_pattern_set(cursor: &mut Cursor<'_>, free: u32) -> Result<PatternStep, Fault>
-    ensures reads { Turns free (rule Tutorial Prod.patom_set) after_pattern_step (view cursor.old.rest.now) result (view cursor.new.rest.now) }
+    ensures reads { ContinuesWithin free cursor.old (rule Tutorial Prod.patom_set) after_pattern_step result cursor.new }
     ensures room { IfOk result (HasRoomForPattern free) }
-    ensures shorter { MatchResult result (PassesPattern (length cursor.new.rest.now) (length cursor.old.rest.now)) (λ _. length cursor.new.rest.now ≤ length cursor.old.rest.now) }
+    ensures shorter { ShortensAs PassesPattern cursor.old result cursor.new }
 {
     cursor.opens(Mark::Set, 0, free)?;
     cursor.expect(Mark::Open)?;

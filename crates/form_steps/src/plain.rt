@@ -1,14 +1,14 @@
 //! Processes and patterns that hold no further ones.
-ghost use Rattle.form_steps.specs.Steps.{member_patterns_of, members_of, plain_height, plain_pattern_height, plain_pattern_rule, plain_rule};
+ghost use Rattle.form_steps.specs.Parts.{bundle_end};
+ghost use Rattle.form_steps.specs.Steps.{member_patterns_of, members_of, plain_height, plain_pattern_height, plain_pattern_rule, plain_rule, same_end};
 ghost use Rattle.calculus.specs.Meaning.{pat_written, proc_written, row_of};
-ghost use Rattle.grammar.specs.Rules.{Rule, done, sign};
-ghost use Rattle.grammar.specs.Terminals.{Terminal};
-ghost use Rattle.grammar.specs.Values.{bundle_of, drop_of, not_of, opened, patterns, processes, quote_of, same_of};
-ghost use Rattle.grammar.specs.declared.mark.Mark.TheVariants as marks;
-ghost use Rattle.grammar.specs.declared.fault.Fault.TheVariants.{NoMemory};
+ghost use Rattle.grammar.specs.Rules.{done};
+ghost use Rattle.grammar.specs.Values.{drop_of, not_of, opened, patterns, processes, quote_of};
 ghost use Rattle.token_cursor.specs.Meaning.{view};
-ghost use Rattle.token_cursor.specs.Reading.{Makes, Turns, of_pat, of_proc, of_row, of_sequence, sequence_written};
-ghost use Rattle.std.specs.Prelude.{◌≡◌, ◌+◌, ◌<◌, ◌≤◌, ◌^◌, ℕ, IfOk, List, MatchResult, length, map};
+ghost use Rattle.token_cursor.specs.Reading.{Makes, of_pat, of_proc, of_row, of_sequence, sequence_written};
+ghost use Rattle.syntax_forms.specs.Forms.{HasTree};
+ghost use Rattle.form_steps.specs.Handing.{Completes, CompletesAt};
+ghost use Rattle.std.specs.Prelude.{◌≡◌, ◌+◌, ◌<◌, ◌≤◌, ◌^◌, ℕ, IfOk, length, map};
 
 use crate::next_mark::then_mark;
 use crate::step::{PlainPattern, PlainProcess};
@@ -67,7 +67,7 @@ fn list_or_set(bracket: Bracket, row: Part<Vec<Proc>>) -> Part<Proc>
 /// The list or the set of the members that were read.
 pub fn members(bracket: Bracket, row: Result<Part<Vec<Proc>>, Fault>) -> Result<Part<Proc>, Fault>
     requires { IfOk row (λ p. p.height + 1 < 2 ^ 32) }
-    ensures reads { (free : ℕ) (r : Rule) (ts us : List Terminal) → Turns free r (λ p. done (opened (members_of bracket (of_row p).tree) p.height)) ts row us → Makes free r of_proc ts result us }
+    ensures reads { Completes row (λ p. done (opened (members_of bracket (of_row p).tree) p.height)) of_proc result }
     ensures room { (n : ℕ) → IfOk row (λ p. p.height < n) → IfOk result (λ p. p.height ≤ n) }
 {
     match row {
@@ -94,7 +94,7 @@ pub fn member_patterns(
     sequence: Result<Part<Sequence>, Fault>,
 ) -> Result<Part<Pat>, Fault>
     requires { IfOk sequence (λ p. p.height + 1 < 2 ^ 32) }
-    ensures reads { (free : ℕ) (r : Rule) (ts us : List Terminal) → Turns free r (λ p. done (opened (member_patterns_of bracket (of_sequence p).tree) p.height)) ts sequence us → Makes free r of_pat ts result us }
+    ensures reads { Completes sequence (λ p. done (opened (member_patterns_of bracket (of_sequence p).tree) p.height)) of_pat result }
     ensures room { (n : ℕ) → IfOk sequence (λ p. p.height < n) → IfOk result (λ p. p.height ≤ n) }
 {
     match sequence {
@@ -106,7 +106,7 @@ pub fn member_patterns(
 /// The process that this one stands for when it is quoted and dropped.
 fn drop_quoted(alloc: Global, quoted: Part<Proc>) -> Result<Part<Proc>, Fault>
     requires { quoted.height + 1 < 2 ^ 32 }
-    ensures tree { MatchResult result (λ p. proc_written p.value ≡ drop_of (quote_of (proc_written quoted.value))) (λ e. e ≡ NoMemory) }
+    ensures tree { HasTree proc_written result (drop_of (quote_of (proc_written quoted.value))) }
     ensures height { IfOk result (λ p. p.height ≡ quoted.height + 1) }
 {
     let name = process_forms::quote(alloc, quoted)?;
@@ -116,7 +116,7 @@ fn drop_quoted(alloc: Global, quoted: Part<Proc>) -> Result<Part<Proc>, Fault>
 /// The process that was read, quoted and dropped.
 pub fn dropped_quote(alloc: Global, quoted: Result<Part<Proc>, Fault>) -> Result<Part<Proc>, Fault>
     requires { IfOk quoted (λ p. p.height + 1 < 2 ^ 32) }
-    ensures reads { (free : ℕ) (r : Rule) (ts us : List Terminal) → Turns free r (λ p. done (opened (drop_of (quote_of (of_proc p).tree)) p.height)) ts quoted us → Makes free r of_proc ts result us }
+    ensures reads { Completes quoted (λ p. done (opened (drop_of (quote_of (of_proc p).tree)) p.height)) of_proc result }
     ensures room { (n : ℕ) → IfOk quoted (λ p. p.height < n) → IfOk result (λ p. p.height ≤ n) }
 {
     match quoted {
@@ -128,7 +128,7 @@ pub fn dropped_quote(alloc: Global, quoted: Result<Part<Proc>, Fault>) -> Result
 /// The pattern that takes what the one that was read doesn't take.
 pub fn negated(alloc: Global, arg: Result<Part<Pat>, Fault>) -> Result<Part<Pat>, Fault>
     requires { IfOk arg (λ p. p.height + 1 < 2 ^ 32) }
-    ensures reads { (free : ℕ) (r : Rule) (ts us : List Terminal) → Turns free r (λ p. done (opened (not_of (of_pat p).tree) p.height)) ts arg us → Makes free r of_pat ts result us }
+    ensures reads { Completes arg (λ p. done (opened (not_of (of_pat p).tree) p.height)) of_pat result }
     ensures room { (n : ℕ) → IfOk arg (λ p. p.height < n) → IfOk result (λ p. p.height ≤ n) }
 {
     match arg {
@@ -144,7 +144,7 @@ pub fn close_bundle(
     body: Result<Part<Proc>, Fault>,
 ) -> Result<Part<Proc>, Fault>
     requires { IfOk body (λ p. p.height + 1 < 2 ^ 32) }
-    ensures reads { (free : ℕ) (r : Rule) (ts : List Terminal) → Turns free r (λ p. sign marks.CloseBrace (done (opened (bundle_of processes rights (of_proc p).tree) p.height))) ts body (view cursor.old.rest.now) → Makes free r of_proc ts result (view cursor.new.rest.now) }
+    ensures reads { CompletesAt cursor.old body (λ p. bundle_end processes rights (of_proc p)) of_proc result cursor.new }
     ensures room { (n : ℕ) → IfOk body (λ p. p.height < n) → IfOk result (λ p. p.height ≤ n) }
     ensures shorter { length cursor.new.rest.now ≤ length cursor.old.rest.now }
 {
@@ -159,7 +159,7 @@ pub fn close_bundle_pattern(
     body: Result<Part<Pat>, Fault>,
 ) -> Result<Part<Pat>, Fault>
     requires { IfOk body (λ p. p.height + 1 < 2 ^ 32) }
-    ensures reads { (free : ℕ) (r : Rule) (ts : List Terminal) → Turns free r (λ p. sign marks.CloseBrace (done (opened (bundle_of patterns rights (of_pat p).tree) p.height))) ts body (view cursor.old.rest.now) → Makes free r of_pat ts result (view cursor.new.rest.now) }
+    ensures reads { CompletesAt cursor.old body (λ p. bundle_end patterns rights (of_pat p)) of_pat result cursor.new }
     ensures room { (n : ℕ) → IfOk body (λ p. p.height < n) → IfOk result (λ p. p.height ≤ n) }
     ensures shorter { length cursor.new.rest.now ≤ length cursor.old.rest.now }
 {
@@ -173,7 +173,7 @@ pub fn close_same(
     body: Result<Part<Proc>, Fault>,
 ) -> Result<Part<Pat>, Fault>
     requires { IfOk body (λ p. p.height + 1 < 2 ^ 32) }
-    ensures reads { (free : ℕ) (r : Rule) (ts : List Terminal) → Turns free r (λ p. sign marks.CloseBrace (done (opened (same_of (of_proc p).tree) p.height))) ts body (view cursor.old.rest.now) → Makes free r of_pat ts result (view cursor.new.rest.now) }
+    ensures reads { CompletesAt cursor.old body (λ p. same_end (of_proc p)) of_pat result cursor.new }
     ensures room { (n : ℕ) → IfOk body (λ p. p.height < n) → IfOk result (λ p. p.height ≤ n) }
     ensures shorter { length cursor.new.rest.now ≤ length cursor.old.rest.now }
 {

@@ -1,15 +1,14 @@
 //! The channels of sends.
-ghost use Rattle.calculus.specs.Meaning.{pat_written, proc_written};
-ghost use Rattle.form_steps.specs.Parts.{after_channel, after_channel_pattern};
+ghost use Rattle.form_steps.specs.Parts.{after_channel, after_channel_pattern, after_quoted, after_quoted_pattern};
 ghost use Rattle.grammar.specs.Grammar.{rule};
 ghost use Rattle.grammar.specs.Productions.{Prod};
-ghost use Rattle.grammar.specs.Rules.{Rule, Sort, last};
-ghost use Rattle.grammar.specs.Terminals.{Terminal};
-ghost use Rattle.grammar.specs.Values.{patterns, processes, quote_of, quoted_of, spelt};
+ghost use Rattle.grammar.specs.Rules.{Sort, last};
+ghost use Rattle.grammar.specs.Values.{patterns};
 ghost use Rattle.grammar.specs.declared.dialect.Dialect.TheVariants.{Tutorial};
-ghost use Rattle.token_cursor.specs.Meaning.{view};
-ghost use Rattle.token_cursor.specs.Reading.{Turns, of_name_pat};
-ghost use Rattle.std.specs.Prelude.{◌≡◌, ◌<◌, ◌≤◌, ℕ, IfOk, List, MatchResult, length};
+ghost use Rattle.token_cursor.specs.Reading.{of_name_pat, of_pat, of_proc};
+ghost use Rattle.form_steps.specs.Handing.{ContinuesFrom};
+ghost use Rattle.token_cursor.specs.Cursors.{Continues, ContinuesWithin, Shortens};
+ghost use Rattle.std.specs.Prelude.{◌≡◌, ◌<◌, ◌≤◌, ℕ, IfOk, length};
 
 use crate::step::Sending;
 use calculus::{Name, NamePat, Pat, Proc};
@@ -19,9 +18,9 @@ use token_cursor::{Cursor, parts, pattern_forms, process_forms};
 
 /// A variable, the mark of a send, which opens it, and a parenthesis.
 pub fn begin_send(cursor: &mut Cursor<'_>, free: u32) -> Result<Sending<Name>, Fault>
-    ensures reads { Turns free (rule Tutorial Prod.two_word) after_channel (view cursor.old.rest.now) result (view cursor.new.rest.now) }
+    ensures reads { ContinuesWithin free cursor.old (rule Tutorial Prod.two_word) after_channel result cursor.new }
     ensures room { IfOk result (λ s. s.channel.height < free) }
-    ensures shorter { MatchResult result (λ _. length cursor.new.rest.now < length cursor.old.rest.now) (λ _. length cursor.new.rest.now ≤ length cursor.old.rest.now) }
+    ensures shorter { Shortens cursor.old result cursor.new }
 {
     let name = cursor.word()?;
     let channel = process_forms::channel(name);
@@ -41,7 +40,7 @@ pub fn begin_send(cursor: &mut Cursor<'_>, free: u32) -> Result<Sending<Name>, F
 
 /// The channel that this process is when it is quoted, the mark of a send and a parenthesis.
 fn send_on(cursor: &mut Cursor<'_>, quoted: Part<Proc>) -> Result<Sending<Name>, Fault>
-    ensures reads { (free : ℕ) → Turns free (last (Sort.SentTail processes (spelt (quote_of (proc_written quoted.value)) quoted.height))) after_channel (view cursor.old.rest.now) result (view cursor.new.rest.now) }
+    ensures reads { Continues cursor.old (after_quoted (of_proc quoted)) after_channel result cursor.new }
     ensures height { IfOk result (λ s. s.channel.height ≡ quoted.height) }
     ensures shorter { length cursor.new.rest.now ≤ length cursor.old.rest.now }
 {
@@ -65,7 +64,7 @@ pub fn quoted_send(
     cursor: &mut Cursor<'_>,
     quoted: Result<Part<Proc>, Fault>,
 ) -> Result<Sending<Name>, Fault>
-    ensures reads { (free : ℕ) (r : Rule) (ts : List Terminal) → Turns free r (λ p. last (Sort.SentTail processes (spelt (quote_of (proc_written p.value)) p.height))) ts quoted (view cursor.old.rest.now) → Turns free r after_channel ts result (view cursor.new.rest.now) }
+    ensures reads { ContinuesFrom cursor.old quoted (λ p. after_quoted (of_proc p)) result after_channel cursor.new }
     ensures room { (n : ℕ) → IfOk quoted (λ p. p.height < n) → IfOk result (λ s. s.channel.height < n) }
     ensures shorter { length cursor.new.rest.now ≤ length cursor.old.rest.now }
 {
@@ -77,9 +76,9 @@ pub fn quoted_send(
 
 /// A variable that is bound here, the mark of a send, which opens it, and a parenthesis.
 pub fn begin_send_pattern(cursor: &mut Cursor<'_>, free: u32) -> Result<Sending<NamePat>, Fault>
-    ensures reads { Turns free (rule Tutorial Prod.pone_word) after_channel_pattern (view cursor.old.rest.now) result (view cursor.new.rest.now) }
+    ensures reads { ContinuesWithin free cursor.old (rule Tutorial Prod.pone_word) after_channel_pattern result cursor.new }
     ensures room { IfOk result (λ s. s.channel.height < free) }
-    ensures shorter { MatchResult result (λ _. length cursor.new.rest.now < length cursor.old.rest.now) (λ _. length cursor.new.rest.now ≤ length cursor.old.rest.now) }
+    ensures shorter { Shortens cursor.old result cursor.new }
 {
     let name = cursor.word()?;
     begin_sent(cursor, pattern_forms::bound_channel(name), free)
@@ -87,9 +86,9 @@ pub fn begin_send_pattern(cursor: &mut Cursor<'_>, free: u32) -> Result<Sending<
 
 /// `_`, the mark of a send, which opens it, and a parenthesis.
 pub fn begin_any_send(cursor: &mut Cursor<'_>, free: u32) -> Result<Sending<NamePat>, Fault>
-    ensures reads { Turns free (rule Tutorial Prod.pone_any) after_channel_pattern (view cursor.old.rest.now) result (view cursor.new.rest.now) }
+    ensures reads { ContinuesWithin free cursor.old (rule Tutorial Prod.pone_any) after_channel_pattern result cursor.new }
     ensures room { IfOk result (λ s. s.channel.height < free) }
-    ensures shorter { MatchResult result (λ _. length cursor.new.rest.now < length cursor.old.rest.now) (λ _. length cursor.new.rest.now ≤ length cursor.old.rest.now) }
+    ensures shorter { Shortens cursor.old result cursor.new }
 {
     cursor.expect(Mark::Underscore)?;
     begin_sent(cursor, pattern_forms::any_channel(), free)
@@ -102,9 +101,10 @@ fn begin_sent(
     free: u32,
 ) -> Result<Sending<NamePat>, Fault>
     requires { channel.height ≡ 0 }
-    ensures reads { Turns free (last (Sort.Sent patterns (of_name_pat channel))) after_channel_pattern (view cursor.old.rest.now) result (view cursor.new.rest.now) }
+    ensures reads { ContinuesWithin free cursor.old (last (Sort.Sent patterns (of_name_pat channel)))
+        after_channel_pattern result cursor.new }
     ensures room { IfOk result (λ s. s.channel.height < free) }
-    ensures shorter { MatchResult result (λ _. length cursor.new.rest.now < length cursor.old.rest.now) (λ _. length cursor.new.rest.now ≤ length cursor.old.rest.now) }
+    ensures shorter { Shortens cursor.old result cursor.new }
 {
     let persistent = cursor.sees(Mark::DoubleBang);
     match cursor.opens_bang(persistent, free) {
@@ -122,7 +122,7 @@ fn begin_sent(
 
 /// The channel that this pattern is when it is quoted, the mark of a send and a parenthesis.
 fn send_on_pattern(cursor: &mut Cursor<'_>, quoted: Part<Pat>) -> Result<Sending<NamePat>, Fault>
-    ensures reads { (free : ℕ) → Turns free (last (Sort.SentTail patterns (spelt (quoted_of (pat_written quoted.value)) quoted.height))) after_channel_pattern (view cursor.old.rest.now) result (view cursor.new.rest.now) }
+    ensures reads { Continues cursor.old (after_quoted_pattern (of_pat quoted)) after_channel_pattern result cursor.new }
     ensures height { IfOk result (λ s. s.channel.height ≡ quoted.height) }
     ensures shorter { length cursor.new.rest.now ≤ length cursor.old.rest.now }
 {
@@ -146,7 +146,7 @@ pub fn quoted_send_pattern(
     cursor: &mut Cursor<'_>,
     quoted: Result<Part<Pat>, Fault>,
 ) -> Result<Sending<NamePat>, Fault>
-    ensures reads { (free : ℕ) (r : Rule) (ts : List Terminal) → Turns free r (λ p. last (Sort.SentTail patterns (spelt (quoted_of (pat_written p.value)) p.height))) ts quoted (view cursor.old.rest.now) → Turns free r after_channel_pattern ts result (view cursor.new.rest.now) }
+    ensures reads { ContinuesFrom cursor.old quoted (λ p. after_quoted_pattern (of_pat p)) result after_channel_pattern cursor.new }
     ensures room { (n : ℕ) → IfOk quoted (λ p. p.height < n) → IfOk result (λ s. s.channel.height < n) }
     ensures shorter { length cursor.new.rest.now ≤ length cursor.old.rest.now }
 {

@@ -1,15 +1,20 @@
 -- What contracts say of a seat.
-use Rattle.std.specs.Prelude.{◌≡◌, ℕ, ◌+◌, ◌%◌, ◌<◌, ◌≤◌, ◌^◌, true, false, List, [], ◌++◌, vec_len, vec_capacity}
+use Rattle.std.specs.Prelude.{◌≡◌, ℕ, ◌+◌, ◌*◌, ◌%◌, ◌<◌, ◌≤◌, ◌⊎◌, ◌^◌, true, false, List, [], ◌++◌, length, max, vec_len, vec_capacity}
+use Rattle.std.specs.List.{All}
+use Rattle.std.specs.declared.vec.Vec.{Vec}
 use Rattle.atomic_table.specs.Seated.{TableId}
 use Rattle.group_locks.specs.declared.state.SeatState.{SeatState}
 use Rattle.hub_rule.specs.declared.terms.StopCause.{StopCause}
 use Rattle.hub_rule.specs.declared.terms.StopCause.TheVariants.{Fault, NoMemory}
 use Rattle.hub_rule.specs.declared.rule.Opened.{Opened}
+use Rattle.hub_rule.specs.declared.terms.Terms.{Terms}
 use Rattle.hub_rule.specs.Counts.{total, all_of}
-use Rattle.hub_rule.specs.Rule.{tally}
-use Rattle.hub_rule.specs.Works.{pile, hand}
+use Rattle.hub_rule.specs.Meaning.{Meaning, Ran}
+use Rattle.hub_rule.specs.Rule.{tally, view, blank, cost}
+use Rattle.hub_rule.specs.Works.{pile, bare, hand}
 use Rattle.hub_rule.specs.declared.view.Pile.{Pile}
 use Rattle.hub_rule.specs.declared.view.Tally.{Tally}
+use Rattle.hub_rule.specs.declared.view.View.{View}
 
 module _ {E X W : Type 0} where
   -- the table of the hub that the seat belongs to
@@ -113,6 +118,26 @@ module _ {E X W : Type 0} where
   abbrev pub SameRoom : SeatState E X W → SeatState E X W → Type 0
   SameRoom old new = (vec_len new.entries ≡ vec_len old.entries) × (vec_capacity new.entries ≡ vec_capacity old.entries)
 
+  -- the seat may draw one entry and has room for it; since then it found the charged word not above the limit, and the stop word unset
+  abbrev pub MayGoOn : SeatState E X W → SeatState E X W → Type 0
+  MayGoOn old new = HasLeave new × HasRoom new × (low_of old < low_of new) × (unset_of old < unset_of new)
+
+  -- the seat found an end: that nothing is pending, that more is charged than the limit, or that the hub stops
+  abbrev pub FoundEnd : SeatState E X W → SeatState E X W → Type 0
+  FoundEnd old new = (empty_of old < empty_of new) ⊎ ((over_of old < over_of new) ⊎ (stops_of old < stops_of new))
+
+  -- the seat found the stop unset, and this cause stands from then on; or it found it set
+  abbrev pub StopsFor : StopCause → SeatState E X W → SeatState E X W → Type 0
+  StopsFor cause old new = ((unset_of new ≡ unset_of old + 1) × (found_of cause new ≡ found_of cause old + 1)) ⊎ (unset_of new ≡ unset_of old)
+
+  -- the seat drew nothing, charged and found nothing, and has no works
+  abbrev pub HasDoneNothing : SeatState E X W → Type 0
+  HasDoneNothing s = (drawn_by s ≡ []) × (tally_of s ≡ blank) × (pile_of s ≡ bare)
+
+  -- all entries that the seat drew are settled, but for its last one at most
+  abbrev pub SettledButLast : SeatState E X W → Type 0
+  SettledButLast s = (drawn_by s ≡ (settled_by s ++ fresh_by s) ++ due_of s) × (length (fresh_by s) + length (due_of s) ≤ 1)
+
   -- the seat belongs to the hub and holds no turn
   abbrev pub AtRest : TableId → SeatState E X W → Type 0
   AtRest home s = (home_of s ≡ home) × (held_by s ≡ [])
@@ -131,10 +156,29 @@ abbrev pub heap_of : {A E X W : Type 0} → (A → SeatState E X W) → List A �
 heap_of f ss =
     pile (all_of (λ s. hand_of (f s)) ss) [] [] [] (total (λ s. (pile_of (f s)).counted) ss) false [] (total (λ s. empty_of (f s)) ss) (total (λ s. (pile_of (f s)).left) ss) (total (λ s. (pile_of (f s)).fetched) ss)
 
+-- what a seat knows to which all these were joined, where these are their entries
+abbrev pub view_of_all : {A E X W : Type 0} → (A → SeatState E X W) → List A → List (ℕ × E) → View E X W
+view_of_all f ss entries = view (32 * length ss) entries [] [] (gathered f ss) (heap_of f ss)
+
+-- where a seat found that nothing is pending, nothing is left and no seat has a work in hand
+abbrev pub EmptyWhereFound : {A E X W : Type 0} → (A → SeatState E X W) → List A → List W → Type 0
+EmptyWhereFound f ss left = All (λ s. 0 < empty_of (f s) → (left ≡ []) × (all_of (λ t. hand_of (f t)) ss ≡ [])) ss
+
+-- so many works stand on desks, of so many at the start, modulo 2^64
+abbrev pub Stand : {A E X W : Type 0} → ℕ → (A → SeatState E X W) → List A → ℕ → Type 0
+Stand start f ss standing = (standing + total (λ s. (pile_of (f s)).fetched) ss) % 2 ^ 64 ≡ (start + total (λ s. (pile_of (f s)).left) ss) % 2 ^ 64
+
 -- room for all works that stand on desks, of so many at the start
 abbrev pub FitsLeft : {A E X W : Type 0} → ℕ → (A → SeatState E X W) → List A → ℕ → Type 0
-FitsLeft start f ss room =
-    (standing : ℕ) × (standing < 2 ^ 64) × (standing ≤ room) × ((standing + total (λ s. (pile_of (f s)).fetched) ss) % 2 ^ 64 ≡ (start + total (λ s. (pile_of (f s)).left) ss) % 2 ^ 64)
+FitsLeft start f ss room = (standing : ℕ) × (standing < 2 ^ 64) × (standing ≤ room) × Stand start f ss standing
+
+-- this is empty, with room for all works that stand on desks, of so many at the start
+abbrev pub CanHoldLeft : {A E X W Z : Type 0} → ℕ → (A → SeatState E X W) → List A → Vec W Z → Type 0
+CanHoldLeft start f ss left = (left.items ≡ []) × FitsLeft start f ss (vec_capacity left)
+
+-- there are as many places as these seats drew entries, and this is empty, with room for as many
+abbrev pub CanHoldDrawn : {A E X W T Y Z : Type 0} → (A → SeatState E X W) → List A → Vec T Y → Vec E Z → Type 0
+CanHoldDrawn f ss places entries = (length places.items ≡ total (λ s. length (drawn_by (f s))) ss) × (entries.items ≡ []) × (length places.items ≤ vec_capacity entries)
 
 module _ {X W : Type 0} where
   -- the shards with which a hub opened
@@ -156,3 +200,19 @@ module _ {X W : Type 0} where
   -- the limit of what is charged
   abbrev pub limit_of : Opened X W → ℕ
   limit_of key = key.terms.limit
+
+  -- it opened with these shards and works, under these terms
+  abbrev pub OpensWith : Opened X W → List X → List W → Terms → Type 0
+  OpensWith key shards works terms = (opened_shards key ≡ shards) × (opened_works key ≡ works) × (key.terms ≡ terms)
+
+  -- from the shards and works with which it opened these entries ran; these shards closed, these works are left, and these are in hand
+  abbrev pub RanFrom : {Store E : Type 0} → Meaning Store E X W → Opened X W → List E → List X → List W → List (ℕ × W) → Type 0
+  RanFrom m key entries closed left hands = Ran m (opened_shards key) (opened_works key) entries closed left hands
+
+-- so much is charged: what was spent before, and what the entries cost that these seats charged
+abbrev pub IsCharged : {A E X W : Type 0} → (E → ℕ) → Opened X W → (A → SeatState E X W) → List A → ℕ → Type 0
+IsCharged price key f ss charged = charged ≡ spent_of key + total (λ s. cost price (charged_by (f s))) ss
+
+-- what was spent before and what the entries cost that these seats settled is no more than the limit, or than what was spent
+abbrev pub SettledWithin : {A E X W : Type 0} → (E → ℕ) → Opened X W → (A → SeatState E X W) → List A → Type 0
+SettledWithin price key f ss = spent_of key + total (λ s. cost price (settled_by (f s))) ss ≤ max (spent_of key) (limit_of key)

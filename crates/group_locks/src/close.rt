@@ -1,11 +1,11 @@
 //! The end of a hub.
-ghost use Rattle.std.specs.Prelude.{◌≡◌, ℕ, ◌+◌, ◌*◌, ◌<◌, ◌≤◌, [], ◌++◌, Some, IfOk, OnOk, IfErr, IfSome, IsSome, max, length, slice_get, vec_capacity, ◌%◌, ◌^◌};
+ghost use Rattle.std.specs.Prelude.{◌≡◌, ◌<◌, ◌≤◌, [], Some, IfOk, OnOk, IfErr, IfSome, IsSome, length, vec_capacity};
 ghost use Rattle.std.specs.List.{All};
-ghost use Rattle.hub_rule.specs.Counts.{all_of, count, once_below, total, Each};
-ghost use Rattle.hub_rule.specs.Meaning.{Ran};
+ghost use Rattle.hub_rule.specs.Counts.{all_of, total, StandIn, EachOnceBelow};
 ghost use Rattle.hub_rule.specs.Stops.{FaultOf, FaultCause};
-ghost use Rattle.hub_rule.specs.Rule.{view, spent, cost, RanBy};
-ghost use Rattle.group_locks.specs.Seats.{AtRest, drawn_by, pile_of, hand_of, empty_of, heap_of, opened_works, FitsLeft, charged_by, settled_by, fresh_by, due_of, over_of, memory_of, faults_of, stops_of, gathered, opened_shards, seat_count, spent_of, limit_of};
+ghost use Rattle.hub_rule.specs.Rule.{spent, RanBy};
+ghost use Rattle.group_locks.specs.Seats.{AtRest, drawn_by, hand_of, over_of, memory_of, faults_of, stops_of, view_of_all, SettledButLast, EmptyWhereFound};
+ghost use Rattle.group_locks.specs.Seats.{opened_works, opened_shards, seat_count, limit_of, RanFrom, IsCharged, SettledWithin, Stand, CanHoldLeft, CanHoldDrawn};
 
 use crate::hub::{Hub, Pool};
 use crate::seat::Seat;
@@ -27,7 +27,7 @@ fn gather<S: Scene>(
     requires room { length seats.items ≤ vec_capacity lists.old }
     ensures same { token.new.table_id ≡ token.old.table_id }
     ensures all { all_of (λ l. l.items) lists.new.items ≡ all_of (λ s. drawn_by s.state) seats.items }
-    ensures view { token.new.me ≡ (view (32 * length seats.items) (all_of (λ l. l.items) lists.new.items) [] [] (gathered (λ s. s.state) seats.items) (heap_of (λ s. s.state) seats.items), []) }
+    ensures view { token.new.me ≡ (view_of_all (λ s. s.state) seats.items (all_of (λ l. l.items) lists.new.items), []) }
 {
     for seat in seats {
         let Seat { state } = seat;
@@ -63,14 +63,16 @@ fn end<S: Scene>(
 ) -> Ended<S>
     requires seats { All (λ s. AtRest hub.table.shared.table_id s.state) seats.items }
     requires count { length seats.items ≡ seat_count hub.table.shared.key }
-    requires left { (left.items ≡ []) × FitsLeft (length (opened_works hub.table.shared.key)) (λ s. s.state) seats.items (vec_capacity left) }
+    requires left { CanHoldLeft (length (opened_works hub.table.shared.key)) (λ s. s.state) seats.items left }
     requires room { (lists.items ≡ []) × (length seats.items ≤ vec_capacity lists) × (shards.items ≡ []) × (64 ≤ vec_capacity shards) }
     ensures entries { all_of (λ l. l.items) result.lists.items ≡ all_of (λ s. drawn_by s.state) seats.items }
     ensures shards { length result.shards.items ≡ 64 }
-    ensures ran { RanBy S.meaning (opened_shards hub.table.shared.key) (opened_works hub.table.shared.key) (all_of (λ l. l.items) result.lists.items) result.shards.items result.left.items (all_of (λ s. hand_of s.state) seats.items) (FaultCause S.meaning.faults result.stop) }
-    ensures empty { All (λ s. 0 < empty_of s.state → (result.left.items ≡ []) × (all_of (λ t. hand_of t.state) seats.items ≡ [])) seats.items }
-    ensures paid { result.charged ≡ spent_of hub.table.shared.key + total (λ s. cost S.meaning.price (charged_by s.state)) seats.items }
-    ensures bounded { spent_of hub.table.shared.key + total (λ s. cost S.meaning.price (settled_by s.state)) seats.items ≤ max (spent_of hub.table.shared.key) (limit_of hub.table.shared.key) }
+    ensures ran { RanBy S.meaning (opened_shards hub.table.shared.key) (opened_works hub.table.shared.key)
+        (all_of (λ l. l.items) result.lists.items) result.shards.items result.left.items
+        (all_of (λ s. hand_of s.state) seats.items) (FaultCause S.meaning.faults result.stop) }
+    ensures empty { EmptyWhereFound (λ s. s.state) seats.items result.left.items }
+    ensures paid { IsCharged S.meaning.price hub.table.shared.key (λ s. s.state) seats.items result.charged }
+    ensures bounded { SettledWithin S.meaning.price hub.table.shared.key (λ s. s.state) seats.items }
     ensures over { All (λ s. 0 < over_of s.state → limit_of hub.table.shared.key < result.charged) seats.items }
     ensures memory { All (λ s. 0 < memory_of s.state → result.stop ≡ Some StopCause.NoMemory) seats.items }
     ensures faulty { All (λ s. 0 < faults_of s.state → result.stop ≡ Some StopCause.Fault) seats.items }
@@ -99,7 +101,8 @@ fn end<S: Scene>(
     }
 }
 
-/// What a hub leaves: the entries in the order of their numbers, the shards, the works that stood on the desks, what is charged, and why the hub was stopped, if it was.
+/// What a hub leaves: the entries in the order of their numbers, the shards, the works that stood on the desks, what is charged, and why
+/// the hub was stopped, if it was.
 #[derive(Drop)]
 pub struct Closed<S: Scene> {
     pub entries: Vec<S::Entry>,
@@ -123,18 +126,19 @@ struct Room<S: Scene> {
 fn end_in_order<S: Scene>(hub: Hub<S>, seats: Vec<Seat<S>>, room: Room<S>) -> Closed<S>
     requires seats { All (λ s. AtRest hub.table.shared.table_id s.state) seats.items }
     requires count { length seats.items ≡ seat_count hub.table.shared.key }
-    requires left { (room.left.items ≡ []) × FitsLeft (length (opened_works hub.table.shared.key)) (λ s. s.state) seats.items (vec_capacity room.left) }
+    requires left { CanHoldLeft (length (opened_works hub.table.shared.key)) (λ s. s.state) seats.items room.left }
     requires drawn { (room.drawn.items ≡ []) × (length seats.items ≤ vec_capacity room.drawn) }
     requires shards { (room.shards.items ≡ []) × (64 ≤ vec_capacity room.shards) }
-    requires order { (length room.places.items ≡ total (λ s. length (drawn_by s.state)) seats.items) × (room.entries.items ≡ []) × (length room.places.items ≤ vec_capacity room.entries) }
+    requires order { CanHoldDrawn (λ s. s.state) seats.items room.places room.entries }
     ensures count { length result.entries.items ≡ total (λ s. length (drawn_by s.state)) seats.items }
-    ensures drawn { All (λ s. Each (λ n e. slice_get result.entries.items n ≡ Some e) (drawn_by s.state)) seats.items }
-    ensures once { (n : ℕ) → count n (all_of (λ s. drawn_by s.state) seats.items) ≡ once_below n (length result.entries.items) }
+    ensures drawn { All (λ s. StandIn result.entries.items (drawn_by s.state)) seats.items }
+    ensures once { EachOnceBelow (length result.entries.items) (all_of (λ s. drawn_by s.state) seats.items) }
     ensures shards { length result.shards.items ≡ 64 }
-    ensures ran { Ran S.meaning (opened_shards hub.table.shared.key) (opened_works hub.table.shared.key) result.entries.items result.shards.items result.left.items (all_of (λ s. hand_of s.state) seats.items) }
-    ensures empty { All (λ s. 0 < empty_of s.state → (result.left.items ≡ []) × (all_of (λ t. hand_of t.state) seats.items ≡ [])) seats.items }
-    ensures paid { result.charged ≡ spent_of hub.table.shared.key + total (λ s. cost S.meaning.price (charged_by s.state)) seats.items }
-    ensures bounded { spent_of hub.table.shared.key + total (λ s. cost S.meaning.price (settled_by s.state)) seats.items ≤ max (spent_of hub.table.shared.key) (limit_of hub.table.shared.key) }
+    ensures ran { RanFrom S.meaning hub.table.shared.key result.entries.items result.shards.items result.left.items
+        (all_of (λ s. hand_of s.state) seats.items) }
+    ensures empty { EmptyWhereFound (λ s. s.state) seats.items result.left.items }
+    ensures paid { IsCharged S.meaning.price hub.table.shared.key (λ s. s.state) seats.items result.charged }
+    ensures bounded { SettledWithin S.meaning.price hub.table.shared.key (λ s. s.state) seats.items }
     ensures over { All (λ s. 0 < over_of s.state → limit_of hub.table.shared.key < result.charged) seats.items }
     ensures memory { All (λ s. 0 < memory_of s.state → result.stop ≡ Some StopCause.NoMemory) seats.items }
     ensures faulty { All (λ s. 0 < faults_of s.state → result.stop ≡ Some StopCause.Fault) seats.items }
@@ -166,23 +170,25 @@ fn end_in_order<S: Scene>(hub: Hub<S>, seats: Vec<Seat<S>>, room: Room<S>) -> Cl
 }
 
 impl<S: Scene> Hub<S> {
-    /// Ends the hub, where these are all its seats and none holds a turn. The entries are in the order of their numbers, and place k of the shards is shard k.
-    /// What is left is what stands on the desks, and together with the works that the seats have in hand it is what is pending after the entries. What is
-    /// charged is what was spent before and the prices of the charged entries; each seat has at most its last entry uncharged. All entries but each seat's
-    /// last cost, with what was spent before, no more than the limit, or nothing where as much was spent before. Where a seat found that nothing is pending,
-    /// that more is charged than the limit, or that the hub stops, that is so. The only error is want of memory, and all then comes back as it was.
+    /// Ends the hub, where these are all its seats and none holds a turn. The entries are in the order of their numbers, and place k of the
+    /// shards is shard k. What is left is what stands on the desks, and together with the works that the seats have in hand it is what is
+    /// pending after the entries. What is charged is what was spent before and the prices of the charged entries; each seat has at most its
+    /// last entry uncharged. All entries but each seat's last cost, with what was spent before, no more than the limit, or nothing where as
+    /// much was spent before. Where a seat found that nothing is pending, that more is charged than the limit, or that the hub stops, that
+    /// is so. The only error is want of memory, and all then comes back as it was.
     pub fn close(self, seats: Vec<Seat<S>>) -> Result<Closed<S>, Pool<S>>
         requires seats { All (λ s. AtRest self.table.shared.table_id s.state) seats.items }
         requires count { length seats.items ≡ seat_count self.table.shared.key }
         ensures count { IfOk result (λ r. length r.entries.items ≡ total (λ s. length (drawn_by s.state)) seats.items) }
-        ensures drawn { IfOk result (λ r. All (λ s. Each (λ n e. slice_get r.entries.items n ≡ Some e) (drawn_by s.state)) seats.items) }
-        ensures once { IfOk result (λ r. (n : ℕ) → count n (all_of (λ s. drawn_by s.state) seats.items) ≡ once_below n (length r.entries.items)) }
+        ensures drawn { IfOk result (λ r. All (λ s. StandIn r.entries.items (drawn_by s.state)) seats.items) }
+        ensures once { IfOk result (λ r. EachOnceBelow (length r.entries.items) (all_of (λ s. drawn_by s.state) seats.items)) }
         ensures shards { IfOk result (λ r. length r.shards.items ≡ 64) }
-        ensures ran { IfOk result (λ r. Ran S.meaning (opened_shards self.table.shared.key) (opened_works self.table.shared.key) r.entries.items r.shards.items r.left.items (all_of (λ s. hand_of s.state) seats.items)) }
-        ensures empty { IfOk result (λ r. All (λ s. 0 < empty_of s.state → (r.left.items ≡ []) × (all_of (λ t. hand_of t.state) seats.items ≡ [])) seats.items) }
-        ensures paid { IfOk result (λ r. r.charged ≡ spent_of self.table.shared.key + total (λ s. cost S.meaning.price (charged_by s.state)) seats.items) }
-        ensures last { All (λ s. (drawn_by s.state ≡ (settled_by s.state ++ fresh_by s.state) ++ due_of s.state) × (length (fresh_by s.state) + length (due_of s.state) ≤ 1)) seats.items }
-        ensures bounded { OnOk result (spent_of self.table.shared.key + total (λ s. cost S.meaning.price (settled_by s.state)) seats.items ≤ max (spent_of self.table.shared.key) (limit_of self.table.shared.key)) }
+        ensures ran { IfOk result (λ r. RanFrom S.meaning self.table.shared.key r.entries.items r.shards.items
+            r.left.items (all_of (λ s. hand_of s.state) seats.items)) }
+        ensures empty { IfOk result (λ r. EmptyWhereFound (λ s. s.state) seats.items r.left.items) }
+        ensures paid { IfOk result (λ r. IsCharged S.meaning.price self.table.shared.key (λ s. s.state) seats.items r.charged) }
+        ensures last { All (λ s. SettledButLast s.state) seats.items }
+        ensures bounded { OnOk result (SettledWithin S.meaning.price self.table.shared.key (λ s. s.state) seats.items) }
         ensures over { IfOk result (λ r. All (λ s. 0 < over_of s.state → limit_of self.table.shared.key < r.charged) seats.items) }
         ensures memory { IfOk result (λ r. All (λ s. 0 < memory_of s.state → r.stop ≡ Some StopCause.NoMemory) seats.items) }
         ensures faulty { IfOk result (λ r. All (λ s. 0 < faults_of s.state → r.stop ≡ Some StopCause.Fault) seats.items) }
@@ -200,9 +206,9 @@ impl<S: Scene> Hub<S> {
 // Room for what these seats and the desks leave, of so many works at the start.
 fn room_to_end<S: Scene>(seats: &Vec<Seat<S>>, start: u64) -> Option<Room<S>>
     ensures drawn { IfSome result (λ r. (r.drawn.items ≡ []) × (length seats.now.items ≤ vec_capacity r.drawn)) }
-    ensures order { IfSome result (λ r. (length r.places.items ≡ total (λ s. length (drawn_by s.state)) seats.now.items) × (r.entries.items ≡ []) × (length r.places.items ≤ vec_capacity r.entries)) }
+    ensures order { IfSome result (λ r. CanHoldDrawn (λ s. s.state) seats.now.items r.places r.entries) }
     ensures shards { IfSome result (λ r. (r.shards.items ≡ []) × (64 ≤ vec_capacity r.shards)) }
-    ensures left { IfSome result (λ r. (r.left.items ≡ []) × FitsLeft start (λ s. s.state) seats.now.items (vec_capacity r.left)) }
+    ensures left { IfSome result (λ r. CanHoldLeft start (λ s. s.state) seats.now.items r.left) }
 {
     let count = entry_count(seats)?;
     let standing = left_count(seats, start);
@@ -243,7 +249,7 @@ fn entry_count<S: Scene>(seats: &Vec<Seat<S>>) -> Option<usize>
 
 // How many works stand on the desks, of so many at the start.
 fn left_count<S: Scene>(seats: &Vec<Seat<S>>, start: u64) -> u64
-    ensures { (result + total (λ s. (pile_of s.state).fetched) seats.now.items) % 2 ^ 64 ≡ (start + total (λ s. (pile_of s.state).left) seats.now.items) % 2 ^ 64 }
+    ensures { Stand start (λ s. s.state) seats.now.items result }
 {
     let mut count = start;
     for seat in seats {

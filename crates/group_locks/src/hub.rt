@@ -2,9 +2,8 @@
 ghost use Rattle.std.specs.Prelude.{◌≡◌, ◌≤◌, ◌<◌, ◌^◌, [], IfOk, length, vec_capacity};
 ghost use Rattle.std.specs.List.{All};
 ghost use Rattle.hub_rule.specs.Counts.{Projected};
-ghost use Rattle.hub_rule.specs.Rule.{newcomer, blank};
-ghost use Rattle.hub_rule.specs.Works.{bare};
-ghost use Rattle.group_locks.specs.Seats.{AtRest, drawn_by, tally_of, pile_of, opened_shards, opened_works, seat_count, spent_of, limit_of};
+ghost use Rattle.hub_rule.specs.Rule.{newcomer};
+ghost use Rattle.group_locks.specs.Seats.{AtRest, HasDoneNothing, OpensWith, opened_shards, opened_works, seat_count, spent_of, limit_of};
 
 use crate::seat::Seat;
 use crate::state::SeatState;
@@ -14,7 +13,8 @@ use hub_slots::slots_of;
 use std::alloc::{AllocError, Global};
 use std::snapshot::Snapshot;
 
-/// The turns and the slots of 64 shards, the count of entries drawn, what is charged, and the stop. Each step on them is one atomic step, and there is no lock round the whole.
+/// The turns and the slots of 64 shards, the count of entries drawn, what is charged, and the stop. Each step on them is one atomic step,
+/// and there is no lock round the whole.
 #[derive(Drop)]
 pub struct Hub<S: Scene> {
     /// The words and slots, under `Rule`. Contracts name the hub by its `table_id`.
@@ -56,7 +56,8 @@ impl<S: Scene> Hub<S> {
         requires long { length shards.items ≡ 64 }
         requires short { length work.items ≤ 2 ^ 58 }
         requires opens { (store : S.Store) × Projected S.meaning.projects store shards.items × S.meaning.opens store work.items }
-        ensures { IfOk result (λ t. (t.1.table_id ≡ t.0.table.shared.table_id) × (t.1.me ≡ (newcomer terms.seats, [])) × (t.0.table.shared.key.shards.value.items ≡ shards.items) × (t.0.table.shared.key.works.value.items ≡ work.items) × (t.0.table.shared.key.terms ≡ terms)) }
+        ensures token { IfOk result (λ t. (t.1.table_id ≡ t.0.table.shared.table_id) × (t.1.me ≡ (newcomer terms.seats, []))) }
+        ensures key { IfOk result (λ t. OpensWith t.0.table.shared.key shards.items work.items terms) }
     {
         let key = Opened {
             shards: Snapshot::of(&shards),
@@ -82,9 +83,9 @@ impl<S: Scene> Hub<S> {
         }
     }
 
-    /// A hub over these 64 shards, in the order of their numbers, with 1 to 32 seats. There is a store that the shards project, and with which and these works
-    /// a hub may open. The works are dealt out to the desks of the seats. `spent` is what was charged before, and seats may go on while no more than `limit` is charged. The
-    /// only error is want of memory; the arguments are then gone.
+    /// A hub over these 64 shards, in the order of their numbers, with 1 to 32 seats. There is a store that the shards project, and with
+    /// which and these works a hub may open. The works are dealt out to the desks of the seats. `spent` is what was charged before, and
+    /// seats may go on while no more than `limit` is charged. The only error is want of memory; the arguments are then gone.
     pub fn start(
         alloc: Global,
         scene: S,
@@ -105,7 +106,7 @@ impl<S: Scene> Hub<S> {
         ensures terms { IfOk result (λ p. (spent_of p.hub.table.shared.key ≡ spent) × (limit_of p.hub.table.shared.key ≡ limit)) }
         ensures count { IfOk result (λ p. length p.seats.items ≡ seats) }
         ensures rest { IfOk result (λ p. All (λ s. AtRest p.hub.table.shared.table_id s.state) p.seats.items) }
-        ensures drawn { IfOk result (λ p. All (λ s. (drawn_by s.state ≡ []) × (tally_of s.state ≡ blank) × (pile_of s.state ≡ bare)) p.seats.items) }
+        ensures drawn { IfOk result (λ p. All (λ s. HasDoneNothing s.state) p.seats.items) }
     {
         let made = Vec::with_capacity(alloc, seats as usize)?;
         let terms = Terms {
@@ -132,7 +133,7 @@ fn cut_seats<S: Scene>(
     requires room { (made.items ≡ []) × (seats ≤ vec_capacity made) }
     ensures count { length result.items ≡ seats }
     ensures rest { All (λ s. AtRest board.now.table_id s.state) result.items }
-    ensures drawn { All (λ s. (drawn_by s.state ≡ []) × (tally_of s.state ≡ blank) × (pile_of s.state ≡ bare)) result.items }
+    ensures drawn { All (λ s. HasDoneNothing s.state) result.items }
 {
     for number in 1..seats {
         let other = board.split_seat::<Cut>(&mut token);

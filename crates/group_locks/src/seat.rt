@@ -1,12 +1,14 @@
 //! A seat, through which one worker steps.
-ghost use Rattle.std.specs.Prelude.{◌≡◌, ℕ, ◌+◌, ◌^◌, ◌<◌, ◌⊎◌, true, false, ◌≤◌, List, [], ◌∷◌, ◌++◌, ◌%◌, ◌-◌, length, None, OnOk, IfErr, IfSome, IfNone, vec_len, vec_capacity};
+ghost use Rattle.std.specs.Prelude.{◌≡◌, ℕ, ◌+◌, ◌^◌, ◌<◌, true, false, ◌≤◌, [], ◌∷◌, ◌++◌, ◌%◌, ◌-◌, length, None, OnOk, IfErr, IfSome, IfNone, vec_len, vec_capacity};
 ghost use Rattle.std.specs.Int.{bit_at};
 ghost use Rattle.hub_rule.specs.Counts.{count, one_if, things_of, numbered};
-ghost use Rattle.hub_rule.specs.Rule.{after_commit, since_after, with_tally, with_pile, takes_up, leaves, kept_if, owes, pays, Carries, MayDraw, Goes, EndsBy};
+ghost use Rattle.hub_rule.specs.Rule.{after_commit, since_after, with_tally, takes_up, leaves, kept_if, owes, pays, Carries, MayDraw, Goes, EndsBy};
+ghost use Rattle.hub_rule.specs.Rule.{ChangesPile, KeepsTurns, MayTakeDesk, SameCharges, IsClear, FindsLeave, FindsNoEnd, FindsEnd, HasNewLeave};
 ghost use Rattle.hub_rule.specs.Stops.{HasFault};
-ghost use Rattle.hub_rule.specs.Meaning.{AllFollow};
-ghost use Rattle.hub_rule.specs.Works.{hand};
-ghost use Rattle.group_locks.specs.Seats.{home_of, pile_of, hand_of, taken_by, offered_by, took_by, empty_of, drawn_by, held_by, since_of, tally_of, charged_by, due_of, low_of, over_of, unset_of, found_of, stops_of, HasLeave, HasRoom, SameRoom};
+ghost use Rattle.hub_rule.specs.Meaning.{IsTold};
+ghost use Rattle.hub_rule.specs.Works.{hand, HasOneWork};
+ghost use Rattle.group_locks.specs.Seats.{home_of, pile_of, hand_of, taken_by, offered_by, took_by, empty_of, drawn_by, held_by, since_of, tally_of};
+ghost use Rattle.group_locks.specs.Seats.{charged_by, due_of, over_of, stops_of, HasLeave, HasRoom, SameRoom, MayGoOn, FoundEnd, StopsFor};
 
 use crate::hub::Hub;
 use crate::state::SeatState;
@@ -26,7 +28,8 @@ pub struct Seat<S: Scene> {
 }
 
 impl<S: Scene> Seat<S> {
-    /// Takes the turns of the shards whose bits are set, in ascending order, and moves these shards in hand. A turn that another seat holds is waited for.
+    /// Takes the turns of the shards whose bits are set, in ascending order, and moves these shards in hand. A turn that another seat holds
+    /// is waited for.
     pub fn take_group<R: Wait>(&mut self, rt: &R, hub: &Hub<S>, held: &mut S::Held, shards: u64)
         requires hub { home_of self.old.state ≡ hub.now.table.shared.table_id }
         requires free { held_by self.old.state ≡ [] }
@@ -43,7 +46,8 @@ impl<S: Scene> Seat<S> {
         take_group_at(rt, hub, &mut self.state, held, shards);
     }
 
-    /// Moves all shards in hand home, and gives their turns back. They are as they were when their turns were taken, changed by what this seat drew since.
+    /// Moves all shards in hand home, and gives their turns back. They are as they were when their turns were taken, changed by what this
+    /// seat drew since.
     pub fn give_group(&mut self, hub: &Hub<S>, held: &mut S::Held)
         requires hub { home_of self.old.state ≡ hub.now.table.shared.table_id }
         requires carries { Carries S.meaning (since_of self.old.state) (held_by self.old.state) (S.in_hand held.old) }
@@ -74,10 +78,10 @@ impl<S: Scene> Seat<S> {
         self.state.entries.reserve(1)
     }
 
-    /// Takes one work that is pending and that no other seat has in hand, and waits where none lies on a desk and others may still come. It stays in this
-    /// seat's hand until an entry of the seat ends it. `Some` comes only where this call found the stop unset and no more charged than the limit, and gives
-    /// leave and room for one entry; `None` only where this call found that nothing is pending, that more is charged than the limit, or that the hub stops.
-    /// Where no room for an entry can be reserved, it stops the hub for want of memory.
+    /// Takes one work that is pending and that no other seat has in hand, and waits where none lies on a desk and others may still come. It
+    /// stays in this seat's hand until an entry of the seat ends it. `Some` comes only where this call found the stop unset and no more
+    /// charged than the limit, and gives leave and room for one entry; `None` only where this call found that nothing is pending, that more
+    /// is charged than the limit, or that the hub stops. Where no room for an entry can be reserved, it stops the hub for want of memory.
     pub fn take_op<R: Wait>(&mut self, rt: &R, hub: &Hub<S>) -> Option<S::Work>
         requires hub { home_of self.old.state ≡ hub.now.table.shared.table_id }
         requires idle { hand_of self.old.state ≡ [] }
@@ -89,9 +93,9 @@ impl<S: Scene> Seat<S> {
         ensures charged { (charged_by self.new.state ≡ charged_by self.old.state) × (due_of self.new.state ≡ []) }
         ensures taken { IfSome result (λ w. (index : ℕ) × (taken_by self.new.state ≡ (index, w) ∷ [])) }
         ensures new { IfSome result (λ _. (offered_by self.new.state ≡ []) × (took_by self.new.state ≡ [])) }
-        ensures go { IfSome result (λ _. HasLeave self.new.state × HasRoom self.new.state × (low_of self.old.state < low_of self.new.state) × (unset_of self.old.state < unset_of self.new.state)) }
+        ensures go { IfSome result (λ _. MayGoOn self.old.state self.new.state) }
         ensures idle { IfNone result (hand_of self.new.state ≡ []) }
-        ensures cause { IfNone result ((empty_of self.old.state < empty_of self.new.state) ⊎ ((over_of self.old.state < over_of self.new.state) ⊎ (stops_of self.old.state < stops_of self.new.state))) }
+        ensures cause { IfNone result (FoundEnd self.old.state self.new.state) }
     {
         let Ok(()) = self.again(hub) else {
             self.stop(hub, StopCause::NoMemory);
@@ -100,7 +104,8 @@ impl<S: Scene> Seat<S> {
         take_at(rt, &hub.table.shared, &mut self.state, hub.terms)
     }
 
-    /// Puts the works that the seat's last entry offered on its desk, in their order. Where memory is wanting they come back, and stay in this seat's hand.
+    /// Puts the works that the seat's last entry offered on its desk, in their order. Where memory is wanting they come back, and stay in
+    /// this seat's hand.
     pub fn leave_ops<R: Wait>(
         &mut self,
         rt: &R,
@@ -123,10 +128,10 @@ impl<S: Scene> Seat<S> {
         leave_at(rt, &hub.table.shared, &mut self.state, ops)
     }
 
-    /// Draws the entry's number, and answers it. The seat has leave and room for the entry, has charged its entry before and left what that offered, has the
-    /// work in hand that the entry takes, and holds the turns of all shards that it touches; and the held shards, as they stood before the entry, and the
-    /// entries that it drew on this work tell that it is allowed. The shards in hand are already changed by the entry. `offers` is how many works it offers,
-    /// less the one that it ends, if it ends one, modulo 2^64.
+    /// Draws the entry's number, and answers it. The seat has leave and room for the entry, has charged its entry before and left what that
+    /// offered, has the work in hand that the entry takes, and holds the turns of all shards that it touches; and the held shards, as they
+    /// stood before the entry, and the entries that it drew on this work tell that it is allowed. The shards in hand are already changed by
+    /// the entry. `offers` is how many works it offers, less the one that it ends, if it ends one, modulo 2^64.
     pub fn commit(&mut self, hub: &Hub<S>, held: &S::Held, entry: S::Entry, offers: u64) -> u64
         requires hub { home_of self.old.state ≡ hub.now.table.shared.table_id }
         requires leave { HasLeave self.old.state }
@@ -137,7 +142,7 @@ impl<S: Scene> Seat<S> {
         requires left { offered_by self.old.state ≡ [] }
         requires few { length (S.meaning.offers entry) < 2 ^ 57 + 64 }
         requires offers { offers ≡ (length (S.meaning.offers entry) + (2 ^ 64 - one_if (S.meaning.ends entry))) % 2 ^ 64 }
-        requires allowed { (before : List (ℕ × S.Shard)) × AllFollow S.meaning (since_of self.old.state) (held_by self.old.state) before × S.meaning.tells before (took_by self.old.state) entry }
+        requires allowed { IsTold S.meaning (since_of self.old.state) (held_by self.old.state) (took_by self.old.state) entry }
         requires carries { Carries S.meaning (since_of self.old.state ++ entry ∷ []) (held_by self.old.state) (S.in_hand held.now) }
         ensures hub { home_of self.new.state ≡ home_of self.old.state }
         ensures drawn { drawn_by self.new.state ≡ drawn_by self.old.state ++ (result, entry) ∷ [] }
@@ -154,8 +159,8 @@ impl<S: Scene> Seat<S> {
         commit_at::<S>(&hub.table.shared, &mut self.state, entry, offers)
     }
 
-    /// Whether the seat may draw a further entry: true only where this call found the stop unset and no more charged than the limit, false only where it
-    /// found that the hub stops or that more is charged. The seat's last entry is charged.
+    /// Whether the seat may draw a further entry: true only where this call found the stop unset and no more charged than the limit, false
+    /// only where it found that the hub stops or that more is charged. The seat's last entry is charged.
     pub fn may_go(&mut self, hub: &Hub<S>) -> bool
         requires hub { home_of self.old.state ≡ hub.now.table.shared.table_id }
         requires charged { due_of self.old.state ≡ [] }
@@ -166,9 +171,9 @@ impl<S: Scene> Seat<S> {
         ensures room { SameRoom self.old.state self.new.state }
         ensures charged { (charged_by self.new.state ≡ charged_by self.old.state) × (due_of self.new.state ≡ []) }
         ensures works { pile_of self.new.state ≡ pile_of self.old.state }
-        ensures go { result ≡ true → HasLeave self.new.state × (low_of self.new.state ≡ low_of self.old.state + 1) × (unset_of self.new.state ≡ unset_of self.old.state + 1) }
-        ensures stays { result ≡ true → (over_of self.new.state ≡ over_of self.old.state) × (stops_of self.new.state ≡ stops_of self.old.state) }
-        ensures cause { result ≡ false → (over_of self.new.state ≡ over_of self.old.state + 1) ⊎ (stops_of self.new.state ≡ stops_of self.old.state + 1) }
+        ensures go { result ≡ true → FindsLeave (tally_of self.old.state) (tally_of self.new.state) }
+        ensures stays { result ≡ true → FindsNoEnd (tally_of self.old.state) (tally_of self.new.state) }
+        ensures cause { result ≡ false → FindsEnd (tally_of self.old.state) (tally_of self.new.state) }
     {
         may_go_at(&hub.table.shared, &mut self.state.token, hub.terms.limit)
     }
@@ -190,8 +195,8 @@ impl<S: Scene> Seat<S> {
         pay(&hub.table.shared, &mut self.state.token, n, hub.terms.limit);
     }
 
-    /// Stops the hub, for want of memory or for a faulting entry that this seat drew. The first cause stays: where this call found the stop unset, its own
-    /// cause stands from then on, and else the one that it found.
+    /// Stops the hub, for want of memory or for a faulting entry that this seat drew. The first cause stays: where this call found the stop
+    /// unset, its own cause stands from then on, and else the one that it found.
     pub fn stop(&mut self, hub: &Hub<S>, cause: StopCause)
         requires hub { home_of self.old.state ≡ hub.now.table.shared.table_id }
         requires fault { cause ≡ StopCause.Fault → HasFault S.meaning.faults (drawn_by self.old.state) }
@@ -205,7 +210,7 @@ impl<S: Scene> Seat<S> {
         ensures leave { HasLeave self.old.state → HasLeave self.new.state }
         ensures over { over_of self.new.state ≡ over_of self.old.state }
         ensures stops { stops_of self.new.state ≡ stops_of self.old.state + 1 }
-        ensures cause { ((unset_of self.new.state ≡ unset_of self.old.state + 1) × (found_of cause self.new.state ≡ found_of cause self.old.state + 1)) ⊎ (unset_of self.new.state ≡ unset_of self.old.state) }
+        ensures cause { StopsFor cause self.old.state self.new.state }
     {
         halt(&hub.table.shared, &mut self.state.token, cause);
     }
@@ -280,12 +285,12 @@ fn may_go_at<S: Scene>(board: &Board<S>, token: &mut Token<S>, limit: u64) -> bo
     requires limit { limit ≡ board.now.key.terms.limit }
     ensures same { (token.new.table_id ≡ token.old.table_id) × (token.new.id ≡ token.old.id) }
     ensures view { token.new.me ≡ (with_tally token.old.me.0 token.new.me.0.tally, token.old.me.1) }
-    ensures charged { (token.new.me.0.tally.settled ++ token.new.me.0.tally.fresh ≡ token.old.me.0.tally.settled ++ token.old.me.0.tally.fresh) × (token.new.me.0.tally.due ≡ token.old.me.0.tally.due) }
+    ensures charged { SameCharges token.old.me.0.tally token.new.me.0.tally }
     ensures fresh { length token.new.me.0.tally.fresh ≤ length token.old.me.0.tally.fresh }
-    ensures clear { (token.old.me.0.tally.leave ≡ true → length token.old.me.0.tally.fresh ≡ 0) → token.new.me.0.tally.leave ≡ true → length token.new.me.0.tally.fresh ≡ 0 }
-    ensures go { result ≡ true → (token.new.me.0.tally.leave ≡ true) × (token.new.me.0.tally.low ≡ token.old.me.0.tally.low + 1) × (token.new.me.0.tally.unset ≡ token.old.me.0.tally.unset + 1) }
-    ensures stays { result ≡ true → (token.new.me.0.tally.over ≡ token.old.me.0.tally.over) × (token.new.me.0.tally.no_memory + token.new.me.0.tally.fault ≡ token.old.me.0.tally.no_memory + token.old.me.0.tally.fault) }
-    ensures cause { result ≡ false → (token.new.me.0.tally.over ≡ token.old.me.0.tally.over + 1) ⊎ (token.new.me.0.tally.no_memory + token.new.me.0.tally.fault ≡ token.old.me.0.tally.no_memory + token.old.me.0.tally.fault + 1) }
+    ensures clear { IsClear token.old.me.0.tally → IsClear token.new.me.0.tally }
+    ensures go { result ≡ true → FindsLeave token.old.me.0.tally token.new.me.0.tally }
+    ensures stays { result ≡ true → FindsNoEnd token.old.me.0.tally token.new.me.0.tally }
+    ensures cause { result ≡ false → FindsEnd token.old.me.0.tally token.new.me.0.tally }
 {
     if read_stop(board, token) != 0 {
         return false;
@@ -303,9 +308,10 @@ fn commit_at<S: Scene>(
     requires leave { (state.old.token.me.0.tally.leave ≡ true) × (state.old.token.me.0.tally.due ≡ []) }
     requires room { (vec_len state.old.entries < vec_capacity state.old.entries) × (vec_len state.old.entries < 2 ^ 58) }
     requires within { (k : ℕ) → S.meaning.touched entry k ≡ true → 0 < count k state.old.token.me.0.held }
-    requires work { (index : ℕ) × (state.old.token.me.0.pile.taken ≡ (index, S.meaning.takes entry) ∷ []) × (state.old.token.me.0.pile.offered ≡ []) }
-    requires offers { (length (S.meaning.offers entry) < 2 ^ 57 + 64) × (offers ≡ (length (S.meaning.offers entry) + (2 ^ 64 - one_if (S.meaning.ends entry))) % 2 ^ 64) }
-    requires allowed { (before : List (ℕ × S.Shard)) × AllFollow S.meaning state.old.token.me.0.since state.old.token.me.0.held before × S.meaning.tells before state.old.token.me.0.pile.took entry }
+    requires work { HasOneWork state.old.token.me.0.pile (S.meaning.takes entry) }
+    requires few { length (S.meaning.offers entry) < 2 ^ 57 + 64 }
+    requires offers { offers ≡ (length (S.meaning.offers entry) + (2 ^ 64 - one_if (S.meaning.ends entry))) % 2 ^ 64 }
+    requires allowed { IsTold S.meaning state.old.token.me.0.since state.old.token.me.0.held state.old.token.me.0.pile.took entry }
     ensures hub { state.new.token.table_id ≡ state.old.token.table_id }
     ensures view { (base : ℕ) × (state.new.token.me.0 ≡ after_commit S.meaning state.old.token.me.0 result entry base) }
 {
@@ -345,13 +351,13 @@ fn find_work<S: Scene, R: Wait>(
 ) -> Option<S::Work>
     requires table { (token.old.table_id ≡ board.now.table_id) × (board.now.table_id.words ≡ 800) }
     requires terms { (terms.limit ≡ board.now.key.terms.limit) × (1 ≤ terms.seats) × (terms.seats ≤ 32) }
-    requires desk { (desk < 32) × (token.old.me.0.pile.desk ≡ []) × (32 ≤ token.old.me.0.parts) × (token.old.me.0.pile.owes ≡ false) }
+    requires desk { MayTakeDesk token.old.me.0 desk }
     requires idle { hand token.old.me.0.pile ≡ [] }
     ensures same { (token.new.table_id ≡ token.old.table_id) × (token.new.id ≡ token.old.id) }
-    ensures view { token.new.me ≡ (with_pile (with_tally token.old.me.0 token.new.me.0.tally) token.new.me.0.pile, token.old.me.1) }
+    ensures view { KeepsTurns token.old token.new }
     ensures tally { Goes token.old.me.0.tally token.new.me.0.tally }
     ensures some { IfSome result (λ w. (i : ℕ) × (token.new.me.0.pile ≡ takes_up token.old.me.0.pile ((i, w) ∷ []))) }
-    ensures go { IfSome result (λ _. (token.new.me.0.tally.leave ≡ true) × (token.old.me.0.tally.low < token.new.me.0.tally.low) × (token.old.me.0.tally.unset < token.new.me.0.tally.unset)) }
+    ensures go { IfSome result (λ _. HasNewLeave token.old.me.0.tally token.new.me.0.tally) }
     ensures none { IfNone result (EndsBy token.old.me.0 token.new.me.0) }
 {
     for _ in rt.forever() {
@@ -380,11 +386,11 @@ fn take_at<S: Scene, R: Wait>(
     requires terms { (terms.limit ≡ board.now.key.terms.limit) × (1 ≤ terms.seats) × (terms.seats ≤ 32) }
     requires idle { hand state.old.token.me.0.pile ≡ [] }
     ensures hub { state.new.token.table_id ≡ state.old.token.table_id }
-    ensures room { (vec_len state.new.entries ≡ vec_len state.old.entries) × (vec_capacity state.new.entries ≡ vec_capacity state.old.entries) }
-    ensures view { state.new.token.me ≡ (with_pile (with_tally state.old.token.me.0 state.new.token.me.0.tally) state.new.token.me.0.pile, state.old.token.me.1) }
+    ensures room { SameRoom state.old state.new }
+    ensures view { KeepsTurns state.old.token state.new.token }
     ensures tally { Goes state.old.token.me.0.tally state.new.token.me.0.tally }
     ensures some { IfSome result (λ w. (i : ℕ) × (state.new.token.me.0.pile ≡ takes_up state.old.token.me.0.pile ((i, w) ∷ []))) }
-    ensures go { IfSome result (λ _. (state.new.token.me.0.tally.leave ≡ true) × (state.old.token.me.0.tally.low < state.new.token.me.0.tally.low) × (state.old.token.me.0.tally.unset < state.new.token.me.0.tally.unset)) }
+    ensures go { IfSome result (λ _. HasNewLeave state.old.token.me.0.tally state.new.token.me.0.tally) }
     ensures none { IfNone result (EndsBy state.old.token.me.0 state.new.token.me.0) }
 {
     let alloc = *state.entries.allocator();
@@ -404,8 +410,8 @@ fn leave_at<S: Scene, R: Wait>(
     requires table { (state.old.token.table_id ≡ board.now.table_id) × (board.now.table_id.words ≡ 800) }
     requires ops { ops.items ≡ things_of state.old.token.me.0.pile.offered }
     ensures hub { state.new.token.table_id ≡ state.old.token.table_id }
-    ensures room { (vec_len state.new.entries ≡ vec_len state.old.entries) × (vec_capacity state.new.entries ≡ vec_capacity state.old.entries) }
-    ensures ok { OnOk result (state.new.token.me ≡ (with_pile state.old.token.me.0 (leaves state.old.token.me.0.pile), state.old.token.me.1)) }
+    ensures room { SameRoom state.old state.new }
+    ensures ok { OnOk result (ChangesPile state.old.token state.new.token leaves) }
     ensures err { IfErr result (λ v. (v ≡ ops) × (state.new.token.me ≡ state.old.token.me)) }
 {
     let alloc = *state.entries.allocator();

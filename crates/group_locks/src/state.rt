@@ -7,7 +7,8 @@ ghost use Rattle.hub_rule.specs.Works.{hand};
 
 use hub_rule::{Slot, View};
 
-/// What one seat knows and has drawn. It is no part of `Seat`, whose bound has ghost members: no closure may take a struct that has both such a bound and ghost fields.
+/// What one seat knows and has drawn. It is no part of `Seat`, whose bound has ghost members: no closure may take a struct that has both
+/// such a bound and ghost fields.
 #[derive(Drop)]
 pub struct SeatState<E, X, W> {
     pub(crate) token: atomic_table::Seat<Slot<X, W>, View<E, X, W>>,

@@ -48,3 +48,11 @@ things_of (p ∷ ps) = p.1 ∷ things_of ps
 abbrev pub numbered : {A : Type 0} → ℕ → List A → List (ℕ × A)
 numbered base [] = []
 numbered base (x ∷ xs) = (base, x) ∷ numbered (base + 1) xs
+
+-- each thing stands at its number in the list
+abbrev pub StandIn : {A : Type 0} → List A → List (ℕ × A) → Type 0
+StandIn xs ps = Each (λ n x. slice_get xs n ≡ Some x) ps
+
+-- each number below the bound stands once, and no other
+abbrev pub EachOnceBelow : {A : Type 0} → ℕ → List (ℕ × A) → Type 0
+EachOnceBelow bound ps = (n : ℕ) → count n ps ≡ once_below n bound

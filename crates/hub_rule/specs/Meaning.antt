@@ -89,6 +89,10 @@ module _ {Store Entry Shard Work : Type 0} (m : Meaning Store Entry Shard Work) 
   AllFollow es (p ∷ ps) [] = ⊥
   AllFollow es (p ∷ ps) (q ∷ qs) = (q.0 ≡ p.0) × Follows es p.0 p.1 q.1 × AllFollow es ps qs
 
+  -- the held shards, as these entries may have made them, and those that took the entry's work tell that it is allowed
+  abbrev pub IsTold : List Entry → List (ℕ × Shard) → List Entry → Entry → Type 0
+  IsTold since held took e = (before : List (ℕ × Shard)) × AllFollow since held before × m.tells before took e
+
   -- The laws of a scene. An entry changes no shard that it doesn't touch; the projection of the store after an allowed entry is its effect on each
   -- shard that it touches; after every allowed list from a store and works with which a hub may open, an entry on a pending work is allowed that
   -- projections of the store and the entries which took this work before tell to be; and an entry costs at most 2^56.

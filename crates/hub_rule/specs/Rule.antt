@@ -8,6 +8,7 @@ use mathlib.Core.Option.{some, none}
 use mathlib.Core.Option as opt
 use lib.ListN.{get_elem?}
 use Rattle.atomic_table.specs.Table.{State, Me, Step, rest}
+use Rattle.atomic_table.specs.declared.shared.Seat.{Seat}
 use Rattle.hub_rule.specs.declared.view.View.{View}
 use Rattle.hub_rule.specs.declared.view.Tally.{Tally}
 use Rattle.hub_rule.specs.declared.view.Pile.{Pile}
@@ -110,9 +111,13 @@ pub record HubRule {Store E X W : Type 0} (m : Meaning Store E X W) (opened : Li
   pub works : WorkRule m opened.1 log desks (piles_of s.views)
   pub pending : PendRule (length opened.1) (slice_index s.words 520) desks (piles_of s.views)
 
+-- the view with these shards held, and these entries drawn since
+abbrev pub with_held : {E X W : Type 0} → View E X W → List (ℕ × X) → List E → View E X W
+with_held v held since = view v.parts v.entries held since v.tally v.pile
+
 -- a turn is taken, with what its slot holds, where the word was 0; else nothing changes
 abbrev pub Took : {E X W : Type 0} → Step (Slot X W) → Me (Slot X W) (View E X W) → ℕ → Me (Slot X W) (View E X W) → Type 0
-Took st a r b = (r ≡ 0 → (k : ℕ) × (x : _) × (st.word ≡ k * 8 + 8) × (b ≡ (view a.0.parts a.0.entries ((k, x) ∷ a.0.held) a.0.since a.0.tally a.0.pile, (k, Shard (Some x)) ∷ a.1))) × (r ≢ 0 → b ≡ a)
+Took st a r b = (r ≡ 0 → (k : ℕ) × (x : _) × (st.word ≡ k * 8 + 8) × (b ≡ (with_held a.0 ((k, x) ∷ a.0.held) a.0.since, (k, Shard (Some x)) ∷ a.1))) × (r ≢ 0 → b ≡ a)
 
 -- what is known of entries is forgotten with the last shard
 abbrev pub since_after : {E X : Type 0} → List (ℕ × X) → List E → List E
@@ -121,7 +126,11 @@ since_after (p ∷ ps) es = es
 
 -- the view after the turn that was taken last is given back
 abbrev pub given_back : {E X W : Type 0} → View E X W → View E X W
-given_back v = view v.parts v.entries (rest v.held) (since_after (rest v.held) v.since) v.tally v.pile
+given_back v = with_held v (rest v.held) (since_after (rest v.held) v.since)
+
+-- the turn taken last is that of the shard k, of which the entries drawn since may have made y
+abbrev pub HoldsLast : {Store E X W : Type 0} → Meaning Store E X W → View E X W → ℕ → X → Type 0
+HoldsLast {X = X} m v k y = (x : X) × (v.held ≡ (k, x) ∷ rest v.held) × Follows m v.since k x y
 
 -- a turn is given back
 abbrev pub Gave : {E X W : Type 0} → Step (Slot X W) → Me (Slot X W) (View E X W) → ℕ → Me (Slot X W) (View E X W) → Type 0
@@ -170,6 +179,22 @@ with_tally v t = view v.parts v.entries v.held v.since t v.pile
 abbrev pub with_pile : {E X W : Type 0} → View E X W → Pile E W → View E X W
 with_pile v p = view v.parts v.entries v.held v.since v.tally p
 
+-- of what the seat knows the tally alone changes, and as f says
+abbrev pub ChangesTally : {E X W : Type 0} → Seat (Slot X W) (View E X W) → Seat (Slot X W) (View E X W) → (Tally E → Tally E) → Type 0
+ChangesTally old new f = new.me ≡ (with_tally old.me.0 (f old.me.0.tally), old.me.1)
+
+-- of what the seat knows the pile alone changes, and as f says
+abbrev pub ChangesPile : {E X W : Type 0} → Seat (Slot X W) (View E X W) → Seat (Slot X W) (View E X W) → (Pile E W → Pile E W) → Type 0
+ChangesPile old new f = new.me ≡ (with_pile old.me.0 (f old.me.0.pile), old.me.1)
+
+-- the slot that was taken last is given back, and beside it the pile alone changes, as f says
+abbrev pub GivesDesk : {E X W : Type 0} → Seat (Slot X W) (View E X W) → Seat (Slot X W) (View E X W) → (Pile E W → Pile E W) → Type 0
+GivesDesk old new f = new.me ≡ (with_pile old.me.0 (f old.me.0.pile), rest old.me.1)
+
+-- of what the seat knows only the tally and the pile change
+abbrev pub KeepsTurns : {E X W : Type 0} → Seat (Slot X W) (View E X W) → Seat (Slot X W) (View E X W) → Type 0
+KeepsTurns old new = new.me ≡ (with_pile (with_tally old.me.0 new.me.0.tally) new.me.0.pile, old.me.1)
+
 -- the pending word counts all works in hand
 abbrev pub tells_of : {E W : Type 0} → Pile E W → Pile E W
 tells_of p = pile p.kept p.taken p.offered p.took (length (hand p)) false p.desk p.empty p.left p.fetched
@@ -199,6 +224,14 @@ abbrev pub TookDesk : {E X W : Type 0} → Step (Slot X W) → Me (Slot X W) (Vi
 TookDesk {W = W} st a r b =
     (r ≡ 0 → (d : ℕ) × (v : _) × (ps : List (ℕ × W)) × (st.word ≡ d * 8 + 528) × (v.items ≡ things_of ps) × (b ≡ (with_pile a.0 (at_desk a.0.pile d ps), (d + 64, Desk v) ∷ a.1))) × (r ≢ 0 → b ≡ a)
 
+-- the turn of this desk is taken, with the works in its slot
+abbrev pub TakesDesk : {E X W : Type 0} → Seat (Slot X W) (View E X W) → Seat (Slot X W) (View E X W) → ℕ → Type 0
+TakesDesk {W = W} old new d = (v : _) × (ps : List (ℕ × W)) × (new.me ≡ (with_pile old.me.0 (at_desk old.me.0.pile d ps), (d + 64, Desk v) ∷ old.me.1)) × (v.items ≡ things_of ps)
+
+-- The seat may take the turn of this desk and give it back: it holds the turn of none, has a seat's parts, and has told the pending word what it drew.
+abbrev pub MayTakeDesk : {E X W : Type 0} → View E X W → ℕ → Type 0
+MayTakeDesk v d = (d < 32) × (v.pile.desk ≡ []) × (32 ≤ v.parts) × (v.pile.owes ≡ false)
+
 -- the works that lay on the desk whose turn is held
 abbrev pub lying : {W : Type 0} → List (ℕ × List (ℕ × W)) → List (ℕ × W)
 lying [] = []
@@ -222,6 +255,10 @@ away p = pile p.kept p.taken p.offered p.took p.counted p.owes [] p.empty p.left
 abbrev pub takes_up : {E W : Type 0} → Pile E W → List (ℕ × W) → Pile E W
 takes_up p [] = away p
 takes_up p (r ∷ rs) = pile p.kept (r ∷ rs) p.offered [] (p.counted + length (r ∷ rs)) p.owes [] p.empty p.left (p.fetched + length (r ∷ rs))
+
+-- this work was taken from a desk
+abbrev pub TakesUp : {E X W : Type 0} → Seat (Slot X W) (View E X W) → Seat (Slot X W) (View E X W) → W → Type 0
+TakesUp old new w = (i : ℕ) × ChangesPile old new (λ p. takes_up p ((i, w) ∷ []))
 
 -- the turn of a desk is given back, and what lay there beyond what is in its slot was taken
 abbrev pub Fetched : {E X W : Type 0} → Step (Slot X W) → Me (Slot X W) (View E X W) → ℕ → Me (Slot X W) (View E X W) → Type 0
@@ -273,6 +310,34 @@ ReadStop st a r b = (r ≤ 2) × (b ≡ (with_tally a.0 (saw_stop a.0.tally r), 
 -- the stop word is set where it was 0, and else stays; whether it was 0, and what it then is, is known
 abbrev pub Stopped : {E X W : Type 0} → Step (Slot X W) → Me (Slot X W) (View E X W) → ℕ → Me (Slot X W) (View E X W) → Type 0
 Stopped st a r b = (r ≤ 2) × (b ≡ (with_tally a.0 (saw_stopped a.0.tally r (cond (r == 0) st.second r)), a.1))
+
+-- all entries that were charged
+abbrev pub all_charged : {E : Type 0} → Tally E → List (ℕ × E)
+all_charged t = t.settled ++ t.fresh
+
+-- nothing was charged or drawn
+abbrev pub SameCharges : {E : Type 0} → Tally E → Tally E → Type 0
+SameCharges t u = (all_charged u ≡ all_charged t) × (u.due ≡ t.due)
+
+-- where there is leave, nothing was charged since the charged word was last found not above the limit
+abbrev pub IsClear : {E : Type 0} → Tally E → Type 0
+IsClear t = t.leave ≡ true → length t.fresh ≡ 0
+
+-- there is leave: the charged word was found not above the limit once more, and the stop word unset once more
+abbrev pub FindsLeave : {E : Type 0} → Tally E → Tally E → Type 0
+FindsLeave t u = (u.leave ≡ true) × (u.low ≡ t.low + 1) × (u.unset ≡ t.unset + 1)
+
+-- there is leave: since then the charged word was found not above the limit, and the stop word unset
+abbrev pub HasNewLeave : {E : Type 0} → Tally E → Tally E → Type 0
+HasNewLeave t u = (u.leave ≡ true) × (t.low < u.low) × (t.unset < u.unset)
+
+-- no end was found: the charged word was not found above the limit, nor that the hub stops
+abbrev pub FindsNoEnd : {E : Type 0} → Tally E → Tally E → Type 0
+FindsNoEnd t u = (u.over ≡ t.over) × (u.no_memory + u.fault ≡ t.no_memory + t.fault)
+
+-- an end was found: once more the charged word was above the limit, or the hub stops
+abbrev pub FindsEnd : {E : Type 0} → Tally E → Tally E → Type 0
+FindsEnd t u = (u.over ≡ t.over + 1) ⊎ (u.no_memory + u.fault ≡ t.no_memory + t.fault + 1)
 
 -- the words were read some times, and nothing was charged or drawn
 pub record Goes {E : Type 0} (t u : Tally E) : Type 0 where

@@ -24,6 +24,14 @@ bare = pile [] [] [] [] 0 false [] 0 0 0
 abbrev pub hand : {E W : Type 0} → Pile E W → List (ℕ × W)
 hand p = p.kept ++ (p.taken ++ p.offered)
 
+-- this work was taken, and nothing else of what is in hand since
+abbrev pub HasOneWork : {E W : Type 0} → Pile E W → W → Type 0
+HasOneWork p w = (index : ℕ) × (p.taken ≡ (index, w) ∷ []) × (p.offered ≡ [])
+
+-- the turn of this desk is held, and P holds of the works that lay there
+abbrev pub HoldsDesk : {E W : Type 0} → Pile E W → ℕ → (List W → Type 0) → Type 0
+HoldsDesk {W = W} p d P = (ps : List (ℕ × W)) × (p.desk ≡ (d, ps) ∷ []) × P (things_of ps)
+
 -- what these seats have, each with its parts
 abbrev pub Piles : Type 0 → Type 0 → Type 0
 Piles E W = List (ℕ × Pile E W)
@@ -83,3 +91,11 @@ LiesOn slots lists = (d : ℕ) (ws : List _) → get_elem? lists d ≡ some ws �
 -- the slots below the first number are empty, those from there to the bound are full
 abbrev pub FilledFrom : ℕ → ℕ → List Bool → Type 0
 FilledFrom first bound flags = ((j : ℕ) → first ≤ j → j < bound → slice_index_or flags j false ≡ true) × ((j : ℕ) → j < first → slice_index_or flags j false ≡ false)
+
+-- this shard is in the slot of this number
+abbrev pub LiesAt : {X W : Type 0} → List (Slot X W) → ℕ → X → Type 0
+LiesAt slots k x = get_elem? slots k ≡ some (Shard (Some x))
+
+-- so much room is enough for the works on all 32 desks
+abbrev pub DesksFit : {X W : Type 0} → List (Slot X W) → ℕ → Type 0
+DesksFit {W = W} slots room = (lists : List (List W)) × (length lists ≡ 32) × LiesOn slots lists × (length (all_of (λ l. l) lists) ≤ room)

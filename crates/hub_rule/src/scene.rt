@@ -4,11 +4,11 @@ ghost use Rattle.std.specs.Int.{bit_at};
 ghost use Rattle.hub_rule.specs.Counts.{one_if};
 ghost use Rattle.hub_rule.specs.Meaning.{Meaning, Lawful};
 
-/// A subject that seats work on. Its state is cut into 64 shards, numbered from 0, and an entry is an event that changes some of them. An entry takes one
-/// work that is pending.
+/// A subject that seats work on. Its state is cut into 64 shards, numbered from 0, and an entry is an event that changes some of them. An
+/// entry takes one work that is pending.
 ///
-/// `meaning` says what the state is that all shards together stand for, which entries are allowed in it and what an entry does to each shard. `lawful`
-/// is the proof of the scene's laws, which `Lawful` says in full.
+/// `meaning` says what the state is that all shards together stand for, which entries are allowed in it and what an entry does to each
+/// shard. `lawful` is the proof of the scene's laws, which `Lawful` says in full.
 pub trait Scene: Drop + Sync {
     /// An event, with a price and perhaps a fault.
     type Entry: Drop + Send + Sync;

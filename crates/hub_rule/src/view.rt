@@ -23,8 +23,8 @@ pub struct Tally<E> {
     pub fault: u64,
 }
 
-/// What a seat has of the works that are pending. It stands in contracts alone: no value of it is ever made. A work stands with its index, which is its
-/// place among all works: first those opened, and then what each entry offered.
+/// What a seat has of the works that are pending. It stands in contracts alone: no value of it is ever made. A work stands with its index,
+/// which is its place among all works: first those opened, and then what each entry offered.
 pub struct Pile<E, W> {
     /// The works in hand of seats that were joined to it.
     pub kept: LinkedList<(u64, W)>,

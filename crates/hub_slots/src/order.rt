@@ -1,6 +1,6 @@
 //! Puts numbered things in their order.
 ghost use Rattle.std.specs.Prelude.{◌≡◌, ℕ, ◌+◌, ◌<◌, ◌≤◌, ◌++◌, List, [], None, Some, Option, IsSome, length, map, replicate, IfOk, slice_get, vec_len, vec_capacity};
-ghost use Rattle.hub_rule.specs.Counts.{count, once_below, placed, all_of, Each};
+ghost use Rattle.hub_rule.specs.Counts.{count, placed, all_of, StandIn, EachOnceBelow};
 
 use std::alloc::{AllocError, Global};
 
@@ -62,9 +62,9 @@ fn unwrap_all<T: Drop>(places: Vec<Option<T>>, mut out: Vec<T>) -> Vec<T>
 
 /// The things in the order of their numbers, each of which stands once.
 pub fn in_order<T: Drop>(places: Vec<Option<T>>, lists: Vec<Vec<(u64, T)>>, out: Vec<T>) -> Vec<T>
-    requires once { (n : ℕ) → count n (all_of (λ l. l.items) lists.items) ≡ once_below n (length places.items) }
+    requires once { EachOnceBelow (length places.items) (all_of (λ l. l.items) lists.items) }
     requires room { (out.items ≡ []) × (length places.items ≤ vec_capacity out) }
-    ensures { (length result.items ≡ length places.items) × Each (λ n x. slice_get result.items n ≡ Some x) (all_of (λ l. l.items) lists.items) }
+    ensures { (length result.items ≡ length places.items) × StandIn result.items (all_of (λ l. l.items) lists.items) }
 {
     unwrap_all(place_lists(places, lists), out)
 }

@@ -2,10 +2,8 @@
 ghost use Rattle.std.specs.Prelude.{◌≡◌, ℕ, ◌<◌, ◌≤◌, ◌++◌, [], Some, IfOk, List, length, map, slice_get, vec_capacity};
 ghost use Rattle.std.specs.Vec.Iter.{into_iter_items};
 ghost use Rattle.std.specs.Mem.Slots.{slots_items, slots_len, slots_filled, IsFull};
-ghost use mathlib.Core.Option.{some};
-ghost use lib.ListN.{get_elem?};
 ghost use Rattle.hub_rule.specs.Counts.{all_of};
-ghost use Rattle.hub_rule.specs.Works.{Laid, LiesOn, FilledFrom};
+ghost use Rattle.hub_rule.specs.Works.{Laid, LiesOn, LiesAt, DesksFit, FilledFrom};
 
 use crate::order::move_all;
 use hub_rule::Slot;
@@ -99,11 +97,12 @@ pub fn take_shards<X: Drop, W: Drop>(
     mut out: Vec<X>,
 ) -> (Vec<X>, atomic_table::Closed<Slot<X, W>, Global>)
     requires slots { (slots_len closed.slots ≡ 96) × IsFull closed.slots }
-    requires home { (k : ℕ) → k < 64 → (x : X) × (get_elem? (slots_items closed.slots) k ≡ some (Slot.Shard (Some x))) }
+    requires home { (k : ℕ) → k < 64 → (x : X) × LiesAt (slots_items closed.slots) k x }
     requires room { (out.items ≡ []) × (64 ≤ vec_capacity out) }
     ensures long { length result.0.items ≡ 64 }
-    ensures items { (k : ℕ) (x : X) → slice_get result.0.items k ≡ Some x → get_elem? (slots_items closed.slots) k ≡ some (Slot.Shard (Some x)) }
-    ensures left { (slots_items result.1.slots ≡ slots_items closed.slots) × (slots_len result.1.slots ≡ 96) × FilledFrom 64 96 (slots_filled result.1.slots) }
+    ensures items { (k : ℕ) (x : X) → slice_get result.0.items k ≡ Some x → LiesAt (slots_items closed.slots) k x }
+    ensures same { slots_items result.1.slots ≡ slots_items closed.slots }
+    ensures left { (slots_len result.1.slots ≡ 96) × FilledFrom 64 96 (slots_filled result.1.slots) }
 {
     for number in 0..64usize {
         out.push_reserved(shard_of(closed.take(number)));
@@ -117,7 +116,7 @@ pub fn take_left<X: Drop, W: Drop>(
     mut left: Vec<W>,
 ) -> Vec<W>
     requires slots { (slots_len closed.slots ≡ 96) × FilledFrom 64 96 (slots_filled closed.slots) }
-    requires desks { (lists : List (List W)) × (length lists ≡ 32) × LiesOn (slots_items closed.slots) lists × (length (all_of (λ l. l) lists) ≤ vec_capacity left) }
+    requires desks { DesksFit (slots_items closed.slots) (vec_capacity left) }
     requires room { left.items ≡ [] }
     ensures { (lists : List (List W)) → length lists ≡ 32 → LiesOn (slots_items closed.slots) lists → result.items ≡ all_of (λ l. l) lists }
 {

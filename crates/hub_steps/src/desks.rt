@@ -1,8 +1,8 @@
 //! The steps of one seat on desks and on the count of what is pending.
 ghost use Rattle.std.specs.Prelude.{◌≡◌, ℕ, ◌+◌, ◌-◌, ◌%◌, ◌^◌, ◌<◌, ◌≤◌, true, false, [], ◌∷◌, ◌++◌, length, None, Some, IfSome, IfNone, IfErr, OnOk, IsSome, option_to_list, vec_capacity};
 ghost use Rattle.hub_rule.specs.Counts.{things_of};
-ghost use Rattle.hub_rule.specs.Works.{hand};
-ghost use Rattle.hub_rule.specs.Rule.{with_pile, tells_of, at_desk, away, takes_up, leaves};
+ghost use Rattle.hub_rule.specs.Works.{hand, HoldsDesk};
+ghost use Rattle.hub_rule.specs.Rule.{tells_of, away, takes_up, leaves, ChangesPile, GivesDesk, TakesDesk, TakesUp, MayTakeDesk};
 ghost use Rattle.atomic_table.specs.Table.{rest};
 
 use hub_rule::{
@@ -19,7 +19,7 @@ pub fn tell<S: Scene>(board: &Board<S>, token: &mut Token<S>, offers: u64) -> u6
     requires owes { token.old.me.0.pile.owes ≡ true }
     requires offers { offers ≡ (length (hand token.old.me.0.pile) + (2 ^ 64 - token.old.me.0.pile.counted)) % 2 ^ 64 }
     ensures same { (token.new.table_id ≡ token.old.table_id) × (token.new.id ≡ token.old.id) }
-    ensures told { token.new.me ≡ (with_pile token.old.me.0 (tells_of token.old.me.0.pile), token.old.me.1) }
+    ensures told { ChangesPile token.old token.new tells_of }
 {
     if offers == 0 {
         return board.load::<Tell>(token, PENDING);
@@ -116,7 +116,7 @@ fn take_desk<S: Scene, R: Wait>(rt: &R, board: &Board<S>, token: &mut Token<S>, 
     requires table { (token.old.table_id ≡ board.now.table_id) × (board.now.table_id.words ≡ 800) }
     requires desk { (desk < 32) × (token.old.me.0.pile.desk ≡ []) × (0 < token.old.me.0.parts) }
     ensures same { (token.new.table_id ≡ token.old.table_id) × (token.new.id ≡ token.old.id) }
-    ensures taken { (v : _) × (ps : _) × (token.new.me ≡ (with_pile token.old.me.0 (at_desk token.old.me.0.pile desk ps), (desk + 64, Slot.Desk v) ∷ token.old.me.1)) × (v.items ≡ things_of ps) }
+    ensures taken { TakesDesk token.old token.new desk }
 {
     let word = desk as usize * LINE + DESK_TURN;
     for _ in rt.forever() {
@@ -184,12 +184,12 @@ fn give_desk<S: Scene>(
 )
     requires table { (token.old.table_id ≡ board.now.table_id) × (board.now.table_id.words ≡ 800) }
     requires held { (old : _) × (token.old.me.1 ≡ (desk + 64, Slot.Desk old) ∷ rest token.old.me.1) }
-    requires desk { (ps : _) × (token.old.me.0.pile.desk ≡ (desk, ps) ∷ []) × (things_of ps ≡ works.items ++ option_to_list taken.now) }
+    requires desk { HoldsDesk token.old.me.0.pile desk (λ lay. lay ≡ works.items ++ option_to_list taken.now) }
     requires low { (desk < 32) × (32 ≤ token.old.me.0.parts) × (token.old.me.0.pile.owes ≡ false) }
     requires idle { IsSome taken.now → hand token.old.me.0.pile ≡ [] }
     ensures same { (token.new.table_id ≡ token.old.table_id) × (token.new.id ≡ token.old.id) }
-    ensures some { IfSome taken.now (λ w. (i : ℕ) × (token.new.me ≡ (with_pile token.old.me.0 (takes_up token.old.me.0.pile ((i, w) ∷ [])), rest token.old.me.1))) }
-    ensures none { IfNone taken.now (token.new.me ≡ (with_pile token.old.me.0 (away token.old.me.0.pile), rest token.old.me.1)) }
+    ensures some { IfSome taken.now (λ w. (i : ℕ) × GivesDesk token.old token.new (λ p. takes_up p ((i, w) ∷ []))) }
+    ensures none { IfNone taken.now (GivesDesk token.old token.new away) }
 {
     let _ = taken;
     desk_in(board, token, desk, works);
@@ -206,10 +206,10 @@ fn fetch_work<S: Scene, R: Wait>(
     desk: u32,
 ) -> Option<S::Work>
     requires table { (token.old.table_id ≡ board.now.table_id) × (board.now.table_id.words ≡ 800) }
-    requires desk { (desk < 32) × (token.old.me.0.pile.desk ≡ []) × (32 ≤ token.old.me.0.parts) × (token.old.me.0.pile.owes ≡ false) }
+    requires desk { MayTakeDesk token.old.me.0 desk }
     requires idle { hand token.old.me.0.pile ≡ [] }
     ensures same { (token.new.table_id ≡ token.old.table_id) × (token.new.id ≡ token.old.id) }
-    ensures some { IfSome result (λ w. (i : ℕ) × (token.new.me ≡ (with_pile token.old.me.0 (takes_up token.old.me.0.pile ((i, w) ∷ [])), token.old.me.1))) }
+    ensures some { IfSome result (TakesUp token.old token.new) }
     ensures none { IfNone result (token.new.me ≡ token.old.me) }
 {
     take_desk(rt, board, token, desk);
@@ -228,10 +228,10 @@ fn fetch_unmarked<S: Scene, R: Wait>(
     desk: u32,
 ) -> Option<S::Work>
     requires table { (token.old.table_id ≡ board.now.table_id) × (board.now.table_id.words ≡ 800) }
-    requires desk { (desk < 32) × (token.old.me.0.pile.desk ≡ []) × (32 ≤ token.old.me.0.parts) × (token.old.me.0.pile.owes ≡ false) }
+    requires desk { MayTakeDesk token.old.me.0 desk }
     requires idle { hand token.old.me.0.pile ≡ [] }
     ensures same { (token.new.table_id ≡ token.old.table_id) × (token.new.id ≡ token.old.id) }
-    ensures some { IfSome result (λ w. (i : ℕ) × (token.new.me ≡ (with_pile token.old.me.0 (takes_up token.old.me.0.pile ((i, w) ∷ [])), token.old.me.1))) }
+    ensures some { IfSome result (TakesUp token.old token.new) }
     ensures none { IfNone result (token.new.me ≡ token.old.me) }
 {
     if board.peek(desk as usize * LINE + MARK) == 1 {
@@ -250,10 +250,11 @@ pub fn look_round<S: Scene, R: Wait>(
     desks: u32,
 ) -> Option<S::Work>
     requires table { (token.old.table_id ≡ board.now.table_id) × (board.now.table_id.words ≡ 800) }
-    requires desk { (first < 32) × (1 ≤ desks) × (desks ≤ 32) × (token.old.me.0.pile.desk ≡ []) × (32 ≤ token.old.me.0.parts) × (token.old.me.0.pile.owes ≡ false) }
+    requires first { MayTakeDesk token.old.me.0 first }
+    requires desks { (1 ≤ desks) × (desks ≤ 32) }
     requires idle { hand token.old.me.0.pile ≡ [] }
     ensures same { (token.new.table_id ≡ token.old.table_id) × (token.new.id ≡ token.old.id) }
-    ensures some { IfSome result (λ w. (i : ℕ) × (token.new.me ≡ (with_pile token.old.me.0 (takes_up token.old.me.0.pile ((i, w) ∷ [])), token.old.me.1))) }
+    ensures some { IfSome result (TakesUp token.old token.new) }
     ensures none { IfNone result (token.new.me ≡ token.old.me) }
 {
     for step in 0..desks {
@@ -268,10 +269,10 @@ pub fn look_round<S: Scene, R: Wait>(
 fn give_left<S: Scene>(board: &Board<S>, token: &mut Token<S>, desk: u32, works: Vec<S::Work>)
     requires table { (token.old.table_id ≡ board.now.table_id) × (board.now.table_id.words ≡ 800) }
     requires held { (old : _) × (token.old.me.1 ≡ (desk + 64, Slot.Desk old) ∷ rest token.old.me.1) }
-    requires desk { (ps : _) × (token.old.me.0.pile.desk ≡ (desk, ps) ∷ []) × (works.items ≡ things_of ps ++ things_of token.old.me.0.pile.offered) }
+    requires desk { HoldsDesk token.old.me.0.pile desk (λ lay. works.items ≡ lay ++ things_of token.old.me.0.pile.offered) }
     requires low { (desk < 32) × (32 ≤ token.old.me.0.parts) × (token.old.me.0.pile.owes ≡ false) × (length works.items ≤ 2 ^ 58) }
     ensures same { (token.new.table_id ≡ token.old.table_id) × (token.new.id ≡ token.old.id) }
-    ensures left { token.new.me ≡ (with_pile token.old.me.0 (leaves token.old.me.0.pile), rest token.old.me.1) }
+    ensures left { GivesDesk token.old token.new leaves }
 {
     desk_in(board, token, desk, works);
     board.store::<Leave>(token, desk as usize * LINE + DESK_TURN, 0);
@@ -296,10 +297,10 @@ pub fn leave_works<S: Scene, R: Wait>(
     ops: Vec<S::Work>,
 ) -> Result<(), Vec<S::Work>>
     requires table { (token.old.table_id ≡ board.now.table_id) × (board.now.table_id.words ≡ 800) }
-    requires desk { (desk < 32) × (token.old.me.0.pile.desk ≡ []) × (32 ≤ token.old.me.0.parts) × (token.old.me.0.pile.owes ≡ false) }
+    requires desk { MayTakeDesk token.old.me.0 desk }
     requires ops { ops.items ≡ things_of token.old.me.0.pile.offered }
     ensures same { (token.new.table_id ≡ token.old.table_id) × (token.new.id ≡ token.old.id) }
-    ensures ok { OnOk result (token.new.me ≡ (with_pile token.old.me.0 (leaves token.old.me.0.pile), token.old.me.1)) }
+    ensures ok { OnOk result (ChangesPile token.old token.new leaves) }
     ensures err { IfErr result (λ v. (v ≡ ops) × (token.new.me ≡ token.old.me)) }
 {
     take_desk(rt, board, token, desk);

@@ -2,10 +2,9 @@
 ghost use Rattle.std.specs.Prelude.{◌≡◌, ℕ, true, ◌+◌, ◌<◌, ◌≤◌, ◌^◌, ◌==◌, cond, [], ◌∷◌, ◌++◌, length, None, Some};
 ghost use Rattle.std.specs.Int.{bit_at};
 ghost use Rattle.hub_rule.specs.Counts.{count};
-ghost use Rattle.hub_rule.specs.Rule.{view, emptied, below, descends, given_back, after_draw, with_tally, pays, saw_low, saw_over, saw_stop, saw_stopped, cost, Carries, MayDraw};
-ghost use Rattle.hub_rule.specs.Meaning.{Follows};
+ghost use Rattle.hub_rule.specs.Rule.{with_held, emptied, below, descends, given_back, after_draw, cost, Carries, MayDraw, HoldsLast};
+ghost use Rattle.hub_rule.specs.Rule.{ChangesTally, pays, saw_low, saw_over, saw_stop, saw_stopped, all_charged};
 ghost use Rattle.hub_rule.specs.Stops.{code_of, HasFault};
-ghost use Rattle.atomic_table.specs.Table.{rest};
 
 use crate::desks::{ring, sleep_for_turn, wake_turn};
 use hub_rule::{
@@ -26,7 +25,7 @@ fn take_turn<S: Scene, R: Wait>(
     requires counts { (board.now.table_id.words ≡ 800) × (number < 64) }
     requires fresh { (token.old.me.0.since ≡ []) × (0 < token.old.me.0.parts) }
     ensures same { (token.new.table_id ≡ token.old.table_id) × (token.new.id ≡ token.old.id) }
-    ensures view { token.new.me.0 ≡ view token.old.me.0.parts token.old.me.0.entries ((number, result) ∷ token.old.me.0.held) token.old.me.0.since token.old.me.0.tally token.old.me.0.pile }
+    ensures view { token.new.me.0 ≡ with_held token.old.me.0 ((number, result) ∷ token.old.me.0.held) token.old.me.0.since }
     ensures out { token.new.me.1 ≡ (number, Slot.Shard None) ∷ token.old.me.1 }
 {
     let word = number as usize * LINE + TURN;
@@ -58,7 +57,7 @@ pub fn take_turns<S: Scene, R: Wait>(
     requires fresh { (token.old.me.0.held ≡ []) × (token.old.me.0.since ≡ []) × (token.old.me.1 ≡ []) }
     requires none { (k : ℕ) → S.in_hand held.old k ≡ None }
     ensures same { (token.new.table_id ≡ token.old.table_id) × (token.new.id ≡ token.old.id) }
-    ensures view { token.new.me.0 ≡ view token.old.me.0.parts token.old.me.0.entries token.new.me.0.held [] token.old.me.0.tally token.old.me.0.pile }
+    ensures view { token.new.me.0 ≡ with_held token.old.me.0 token.new.me.0.held [] }
     ensures out { token.new.me.1 ≡ emptied token.new.me.0.held }
     ensures falls { (below 64 token.new.me.0.held ≡ true) × (descends token.new.me.0.held ≡ true) }
     ensures carries { Carries S.meaning [] token.new.me.0.held (S.in_hand held.new) }
@@ -79,7 +78,7 @@ fn give_turn<S: Scene>(board: &Board<S>, token: &mut Token<S>, number: u32, shar
     requires counts { board.now.table_id.words ≡ 800 }
     requires number { number < 64 }
     requires out { token.old.me.1 ≡ emptied token.old.me.0.held }
-    requires top { (found : S.Shard) × (token.old.me.0.held ≡ (number, found) ∷ rest token.old.me.0.held) × Follows S.meaning token.old.me.0.since number found shard }
+    requires top { HoldsLast S.meaning token.old.me.0 number shard }
     ensures same { (token.new.table_id ≡ token.old.table_id) × (token.new.id ≡ token.old.id) }
     ensures view { token.new.me.0 ≡ given_back token.old.me.0 }
     ensures out { token.new.me.1 ≡ emptied token.new.me.0.held }
@@ -104,7 +103,7 @@ pub fn give_turns<S: Scene>(
     requires carries { Carries S.meaning token.old.me.0.since token.old.me.0.held (S.in_hand held.old) }
     requires numbers { (k : ℕ) → k < 64 → bit_at shards k ≡ count k token.old.me.0.held }
     ensures same { (token.new.table_id ≡ token.old.table_id) × (token.new.id ≡ token.old.id) }
-    ensures view { token.new.me ≡ (view token.old.me.0.parts token.old.me.0.entries [] [] token.old.me.0.tally token.old.me.0.pile, []) }
+    ensures view { token.new.me ≡ (with_held token.old.me.0 [] [], []) }
     ensures none { (k : ℕ) → S.in_hand held.new k ≡ None }
 {
     let mut rest = shards;
@@ -151,7 +150,7 @@ pub fn pay<S: Scene>(board: &Board<S>, token: &mut Token<S>, price: u64, limit: 
     requires due { (price ≡ cost S.meaning.price token.old.me.0.tally.due) × (price ≤ 2 ^ 56) }
     requires clear { length token.old.me.0.tally.fresh ≡ 0 }
     ensures same { (token.new.table_id ≡ token.old.table_id) × (token.new.id ≡ token.old.id) }
-    ensures paid { token.new.me ≡ (with_tally token.old.me.0 (pays token.old.me.0.tally), token.old.me.1) }
+    ensures paid { ChangesTally token.old token.new pays }
 {
     let found = board.fetch_add::<Pay>(token, CHARGED, price);
     ring(
@@ -166,9 +165,9 @@ fn read_charged_as<S: Scene, J: Limiting>(board: &Board<S>, token: &mut Token<S>
     requires table { (token.old.table_id ≡ board.now.table_id) × (board.now.table_id.words ≡ 800) }
     requires named { J.limit ≡ board.now.key.terms.limit }
     ensures same { (token.new.table_id ≡ token.old.table_id) × (token.new.id ≡ token.old.id) }
-    ensures over { board.now.key.terms.limit < result → token.new.me ≡ (with_tally token.old.me.0 (saw_over token.old.me.0.tally), token.old.me.1) }
-    ensures low { result ≤ board.now.key.terms.limit → token.new.me ≡ (with_tally token.old.me.0 (saw_low token.old.me.0.tally), token.old.me.1) }
-    ensures charged { token.new.me.0.tally.settled ++ token.new.me.0.tally.fresh ≡ token.old.me.0.tally.settled ++ token.old.me.0.tally.fresh }
+    ensures over { board.now.key.terms.limit < result → ChangesTally token.old token.new saw_over }
+    ensures low { result ≤ board.now.key.terms.limit → ChangesTally token.old token.new saw_low }
+    ensures charged { all_charged token.new.me.0.tally ≡ all_charged token.old.me.0.tally }
     ensures fresh { length token.new.me.0.tally.fresh ≤ length token.old.me.0.tally.fresh }
 {
     board.load::<FindCharged<J>>(token, CHARGED)
@@ -178,9 +177,9 @@ fn read_charged_as<S: Scene, J: Limiting>(board: &Board<S>, token: &mut Token<S>
 pub fn read_charged<S: Scene>(board: &Board<S>, token: &mut Token<S>) -> u64
     requires table { (token.old.table_id ≡ board.now.table_id) × (board.now.table_id.words ≡ 800) }
     ensures same { (token.new.table_id ≡ token.old.table_id) × (token.new.id ≡ token.old.id) }
-    ensures over { board.now.key.terms.limit < result → token.new.me ≡ (with_tally token.old.me.0 (saw_over token.old.me.0.tally), token.old.me.1) }
-    ensures low { result ≤ board.now.key.terms.limit → token.new.me ≡ (with_tally token.old.me.0 (saw_low token.old.me.0.tally), token.old.me.1) }
-    ensures charged { token.new.me.0.tally.settled ++ token.new.me.0.tally.fresh ≡ token.old.me.0.tally.settled ++ token.old.me.0.tally.fresh }
+    ensures over { board.now.key.terms.limit < result → ChangesTally token.old token.new saw_over }
+    ensures low { result ≤ board.now.key.terms.limit → ChangesTally token.old token.new saw_low }
+    ensures charged { all_charged token.new.me.0.tally ≡ all_charged token.old.me.0.tally }
     ensures fresh { length token.new.me.0.tally.fresh ≤ length token.old.me.0.tally.fresh }
 {
     read_charged_as::<S, Brand>(board, token)
@@ -191,7 +190,7 @@ pub fn read_stop<S: Scene>(board: &Board<S>, token: &mut Token<S>) -> u64
     requires table { (token.old.table_id ≡ board.now.table_id) × (board.now.table_id.words ≡ 800) }
     ensures same { (token.new.table_id ≡ token.old.table_id) × (token.new.id ≡ token.old.id) }
     ensures low { result ≤ 2 }
-    ensures found { token.new.me ≡ (with_tally token.old.me.0 (saw_stop token.old.me.0.tally result), token.old.me.1) }
+    ensures found { ChangesTally token.old token.new (λ t. saw_stop t result) }
 {
     board.load::<FindStop>(token, STOP)
 }
@@ -202,7 +201,7 @@ pub fn halt<S: Scene>(board: &Board<S>, token: &mut Token<S>, cause: StopCause) 
     requires fault { cause ≡ StopCause.Fault → HasFault S.meaning.faults token.old.me.0.entries }
     ensures same { (token.new.table_id ≡ token.old.table_id) × (token.new.id ≡ token.old.id) }
     ensures low { result ≤ 2 }
-    ensures found { token.new.me ≡ (with_tally token.old.me.0 (saw_stopped token.old.me.0.tally result (cond (result == 0) (code_of cause) result)), token.old.me.1) }
+    ensures found { ChangesTally token.old token.new (λ t. saw_stopped t result (cond (result == 0) (code_of cause) result)) }
 {
     let found = board.compare_exchange::<Halt>(token, STOP, 0, cause.code());
     ring(board, token, found == 0);

@@ -129,7 +129,8 @@ fn copy_channels(alloc: Global, channels: &[Term]) -> Result<Vec<Term>, AllocErr
 fn take_one(groups: &mut Vec<Counted>, i: usize)
     requires { i < length groups.old.items }
     ensures last { (e : Counted) → e ≡ get_or groups.old.items i e → e.count ≡ 1 → groups.new.items ≡ remove groups.old.items i }
-    ensures more { (e : Counted) → e ≡ get_or groups.old.items i e → e.count ≢ 1 → groups.new.items ≡ set groups.old.items i (record { group = e.group; count = e.count - 1 }) }
+    ensures more { (e : Counted) → e ≡ get_or groups.old.items i e → e.count ≢ 1 → groups.new.items ≡
+        set groups.old.items i (record { group = e.group; count = e.count - 1 }) }
     ensures capacity { vec_capacity groups.new ≡ vec_capacity groups.old }
     ensures fewer { length groups.new.items ≤ length groups.old.items }
 {
@@ -228,7 +229,8 @@ impl JoinIndex {
     /// The groups that hold a channel, each once, in the order in which they were first added. Want of memory is the one error.
     pub fn groups_of(&self, alloc: Global, channel: &Term) -> Result<Vec<Vec<Term>>, AllocError>
         requires channel { IsChannel channel.now }
-        ensures { (gs : List Channels) → HasGroups self.now gs → IfOk result (λ v. map (λ g. g.items) v.items ≡ filter (holds channel.now) (firsts gs)) }
+        ensures { (gs : List Channels) → HasGroups self.now gs →
+            IfOk result (λ v. map (λ g. g.items) v.items ≡ filter (holds channel.now) (firsts gs)) }
     {
         holding(alloc, &self.groups, channel)
     }

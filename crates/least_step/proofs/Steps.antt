@@ -28,7 +28,7 @@ use Rattle.least_step.specs.Orders.{ids_of, referred, AreAscending}
 use Rattle.least_step.specs.Choosing.{AreLeastTaken, IsLeastTaken, TakesNone}
 use Rattle.least_step.specs.Meeting.{IsLeastMeeting, IsLeastWith, MeetsNone, NoneMeets}
 use Rattle.least_step.specs.Least.{AllowsNone, HasRows, IsLeast, NothingIsUsedUp}
-use Rattle.least_step.specs.Filed.{filed, is_on, AreFiled}
+use Rattle.least_step.specs.Filed.{filed, is_on, AreFiled, HasPlaceAt}
 use Rattle.least_step.proofs.Allowed.{answers}
 use Rattle.least_step.proofs.Filing.{Entries}
 use Rattle.least_step.proofs.Choosing.{first-least, among-all, of-filed, stands-there}
@@ -107,9 +107,9 @@ rest-rows [] x ys e rest g = cc
 rest-rows (p ∷ ops) x ys e rest g = let one : each row_of_op ops ≡ ys = cc e in ap (each row_of_op) g ∙ one
 
 -- what is found under the code of a bind's channel is found among all rows
-pub least-found : (b : TermBind) (ready : Ready a_bind (bind_tree b)) (rows : List Row) (es : Entries) → AreFiled rows es → (key : Vec ℕ Global) → key.items ≡ code b.channel → (xs : List Row) → xs ≡ filed key.items es
+pub least-found : (b : TermBind) (ready : Ready a_bind (bind_tree b)) (rows : List Row) (es : Entries) → AreFiled rows es → (key : Vec ℕ Global) → HasPlaceAt key.items es → key.items ≡ code b.channel → (xs : List Row) → xs ≡ filed key.items es
     → (o : Option Digest) → MatchOption o (TakesNone xs b) (IsLeastTaken xs b) → MatchOption o (TakesNone rows b) (IsLeastTaken rows b)
-least-found b ready rows es k key f xs e o m = of-filed b ready rows k.ready xs o (e ∙ k.under key ∙ ap (λ (l : List ℕ). filter (is_on l) rows) f) m
+least-found b ready rows es k key p f xs e o m = of-filed b ready rows k.ready xs o (e ∙ k.under key p ∙ ap (λ (l : List ℕ). filter (is_on l) rows) f) m
 
 -- all of a list of references
 pub whole-rows : (xs : List (Bor Row)) (i : ℕ) → length xs ≤ i → each referred (take i xs) ≡ each referred xs

@@ -1,12 +1,12 @@
 // The least datum for each bind of a receiver.
-ghost use Rattle.std.specs.Prelude.{◌≡◌, List, map, is_some, IfOk, MatchOption};
+ghost use Rattle.std.specs.Prelude.{◌≡◌, List, map, is_some, All, IfOk, MatchOption};
 ghost use Rattle.calculus.specs.Form.{a_bind};
 ghost use Rattle.calculus.specs.Rows.{Row as AnyRow};
 ghost use Rattle.rho_term.specs.Parts.{bind_tree};
 ghost use Rattle.spatial_match.specs.Given.{Ready};
 ghost use Rattle.row_search.specs.Choices.{takes, AllBindsReady};
 ghost use Rattle.least_step.specs.Orders.{referred, AreAscending};
-ghost use Rattle.least_step.specs.Filed.{AreFiled};
+ghost use Rattle.least_step.specs.Filed.{AreFiled, HasPlace};
 ghost use Rattle.least_step.specs.Choosing.{AreLeastTaken, IsLeastTaken, OneTakesNone, TakesNone};
 
 use crate::sends::Sends;
@@ -37,7 +37,8 @@ fn does_take(alloc: Global, bind: &TermBind, row: &Row) -> Result<bool, AllocErr
 // The id of the first of these rows that a bind takes.
 fn first_taken(alloc: Global, bind: &TermBind, rows: &[&Row]) -> Result<Option<Digest>, AllocError>
     requires { Ready a_bind (bind_tree bind.now) }
-    ensures { AreAscending (map referred rows.now) → IfOk result (λ o. MatchOption o (TakesNone (map referred rows.now) bind.now) (IsLeastTaken (map referred rows.now) bind.now)) }
+    ensures { AreAscending (map referred rows.now) →
+        IfOk result (λ o. MatchOption o (TakesNone (map referred rows.now) bind.now) (IsLeastTaken (map referred rows.now) bind.now)) }
 {
     for row in rows {
         if does_take(alloc, bind, *row)? {
@@ -53,8 +54,10 @@ fn least_taken(
     bind: &TermBind,
     sends: &Sends<'_>,
 ) -> Result<Option<Digest>, AllocError>
-    requires { Ready a_bind (bind_tree bind.now) }
-    ensures { (rows : List AnyRow) → AreAscending rows → AreFiled rows sends.now.entries → IfOk result (λ o. MatchOption o (TakesNone rows bind.now) (IsLeastTaken rows bind.now)) }
+    requires ready { Ready a_bind (bind_tree bind.now) }
+    requires place { HasPlace bind.now.channel sends.now.entries }
+    ensures { (rows : List AnyRow) → AreAscending rows → AreFiled rows sends.now.entries →
+        IfOk result (λ o. MatchOption o (TakesNone rows bind.now) (IsLeastTaken rows bind.now)) }
 {
     let code = encode_term(alloc, &bind.channel)?;
     match sends.get(code.as_slice()) {
@@ -69,8 +72,10 @@ pub(crate) fn least_data(
     binds: &[TermBind],
     sends: &Sends<'_>,
 ) -> Result<Option<Vec<Digest>>, AllocError>
-    requires { AllBindsReady binds.now }
-    ensures { (rows : List AnyRow) → AreAscending rows → AreFiled rows sends.now.entries → IfOk result (λ o. MatchOption o (OneTakesNone rows binds.now) (λ v. AreLeastTaken rows binds.now v.items)) }
+    requires ready { AllBindsReady binds.now }
+    requires places { All (λ b. HasPlace b.channel sends.now.entries) binds.now }
+    ensures { (rows : List AnyRow) → AreAscending rows → AreFiled rows sends.now.entries →
+        IfOk result (λ o. MatchOption o (OneTakesNone rows binds.now) (λ v. AreLeastTaken rows binds.now v.items)) }
 {
     let mut taken = Vec::new(alloc);
     for bind in binds {

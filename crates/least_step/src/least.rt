@@ -4,7 +4,7 @@ ghost use Rattle.calculus.specs.Rows.{Row as AnyRow};
 ghost use Rattle.calculus.specs.Steps.{differ, Bag};
 ghost use Rattle.events.specs.Events.{first_ids};
 ghost use Rattle.events.specs.Found.{Among};
-ghost use Rattle.least_step.specs.Filed.{AreFiled};
+ghost use Rattle.least_step.specs.Filed.{AreFiled, IsAwaited};
 ghost use Rattle.least_step.specs.Least.{AllowsNone, IsLeast, HasRows, NothingIsUsedUp};
 ghost use Rattle.least_step.specs.Meeting.{IsLeastMeeting, IsLeastWith, MeetsNone, NoneMeets};
 ghost use Rattle.least_step.specs.Orders.{referred, AreAscending};
@@ -31,7 +31,9 @@ fn meet_least(
     receiver: &Row,
     sends: &Sends<'_>,
 ) -> Result<Option<LeastStep>, AllocError>
-    ensures { (rows : List AnyRow) → AreAscending rows → Among receiver.now rows → AreFiled rows sends.now.entries → IfOk result (λ o. MatchOption o (MeetsNone rows receiver.now) (IsLeastWith rows receiver.now)) }
+    requires { IsAwaited receiver.now sends.now.entries }
+    ensures { (rows : List AnyRow) → AreAscending rows → Among receiver.now rows → AreFiled rows sends.now.entries →
+        IfOk result (λ o. MatchOption o (MeetsNone rows receiver.now) (IsLeastWith rows receiver.now)) }
 {
     match receiver.op() {
         Op::Produce { .. } => Ok(None),
@@ -44,7 +46,8 @@ fn meet_least(
 
 // The least meeting of these rows, whose ids ascend.
 fn least_meeting(alloc: Global, rows: &[&Row]) -> Result<Option<LeastStep>, AllocError>
-    ensures { AreAscending (map referred rows.now) → IfOk result (λ o. MatchOption o (NoneMeets (map referred rows.now)) (IsLeastMeeting (map referred rows.now))) }
+    ensures { AreAscending (map referred rows.now) →
+        IfOk result (λ o. MatchOption o (NoneMeets (map referred rows.now)) (IsLeastMeeting (map referred rows.now))) }
 {
     let sends = file_sends(alloc, rows)?;
     for row in rows {

@@ -79,8 +79,10 @@ impl KnownState {
     pub fn next_state(self, alloc: Global, rows: Vec<Row>) -> Result<MadeState, AllocError>
         ensures root { IfOk result (λ s. s.root.0 ≡ root rows.items) }
         ensures text { IfOk result (λ s. s.text.items ≡ state_text rows.items) }
-        ensures made { IfOk result (λ s. (base : List AnyRow) → AreKept base → self ≡ state_text base → length rows.items / 2 ≤ length base → AreMade (groups_of base) (groups_of rows.items) s.made) }
-        ensures anew { IfOk result (λ s. (base : List AnyRow) → AreKept base → self ≡ state_text base → length base < length rows.items / 2 → AreMade no_codes (groups_of rows.items) s.made) }
+        ensures made { IfOk result (λ s. (base : List AnyRow) → AreKept base → self ≡ state_text base →
+            length rows.items / 2 ≤ length base → AreMade (groups_of base) (groups_of rows.items) s.made) }
+        ensures anew { IfOk result (λ s. (base : List AnyRow) → AreKept base → self ≡ state_text base → length base <
+            length rows.items / 2 → AreMade no_codes (groups_of rows.items) s.made) }
     {
         if rows.len() / 2 > self.marks.len() {
             let state = made_state(alloc, rows)?;
@@ -101,7 +103,8 @@ fn next_root(
 ) -> Result<(Digest, Vec<Keyed>, u64), AllocError>
     ensures root { IfOk result (λ p. p.0.0 ≡ root rows.items) }
     ensures codes { IfOk result (λ p. map (λ k. k.code.items) p.1.items ≡ sorted (map code_of_row rows.items)) }
-    ensures made { IfOk result (λ p. (base : List AnyRow) → AreKept base → known ≡ state_text base → AreMade (groups_of base) (groups_of rows.items) p.2) }
+    ensures made { IfOk result (λ p. (base : List AnyRow) → AreKept base → known ≡ state_text base →
+        AreMade (groups_of base) (groups_of rows.items) p.2) }
 {
     let KnownState { text, marks, tree } = known;
     let codes = rest_of(text.as_slice(), HEADER);
@@ -126,7 +129,8 @@ fn changed_tree(
     keyed: &[Keyed],
 ) -> Result<(RadixTree, u64), AllocError>
     requires { Holds changed [] }
-    ensures tree { IfOk result (λ p. (all : List Pair) → Keeps tree (groups_in all) → Covers changed all (map pair_in keyed.now) → Keeps p.0 (groups_in (map pair_in keyed.now))) }
+    ensures tree { IfOk result (λ p. (all : List Pair) → Keeps tree (groups_in all) →
+        Covers changed all (map pair_in keyed.now) → Keeps p.0 (groups_in (map pair_in keyed.now))) }
     ensures made { IfOk result (λ p. AreFor (Has changed) p.1) }
 {
     let mut changed = changed;

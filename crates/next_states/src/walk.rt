@@ -40,7 +40,8 @@ impl<'a> Walk<'a> {
     fn pass_below(&mut self, alloc: Global, code: Option<&[u8]>) -> Result<(), AllocError>
         ensures agrees { OnOk result ((all done : List Pair) → Agrees self.old all done → Agrees self.new all done) }
         ensures all { OnOk result (code.entry ≡ None → pairs_left self.new.left ≡ []) }
-        ensures finds { OnOk result ((all done next : List Pair) → Stands code.entry next → Finds self.old all done next → Finds self.new all done next) }
+        ensures finds { OnOk result ((all done next : List Pair) → Stands code.entry next →
+            Finds self.old all done next → Finds self.new all done next) }
         ensures least { OnOk result (IfSome code.entry (λ c. IsBelowFirst c.now (seconds (pairs_left self.new.left)))) }
     {
         'below: while self.left.is_below(code) {
@@ -52,9 +53,13 @@ impl<'a> Walk<'a> {
 
     // The key of the next row's group: that of the base's row with this code, and else its group changes.
     fn take(&mut self, alloc: Global, coded: &Coded<'_>) -> Result<Digest, AllocError>
-        ensures agrees { OnOk result ((all done : List Pair) → IsCoded coded.now → Agrees self.old all done → Agrees self.new all (done ++ pair_of (row_of coded.now) ∷ [])) }
-        ensures key { IfOk result (λ d. (all done : List Pair) → IsCoded coded.now → Agrees self.old all done → d.0 ≡ key (row_of coded.now)) }
-        ensures finds { OnOk result ((all done next : List Pair) → IsCoded coded.now → Agrees self.old all done → Finds self.old all done (pair_of (row_of coded.now) ∷ next) → Finds self.new all (done ++ pair_of (row_of coded.now) ∷ []) next) }
+        ensures agrees { OnOk result ((all done : List Pair) → IsCoded coded.now → Agrees self.old all done →
+            Agrees self.new all (done ++ pair_of (row_of coded.now) ∷ [])) }
+        ensures key { IfOk result (λ d. (all done : List Pair) → IsCoded coded.now → Agrees self.old all done → d.0 ≡
+            key (row_of coded.now)) }
+        ensures finds { OnOk result ((all done next : List Pair) → IsCoded coded.now → Agrees self.old all done →
+            Finds self.old all done (pair_of (row_of coded.now) ∷ next) →
+            Finds self.new all (done ++ pair_of (row_of coded.now) ∷ []) next) }
     {
         self.pass_below(alloc, Some(coded.code.as_slice()))?;
         let key = self.take_next(alloc, coded)?;
@@ -63,10 +68,14 @@ impl<'a> Walk<'a> {
 
     // The same, where the rows of the base whose codes are less are passed.
     fn take_next(&mut self, alloc: Global, coded: &Coded<'_>) -> Result<Digest, AllocError>
-        ensures agrees { OnOk result ((all done : List Pair) → IsCoded coded.now → Agrees self.old all done → Agrees self.new all (done ++ pair_of (row_of coded.now) ∷ [])) }
-        ensures key { IfOk result (λ d. (all done : List Pair) → IsCoded coded.now → Agrees self.old all done → d.0 ≡ key (row_of coded.now)) }
-        ensures finds { OnOk result ((all done next : List Pair) → IsCoded coded.now → Agrees self.old all done → IsBelowFirst coded.now.code.items (seconds (pairs_left self.old.left))
-            → Finds self.old all done (pair_of (row_of coded.now) ∷ next) → Finds self.new all (done ++ pair_of (row_of coded.now) ∷ []) next) }
+        ensures agrees { OnOk result ((all done : List Pair) → IsCoded coded.now → Agrees self.old all done →
+            Agrees self.new all (done ++ pair_of (row_of coded.now) ∷ [])) }
+        ensures key { IfOk result (λ d. (all done : List Pair) → IsCoded coded.now → Agrees self.old all done → d.0 ≡
+            key (row_of coded.now)) }
+        ensures finds { OnOk result ((all done next : List Pair) → IsCoded coded.now → Agrees self.old all done →
+            IsBelowFirst coded.now.code.items (seconds (pairs_left self.old.left)) →
+            Finds self.old all done (pair_of (row_of coded.now) ∷ next) →
+            Finds self.new all (done ++ pair_of (row_of coded.now) ∷ []) next) }
     {
         known_storable(coded.row);
         if self.left.is_next(coded.code.as_slice()) {
@@ -116,9 +125,13 @@ fn keyed_codes(
     rows: Vec<Coded<'_>>,
 ) -> Result<Vec<Keyed>, AllocError>
     requires { All IsCoded rows.items }
-    ensures pairs { IfOk result (λ v. (all : List Pair) → Agrees walk.old all [] → map pair_in v.items ≡ map pair_of (map row_of rows.entry.items)) }
-    ensures agrees { OnOk result ((all : List Pair) → Agrees walk.old all [] → Agrees walk.new all (map pair_of (map row_of rows.entry.items))) }
-    ensures finds { OnOk result ((all : List Pair) → Agrees walk.old all [] → Finds walk.old all [] (map pair_of (map row_of rows.entry.items)) → Finds walk.new all (map pair_of (map row_of rows.entry.items)) []) }
+    ensures pairs { IfOk result (λ v. (all : List Pair) → Agrees walk.old all [] → map pair_in v.items ≡
+        map pair_of (map row_of rows.entry.items)) }
+    ensures agrees { OnOk result ((all : List Pair) → Agrees walk.old all [] →
+        Agrees walk.new all (map pair_of (map row_of rows.entry.items))) }
+    ensures finds { OnOk result ((all : List Pair) → Agrees walk.old all [] →
+        Finds walk.old all [] (map pair_of (map row_of rows.entry.items)) →
+        Finds walk.new all (map pair_of (map row_of rows.entry.items)) []) }
 {
     let mut keyed = Vec::new(alloc);
     for coded in rows {
@@ -142,7 +155,8 @@ pub(crate) fn compared(
     ensures order { IfOk result (λ p. IsAscending (map (λ k. k.code.items) p.0.items)) }
     ensures bare { IfOk result (λ p. Holds p.1 []) }
     ensures covers { IfOk result (λ p. Covers p.1 (cut_by marks.now text.now) (map pair_in p.0.items)) }
-    ensures found { IfOk result (λ p. IsAscending (seconds (cut_by marks.now text.now)) → (k : List ℕ) → Has p.1 k → IsChanged (cut_by marks.now text.now) (map pair_in p.0.items) k) }
+    ensures found { IfOk result (λ p. IsAscending (seconds (cut_by marks.now text.now)) → (k : List ℕ) → Has p.1 k →
+        IsChanged (cut_by marks.now text.now) (map pair_in p.0.items) k) }
 {
     let coded = rows_by_code(alloc, rows)?;
     let changed = Changed::new(alloc);

@@ -40,7 +40,8 @@ pub(crate) fn opened_names(alloc: Global, channels: Vec<Term>) -> Result<Names, 
 /// What is wrong with the channels of a receive: one does not let read, or else two are congruent.
 pub(crate) fn names_fault(names: &Names) -> Option<FaultKind>
     requires { All IsOperand names.now.names.items }
-    ensures { (r : Row) → tested result r ≡ cond names.now.readable (cond (are_twins names.now.names.items) (fails faults.SameChannel) (row_limits r)) (fails faults.NotReadable) }
+    ensures { (r : Row) → tested result r ≡ cond names.now.readable
+        (cond (are_twins names.now.names.items) (fails faults.SameChannel) (row_limits r)) (fails faults.NotReadable) }
 {
     if !names.readable {
         return Some(FaultKind::NotReadable);

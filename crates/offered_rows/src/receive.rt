@@ -44,7 +44,10 @@ pub fn offer_receive(
     requires channels { All IsOperand channels.items }
     requires same_number { length channels.items ≡ length binds.now.items }
     requires closed { IsClosed (only (two (receives kind) (many row (map bind_tree binds.now.items)) body.now)) }
-    ensures { MatchResult result (λ p. Came cap price p.price (a_row (row_of_op p.value) ∷ []) (receive_offered prices.now id.0 kind (map opened channels.items) (map bind_tree binds.now.items) body.now)) (λ e. Stopped cap price (receive_offered prices.now id.0 kind (map opened channels.items) (map bind_tree binds.now.items) body.now) e) }
+    ensures { MatchResult result (λ p. Came cap price p.price (a_row (row_of_op p.value) ∷ [])
+        (receive_offered prices.now id.0 kind (map opened channels.items) (map bind_tree binds.now.items) body.now))
+        (λ e. Stopped cap price (receive_offered prices.now id.0 kind (map opened channels.items)
+        (map bind_tree binds.now.items) body.now) e) }
 {
     let names = opened_names(alloc, channels)?;
     let fault = names_fault(&names);

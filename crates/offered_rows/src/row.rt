@@ -23,7 +23,8 @@ const ROW_BYTES: u64 = 28;
 /// The price so far, this price and one for each of so many bytes, where they do not pass the cap.
 fn charge(base: u64, byte: u64, bytes: u64, price: u64, cap: u64) -> Result<u64, EvalStop>
     requires { cap < 2 ^ 64 - 1 }
-    ensures { MatchResult result (λ n. (l : ℕ) → bytes ≡ in_u64 l → (n ≡ price + (base + byte * l)) × (n ≤ cap)) (λ e. (e ≡ EvalStop.Over) × ((l : ℕ) → bytes ≡ in_u64 l → cap < price + (base + byte * l))) }
+    ensures { MatchResult result (λ n. (l : ℕ) → bytes ≡ in_u64 l → (n ≡ price + (base + byte * l)) × (n ≤ cap))
+        (λ e. (e ≡ EvalStop.Over) × ((l : ℕ) → bytes ≡ in_u64 l → cap < price + (base + byte * l))) }
 {
     let cost = byte.saturating_mul(bytes).saturating_add(base);
     let total = price.saturating_add(cost);
@@ -65,7 +66,9 @@ fn offer_of(id: Digest, term: Term) -> Op
 fn limited(id: Digest, term: Term, price: u64, cap: u64) -> Result<Priced<Op>, EvalStop>
     requires offered { IsOneOffered term }
     requires price { price ≤ cap }
-    ensures { MatchResult result (λ p. Came cap price p.price (a_row (row_of_op p.value) ∷ []) (free (row_limits (row_of id.0 (at 0 (held term)))))) (λ e. Stopped cap price (free (row_limits (row_of id.0 (at 0 (held term))))) e) }
+    ensures { MatchResult result (λ p. Came cap price p.price (a_row (row_of_op p.value) ∷ [])
+        (free (row_limits (row_of id.0 (at 0 (held term))))))
+        (λ e. Stopped cap price (free (row_limits (row_of id.0 (at 0 (held term))))) e) }
 {
     if term.height() > MOST_HEIGHT {
         let kind = FaultKind::TooDeep;
@@ -94,7 +97,10 @@ pub(crate) fn offer_part(
     requires part { IsOffered part }
     requires cap { cap < 2 ^ 64 - 1 }
     requires price { price ≤ cap }
-    ensures { MatchResult result (λ p. Came cap price p.price (a_row (row_of_op p.value) ∷ []) (offered base prices.now.byte (row_of id.0 (part_tree part)) (tested fault (row_of id.0 (part_tree part))))) (λ e. Stopped cap price (offered base prices.now.byte (row_of id.0 (part_tree part)) (tested fault (row_of id.0 (part_tree part)))) e) }
+    ensures { MatchResult result (λ p. Came cap price p.price (a_row (row_of_op p.value) ∷ [])
+        (offered base prices.now.byte (row_of id.0 (part_tree part)) (tested fault (row_of id.0 (part_tree part)))))
+        (λ e. Stopped cap price (offered base prices.now.byte (row_of id.0 (part_tree part))
+        (tested fault (row_of id.0 (part_tree part)))) e) }
 {
     let term = Term::from_part(alloc, part)?;
     let bytes = code_len(&term).saturating_add(ROW_BYTES);

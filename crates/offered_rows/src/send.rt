@@ -33,7 +33,9 @@ pub fn offer_send(
 ) -> Result<Priced<Op>, EvalStop>
     requires cap { cap < 2 ^ 64 - 1 }
     requires price { price ≤ cap }
-    ensures { MatchResult result (λ p. Came cap price p.price (a_row (row_of_op p.value) ∷ []) (send_offered prices.now id.0 persistent (opened channel) args.items)) (λ e. Stopped cap price (send_offered prices.now id.0 persistent (opened channel) args.items) e) }
+    ensures { MatchResult result (λ p. Came cap price p.price (a_row (row_of_op p.value) ∷ [])
+        (send_offered prices.now id.0 persistent (opened channel) args.items))
+        (λ e. Stopped cap price (send_offered prices.now id.0 persistent (opened channel) args.items) e) }
 {
     let opened = opened_channel(channel);
     let fault = channel_fault(opened.writable);

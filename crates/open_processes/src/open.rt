@@ -153,7 +153,8 @@ fn any_bind_uses_more(
 ) -> Result<bool, AllocError>
     ensures answer { IfOk result (λ x. x ≡ any_more_is_used (writtens (map bind_written binds.now.items)) scope.old) }
     ensures scope { IfOk result (λ x. x ≡ false → scope.new ≡ scope.old) }
-    ensures bound { IfOk result (λ x. x ≡ false → bound.new ≡ inside (all_variables (writtens (map bind_written binds.now.items))) bound.old) }
+    ensures bound { IfOk result (λ x. x ≡ false → bound.new ≡
+        inside (all_variables (writtens (map bind_written binds.now.items))) bound.old) }
 {
     for b in binds {
         if bind_uses_more(alloc, scope, bound, b)? {
@@ -232,7 +233,8 @@ fn any_name_pattern_uses_more(
 ) -> Result<bool, AllocError>
     ensures answer { IfOk result (λ x. x ≡ any_more_is_used (writtens (map name_pat_written ps.now.items)) scope.old) }
     ensures scope { IfOk result (λ x. x ≡ false → scope.new ≡ scope.old) }
-    ensures bound { IfOk result (λ x. x ≡ false → bound.new ≡ inside (all_variables (writtens (map name_pat_written ps.now.items))) bound.old) }
+    ensures bound { IfOk result (λ x. x ≡ false → bound.new ≡
+        inside (all_variables (writtens (map name_pat_written ps.now.items))) bound.old) }
 {
     for p in ps {
         if name_pattern_uses_more(alloc, scope, bound, p)? {

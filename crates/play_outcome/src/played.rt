@@ -48,9 +48,12 @@ pub fn outcome<T: ShardTables>(
     ensures steps { IfOk result (λ played. map step_of played.steps.items ≡ steps_of (entries_of (play_of entries.items))) }
     ensures taken { IfOk result (λ played. All TakesInRange played.steps.items) }
     ensures old { IfOk result (λ played. played.verdict ≢ Verdict.Done → played.rows.items ≡ []) }
-    ensures run { (deploy : Deploy) (source : Work) → deploy.limit ≡ limit → total_of deploy source (entries_of (play_of entries.items)) ≡ total → work_fault source ≡ fault → length shards.items ≡ 64
-        → IsClosed deploy.process → All IsStorable deploy.rows → EndedPlay deploy source (play_of entries.items) (map T.rows shards.items)
-        → IfOk result (λ played. IsRunOf deploy (map step_of played.steps.items) (verdict_of played.verdict) played.cost played.rows.items played.output.items) }
+    ensures run { (deploy : Deploy) (source : Work) → deploy.limit ≡ limit →
+        total_of deploy source (entries_of (play_of entries.items)) ≡ total → work_fault source ≡ fault →
+        length shards.items ≡ 64 → IsClosed deploy.process → All IsStorable deploy.rows →
+        EndedPlay deploy source (play_of entries.items) (map T.rows shards.items) →
+        IfOk result (λ played. IsRunOf deploy (map step_of played.steps.items) (verdict_of played.verdict) played.cost
+        played.rows.items played.output.items) }
 {
     let Tally {
         steps,

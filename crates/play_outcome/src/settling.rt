@@ -29,7 +29,9 @@ pub(crate) fn rows_left<T: ShardTables>(
     verdict: Verdict,
     shards: Vec<T::Shard>,
 ) -> Result<Vec<Row>, AllocError>
-    ensures done { verdict ≡ Verdict.Done → (store : List Stored) → IdsDiffer store → length shards.items ≡ 64 → AreShardsOf T.rows store shards.items → ((r : Stored) → Among r store → channels r.part ≢ []) → IfOk result (λ v. IsPermutation v.items store) }
+    ensures done { verdict ≡ Verdict.Done → (store : List Stored) → IdsDiffer store → length shards.items ≡ 64 →
+        AreShardsOf T.rows store shards.items → ((r : Stored) → Among r store → channels r.part ≢ []) →
+        IfOk result (λ v. IsPermutation v.items store) }
     ensures other { IfOk result (λ v. verdict ≢ Verdict.Done → v.items ≡ []) }
 {
     match verdict {

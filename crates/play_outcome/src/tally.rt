@@ -1,12 +1,11 @@
 //! What the entries of a play tell, added up in their order.
-ghost use Rattle.std.specs.Prelude.{◌≡◌, ◌<◌, ◌^◌, ◌++◌, ◌∷◌, [], ℕ, List, Option, Some, length, IfOk};
-ghost use Rattle.calculus.specs.declared.fault.FaultKind.{FaultKind as Kind};
+ghost use Rattle.std.specs.Prelude.{◌≡◌, ◌<◌, ◌^◌, ℕ, Option, Some, length, IfOk};
 ghost use Rattle.calculus.specs.Runs.{at_fault, done, step_of_work};
 ghost use Rattle.run_entries.specs.Entries.{steps_of};
 ghost use Rattle.run_verdict.specs.View.{verdict_of};
 ghost use Rattle.play_scene.specs.Plays.{entries_of};
 ghost use Rattle.play_hub.specs.Endings.{play_of};
-ghost use Rattle.play_outcome.specs.Tallies.{IsTally};
+ghost use Rattle.play_outcome.specs.Tallies.{IsTally, Tallies};
 
 use calculus::FaultKind;
 use event_log::LogStep;
@@ -39,7 +38,7 @@ fn verdict_with(before: Verdict, fault: Option<FaultKind>, step: Option<u32>) ->
 // Adds a step. Want of memory is the one error.
 fn add_step(tally: &mut Tally, made: MadeStep) -> Result<(), AllocError>
     requires few { length tally.old.steps.items < 2 ^ 32 }
-    ensures { (fault : Option Kind) (es : List PlayEntry) (e : PlayEntry) → IsTally fault es tally.old → e.made ≡ Some made → IfOk result (λ _. IsTally fault (es ++ e ∷ []) tally.new) }
+    ensures { (e : PlayEntry) → e.made ≡ Some made → Tallies result e tally.old tally.new }
 {
     let MadeStep {
         step,
@@ -59,7 +58,7 @@ fn add_step(tally: &mut Tally, made: MadeStep) -> Result<(), AllocError>
 // Adds an entry. Want of memory is the one error.
 fn add_entry(tally: &mut Tally, entry: PlayEntry) -> Result<(), AllocError>
     requires few { length tally.old.steps.items < 2 ^ 32 }
-    ensures { (fault : Option Kind) (es : List PlayEntry) → IsTally fault es tally.old → IfOk result (λ _. IsTally fault (es ++ entry ∷ []) tally.new) }
+    ensures { Tallies result entry tally.old tally.new }
 {
     let PlayEntry {
         operation: _,

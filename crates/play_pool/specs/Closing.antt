@@ -1,9 +1,12 @@
 -- What a hub of a play came to that was closed.
-use Rattle.std.specs.Prelude.{◌≡◌, ◌≤◌, ◌⊎◌, ℕ, ◌+◌, ◌/◌, true, List, length, map as each}
+use Rattle.std.specs.Prelude.{◌≡◌, ◌≤◌, ◌⊎◌, ℕ, ◌+◌, ◌/◌, true, List, [], length, map as each}
+use Rattle.atomic_table.specs.Seated.{TableId}
 use Rattle.calculus.specs.Rows.{Row}
 use Rattle.calculus.specs.Steps.{differ}
 use Rattle.calculus.specs.Runs.{Deploy, Work}
 use Rattle.events.specs.Laws.{Begins}
+use Rattle.group_locks.specs.declared.state.SeatState.{SeatState}
+use Rattle.group_locks.specs.Seats.{due_of, AtRest}
 use Rattle.fresh_digests.specs.Premises.{FitsInTexts, Collides}
 use Rattle.run_entries.specs.Entries.{steps_of, total_of}
 use Rattle.run_entries.specs.Allowed.{ShowsAnId}
@@ -11,6 +14,11 @@ use Rattle.play_scene.specs.Plays.{entries_of}
 use Rattle.play_hub.specs.declared.entry.PlayEntry.{PlayEntry}
 use Rattle.play_hub.specs.Endings.{play_of}
 use Rattle.play_outcome.specs.Runs.{EndedPlay}
+use Rattle.play_worker.specs.Turns.{HasCause}
+
+-- the seat belongs to the hub and holds no turn, charged all that it drew, and found an end
+abbrev pub IsThrough : {E X W : Type 0} → TableId → SeatState E X W → Type 0
+IsThrough home s = AtRest home s × (due_of s ≡ []) × HasCause s
 
 -- So many workers drew these entries. All that they cost was charged; they made no more steps than the limit pays for, and one more for each worker; and where the deploy begins so, they and the closed
 -- shards come to a run, or a row's id is built in or made again, or texts collide.

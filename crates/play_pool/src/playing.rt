@@ -14,6 +14,7 @@ ghost use Rattle.run_entries.specs.Entries.{steps_of, total_of};
 ghost use Rattle.play_scene.specs.Plays.{entries_of};
 ghost use Rattle.play_hub.specs.Endings.{play_of};
 ghost use Rattle.run_verdict.specs.View.{verdict_of};
+ghost use Rattle.play_worker.specs.Making.{Serves};
 ghost use Rattle.play_outcome.specs.Bases.{IsQuietBase};
 ghost use Rattle.play_outcome.specs.Runs.{EndedPlay, IsRunOf};
 ghost use Rattle.play_pool.specs.Closing.{ClosesPlay};
@@ -27,6 +28,7 @@ use known_work::{KnownWork, known_work};
 use name_seed::Seed;
 use play_hub::{PlayScene, PlayTerms};
 use play_outcome::{Played, outcome};
+use play_worker::site::Means;
 use price_table::Prices;
 use rho_outside::Gate;
 use rho_term::Term;
@@ -43,27 +45,37 @@ use step_work::{Worked, work_source};
 // memory is the one error.
 fn run_hub<J: PlayTerms + Sync, T: ShardTables + Sync, R: Threads + Wait + Sync, G: Gate + Sync>(
     rt: &R,
-    alloc: Global,
     gate: &G,
     workers: u32,
+    means: Means,
     base: Vec<Row>,
-    offers: Vec<Row>,
-    price: u64,
-    prices: &Prices,
-    limit: u64,
+    worked: Worked,
 ) -> Result<Closed<PlayScene<J, T>>, AllocError>
     requires workers { (1 ≤ workers) × (workers ≤ 32) }
-    requires limit { limit ≤ most_limit prices.now }
-    requires terms { (J.deploy.prices ≡ prices.now) × (J.deploy.limit ≡ limit) × (J.deploy.rows ≡ base.items) }
-    requires source { (work_price J.deploy.limit J.source ≡ price) × (price ≤ limit + 1) × (offers.items ≡ rows_of (work_products J.source)) }
+    requires means { Serves means J.deploy }
+    requires rows { J.deploy.rows ≡ base.items }
+    requires price { (work_price J.deploy.limit J.source ≡ worked.price) × (worked.price ≤ means.limit + 1) }
+    requires offers { worked.offers.items ≡ rows_of (work_products J.source) }
     requires comm { 1 ≤ J.deploy.prices.comm }
     ensures shards { IfOk result (λ r. length r.shards.items ≡ 64) }
     ensures closes { IfOk result (λ r. ClosesPlay J.deploy J.source workers r.entries.items (map T.rows r.shards.items) r.charged) }
 {
-    let comm = prices.comm();
+    let comm = means.prices.comm();
     prove!(1 <= comm && comm <= 1_000_000);
-    let Pool { hub, seats } = open_play::<J, T>(alloc, base, offers, workers, price, limit)?;
-    let seats = side_by_side(rt, alloc, gate, &hub, seats, prices, limit)?;
+    let Worked {
+        price,
+        offers,
+        fault: _,
+    } = worked;
+    let Pool { hub, seats } = open_play::<J, T>(
+        means.alloc,
+        base,
+        offers,
+        workers,
+        price,
+        means.limit,
+    )?;
+    let seats = side_by_side(rt, gate, means, &hub, seats)?;
     close_play(hub, seats, workers)
 }
 
@@ -79,9 +91,12 @@ fn tell<J: PlayTerms + Sync, T: ShardTables + Sync>(
     ensures steps { IfOk result (λ played. map step_of played.steps.items ≡ steps_of (entries_of (play_of closed.entries.items))) }
     ensures taken { IfOk result (λ played. All TakesInRange played.steps.items) }
     ensures old { IfOk result (λ played. played.verdict ≢ Verdict.Done → played.rows.items ≡ []) }
-    ensures run { (deploy : Deploy) (source : Work) → deploy.limit ≡ limit → total_of deploy source (entries_of (play_of closed.entries.items)) ≡ closed.charged → work_fault source ≡ fault
-        → IsClosed deploy.process → All IsStorable deploy.rows → EndedPlay deploy source (play_of closed.entries.items) (map T.rows closed.shards.items)
-        → IfOk result (λ played. IsRunOf deploy (map step_of played.steps.items) (verdict_of played.verdict) played.cost played.rows.items played.output.items) }
+    ensures run { (deploy : Deploy) (source : Work) → deploy.limit ≡ limit →
+        total_of deploy source (entries_of (play_of closed.entries.items)) ≡ closed.charged → work_fault source ≡
+        fault → IsClosed deploy.process → All IsStorable deploy.rows →
+        EndedPlay deploy source (play_of closed.entries.items) (map T.rows closed.shards.items) →
+        IfOk result (λ played. IsRunOf deploy (map step_of played.steps.items) (verdict_of played.verdict) played.cost
+        played.rows.items played.output.items) }
 {
     let Closed {
         entries,
@@ -101,48 +116,42 @@ fn play_source<
     G: Gate + Sync,
 >(
     rt: &R,
-    alloc: Global,
     gate: &G,
     workers: u32,
+    means: Means,
     base: Vec<Row>,
     root: &Digest,
     term: &Term,
     source: &Digest,
-    prices: &Prices,
-    limit: u64,
     worked: Worked,
     known: KnownWork,
 ) -> Result<Played, AllocError>
     requires workers { (1 ≤ workers) × (workers ≤ 32) }
-    requires limit { limit ≤ most_limit prices.now }
+    requires limit { means.limit ≤ most_limit means.prices.now }
     requires closed { IsClosed term.now }
-    requires deploy { J.deploy ≡ deploy_of prices.now limit base.items term.now source.now.0 }
-    requires unfolds { Unfolds prices.now limit term.now (digest_of (Start root.now.0 source.now.0)) J.source }
-    requires source { (work_price limit J.source ≡ worked.price) × (work_fault J.source ≡ worked.fault) × (worked.price ≤ limit + 1) × (worked.offers.items ≡ rows_of (work_products J.source)) }
-    ensures count { IfOk result (λ played. length played.steps.items ≤ limit / prices.now.comm + workers) }
+    requires deploy { J.deploy ≡ deploy_of means.prices.now means.limit base.items term.now source.now.0 }
+    requires unfolds { Unfolds means.prices.now means.limit term.now (digest_of (Start root.now.0 source.now.0)) J.source }
+    requires source { (work_price means.limit J.source ≡ worked.price) × (work_fault J.source ≡ worked.fault) ×
+        (worked.price ≤ means.limit + 1) × (worked.offers.items ≡ rows_of (work_products J.source)) }
+    ensures count { IfOk result (λ played. length played.steps.items ≤ means.entry.limit / means.entry.prices.now.comm + workers) }
     ensures most { IfOk result (λ played. length played.steps.items ≤ 1048608) }
     ensures taken { IfOk result (λ played. All TakesInRange played.steps.items) }
     ensures old { IfOk result (λ played. played.verdict ≢ Verdict.Done → played.rows.items ≡ []) }
-    ensures run { IsNumberable term.now → IsBytes source.now.0 → IsQuietBase base.items root.now.0
-        → IfOk result (λ played. IsRunOf J.deploy (map step_of played.steps.items) (verdict_of played.verdict) played.cost played.rows.items played.output.items
-        ⊎ (ShowsAnId J.deploy (map step_of played.steps.items) ⊎ Collides J.deploy (map step_of played.steps.items))) }
+    ensures run { IsNumberable term.now → IsBytes source.now.0 → IsQuietBase base.items root.now.0 →
+        IfOk result (λ played. IsRunOf J.deploy (map step_of played.steps.items) (verdict_of played.verdict) played.cost
+        played.rows.items played.output.items ⊎ (ShowsAnId J.deploy (map step_of played.steps.items) ⊎
+        Collides J.deploy (map step_of played.steps.items))) }
 {
     let _ = root;
     let _ = term;
     let _ = source;
     let _ = known;
-    let comm = prices.comm();
+    let comm = means.prices.comm();
     prove!(1 <= comm && comm <= 1_000_000);
     rows_may_be_stored(base.as_slice());
-    let Worked {
-        price,
-        offers,
-        fault,
-    } = worked;
-    let closed = run_hub::<J, T, R, G>(
-        rt, alloc, gate, workers, base, offers, price, prices, limit,
-    )?;
-    tell::<J, T>(alloc, closed, fault, limit)
+    let fault = worked.fault;
+    let closed = run_hub::<J, T, R, G>(rt, gate, workers, means, base, worked)?;
+    tell::<J, T>(means.alloc, closed, fault, means.limit)
 }
 
 /// Plays a closed process from a state of these rows with 1 to 32 workers side by side, over tables of this kind, until nothing is pending,
@@ -170,17 +179,23 @@ pub fn play<R: Threads + Wait + Sync, G: Gate + Sync, T: ShardTables + Sync>(
     ensures most { IfOk result (λ played. length played.steps.items ≤ 1048608) }
     ensures taken { IfOk result (λ played. All TakesInRange played.steps.items) }
     ensures old { IfOk result (λ played. played.verdict ≢ Verdict.Done → played.rows.items ≡ []) }
-    ensures run { IsNumberable term.now → IsBytes source.now.0 → IsQuietBase base.items root.now.0
-        → IfOk result (λ played. IsRunOf (deploy_of prices.now limit base.items term.now source.now.0) (map step_of played.steps.items) (verdict_of played.verdict) played.cost played.rows.items played.output.items
-        ⊎ (ShowsAnId (deploy_of prices.now limit base.items term.now source.now.0) (map step_of played.steps.items)
-        ⊎ Collides (deploy_of prices.now limit base.items term.now source.now.0) (map step_of played.steps.items))) }
+    ensures run { IsNumberable term.now → IsBytes source.now.0 → IsQuietBase base.items root.now.0 →
+        IfOk result (λ played. IsRunOf (deploy_of prices.now limit base.items term.now source.now.0)
+        (map step_of played.steps.items) (verdict_of played.verdict) played.cost played.rows.items played.output.items ⊎
+        (ShowsAnId (deploy_of prices.now limit base.items term.now source.now.0) (map step_of played.steps.items) ⊎
+        Collides (deploy_of prices.now limit base.items term.now source.now.0) (map step_of played.steps.items))) }
 {
     let comm = prices.comm();
     prove!(1 <= comm && comm <= 1_000_000);
     let seed = Seed::start(root, source);
     let known = known_work(term, &seed, prices, limit);
     let worked = work_source(alloc, term, &seed, prices, limit)?;
+    let means = Means {
+        alloc,
+        prices,
+        limit,
+    };
     play_source::<Brand, T, R, G>(
-        rt, alloc, gate, workers, base, root, term, source, prices, limit, worked, known,
+        rt, gate, workers, means, base, root, term, source, worked, known,
     )
 }

@@ -1,9 +1,10 @@
 -- The step that an operation makes with rows that were found, and how often it was made before.
 use Rattle.std.specs.Prelude.{◌≡◌, ◌≤◌, ◌<◌, ◌^◌, ℕ, ◌+◌, Bool, true, false, List, [], ◌∷◌, ◌++◌, length, map as each, Option, Some, None, ⊤}
+use Rattle.calculus.specs.Limits.{most_limit}
 use Rattle.calculus.specs.Log.{Step}
 use Rattle.calculus.specs.Outcome.{Prices}
 use Rattle.calculus.specs.Rows.{Row}
-use Rattle.calculus.specs.Runs.{Work, work_products, work_price, work_fault}
+use Rattle.calculus.specs.Runs.{Deploy, Work, work_products, work_price, work_fault}
 use Rattle.calculus.specs.Seeds.{digest_of, Comm}
 use Rattle.calculus.specs.Steps.{same_meeting}
 use Rattle.calculus.specs.Unfolding.{rows_of, UnfoldsUnder}
@@ -17,6 +18,11 @@ use Rattle.play_hub.specs.Values.{making_of, entry_of}
 use Rattle.play_hub.specs.Endings.{play_of}
 use Rattle.step_work.specs.Making.{step_with, gone_ids, times_made, printed_line}
 use Rattle.play_worker.specs.declared.making.Ready.{Ready}
+use Rattle.play_worker.specs.declared.site.Means.{Means}
+
+-- these are the prices and the limit of the deploy, and the limit is in range
+abbrev pub Serves : Means → Deploy → Type 0
+Serves m d = (d.prices ≡ m.prices.now) × (d.limit ≡ m.limit) × (m.limit ≤ most_limit m.prices.now)
 
 -- the steps of numbered entries
 abbrev pub steps_drawn : List (ℕ × PlayEntry) → List Step

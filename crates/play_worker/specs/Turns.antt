@@ -7,12 +7,16 @@ use Rattle.group_locks.specs.declared.state.SeatState.{SeatState}
 use Rattle.hub_rule.specs.Counts.{count, things_of}
 use Rattle.hub_rule.specs.Rule.{Carries, kept_if}
 use Rattle.group_locks.specs.Seats.{home_of, drawn_by, tally_of, pile_of, taken_by, offered_by, took_by, due_of, empty_of, over_of, stops_of, SameRoom}
+use Rattle.row_search.specs.declared.found.Found.{Found}
+use Rattle.row_search.specs.Laws.{MeetsAtHand}
+use Rattle.run_entries.specs.Allowed.{IdsTell, MeetsNothing, rows_at_hand}
 use Rattle.shard_rows.specs.Hands.{shows}
 use Rattle.shard_tables.specs.Hands.{AreInHand}
 use Rattle.play_scene.specs.Plays.{capped_price, has_fault}
 use Rattle.play_hub.specs.declared.entry.PlayEntry.{PlayEntry}
 use Rattle.play_hub.specs.Values.{entry_of, has_bit, hub_meaning}
-use Rattle.play_worker.specs.Making.{IsAgain}
+use Rattle.play_worker.specs.Making.{IsAgain, IsReady}
+use Rattle.play_worker.specs.declared.making.Ready.{Ready}
 use Rattle.play_worker.specs.declared.drawing.Drawn.{Drawn}
 
 module _ {E X W : Type 0} where
@@ -37,6 +41,15 @@ module _ {E X W : Type 0} where
   abbrev pub HasCause : SeatState E X W → Type 0
   HasCause s = (0 < empty_of s) ⊎ ((0 < over_of s) ⊎ (0 < stops_of s))
 
+module _ {X : Type 0} (rows : X → List Row) where
+  -- where ids tell the rows in hand, the operation meets nothing there
+  abbrev pub MeetsNothingInHand : (ℕ → Option X) → Row → Type 0
+  MeetsNothingInHand in_hand o = (all : List Row) → AreInHand rows in_hand all → IdsTell (rows_at_hand all o) → MeetsNothing all o
+
+  -- this step is made with what the operation meets in hand, after these entries on it
+  abbrev pub IsReadyInHand : Deploy → (ℕ → Option X) → Row → List (ℕ × PlayEntry) → Ready → Type 0
+  IsReadyInHand d in_hand o took r = (found : Found) × ((all : List Row) → AreInHand rows in_hand all → MeetsAtHand all o found) × IsReady d.prices d.limit found took r
+
 module _ {X : Type 0} (rows : X → List Row) (deploy : Deploy) (source : Work) where
   -- the shards of a group are in hand as they were taken, and all that their rows show for the operation are among them
   pub record HoldsGroup (o : Row) (group : ℕ) (held : List (ℕ × X)) (in_hand : ℕ → Option X) : Type 0 where
@@ -50,6 +63,10 @@ module _ {X : Type 0} (rows : X → List Row) (deploy : Deploy) (source : Work) 
   HandCarries = Carries (hub_meaning deploy source rows)
 
 module _ {X : Type 0} where
+  -- the seat has the operation in hand, and so often the step of its last entry on it was made, where it is told
+  abbrev pub HasTaken : Row → ℕ → Option ℕ → SeatState PlayEntry X Row → Type 0
+  HasTaken o from again s = HasWork o from s × IsAgain (drop from (drawn_by s)) again
+
   -- the seat drew an entry on its operation, of which this is told
   pub record IsDrawn (from : ℕ) (old new : SeatState PlayEntry X Row) (d : Drawn) : Type 0 where
     pub number : ℕ

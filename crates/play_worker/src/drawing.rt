@@ -1,21 +1,18 @@
 //! Entries of an operation, drawn with the shards in hand.
-ghost use Rattle.std.specs.Prelude.{◌≡◌, ◌≤◌, ◌+◌, ◌-◌, ◌%◌, ◌^◌, List, [], drop, map, IfOk, OnErr};
-ghost use Rattle.calculus.specs.Limits.{most_limit};
+ghost use Rattle.std.specs.Prelude.{◌≡◌, ◌+◌, ◌-◌, ◌%◌, ◌^◌, List, [], drop, map, IfOk, OnErr};
 ghost use Rattle.calculus.specs.Rows.{Row as Stored};
 ghost use Rattle.calculus.specs.Steps.{is_one_of};
 ghost use Rattle.hub_rule.specs.Counts.{one_if};
 ghost use Rattle.group_locks.specs.Seats.{home_of, held_by, since_of, drawn_by, HasLeave, HasRoom};
 ghost use Rattle.row_search.specs.Laws.{MeetsAtHand};
-ghost use Rattle.run_entries.specs.Allowed.{IdsTell, MeetsNothing, rows_at_hand};
-ghost use Rattle.shard_tables.specs.Hands.{AreInHand};
-ghost use Rattle.play_worker.specs.Making.{IsAgain, IsReady};
-ghost use Rattle.play_worker.specs.Turns.{HandCarries, HasWork, HoldsGroup, IsDrawn, IsSame};
+ghost use Rattle.play_worker.specs.Making.{IsReady, Serves};
+ghost use Rattle.play_worker.specs.Turns.{HandCarries, HasTaken, HasWork, HoldsGroup, IsDrawn, IsReadyInHand, IsSame, MeetsNothingInHand};
 
 use crate::making::{Ready, make_ready};
+use crate::site::{Means, Taken};
 use calculus::Digest;
 use group_locks::{Hub, Seat};
 use play_hub::{PlayEntry, PlayScene, PlayTerms};
-use price_table::Prices;
 use row_search::Found;
 use shard_tables::ShardTables;
 use space_row::Row;
@@ -43,24 +40,22 @@ fn draw_stored<J: PlayTerms + Sync, T: ShardTables + Sync>(
     hub: &Hub<PlayScene<J, T>>,
     seat: &mut Seat<PlayScene<J, T>>,
     held: &mut T::Held,
-    op: &Row,
+    taken: Taken,
     group: u64,
-    from: usize,
 ) -> Result<Drawn, AllocError>
     requires hub { home_of seat.old.state ≡ hub.now.table.shared.table_id }
-    requires work { HasWork op.now from seat.old.state }
+    requires work { HasWork taken.op.now taken.from seat.old.state }
     requires leave { HasLeave seat.old.state × HasRoom seat.old.state }
-    requires group { HoldsGroup T.rows J.deploy J.source op.now group (held_by seat.old.state) (T.in_hand held.old) }
+    requires group { HoldsGroup T.rows J.deploy J.source taken.op.now group (held_by seat.old.state) (T.in_hand held.old) }
     requires since { since_of seat.old.state ≡ [] }
-    requires lonely { (all : List Stored) → AreInHand T.rows (T.in_hand held.old) all → IdsTell (rows_at_hand all op.now) → MeetsNothing all op.now }
+    requires lonely { MeetsNothingInHand T.rows (T.in_hand held.old) taken.op.now }
     ensures hand { HandCarries T.rows J.deploy J.source (since_of seat.new.state) (held_by seat.new.state) (T.in_hand held.new) }
-    ensures drawn { IfOk result (IsDrawn from seat.old.state seat.new.state) }
+    ensures drawn { IfOk result (IsDrawn taken.entry.from seat.old.state seat.new.state) }
     ensures same { OnErr result (IsSame seat.old.state seat.new.state) }
 {
-    let _ = from;
-    T::put(alloc, held, op)?;
+    T::put(alloc, held, taken.op)?;
     let entry = PlayEntry {
-        operation: Snapshot::of(op),
+        operation: Snapshot::of(taken.op),
         made: None,
         touched: group,
     };
@@ -98,21 +93,19 @@ fn draw_ready<J: PlayTerms + Sync, T: ShardTables + Sync>(
     hub: &Hub<PlayScene<J, T>>,
     seat: &mut Seat<PlayScene<J, T>>,
     held: &mut T::Held,
-    op: &Row,
+    taken: Taken,
     group: u64,
-    from: usize,
     ready: Ready,
 ) -> Drawn
     requires hub { home_of seat.old.state ≡ hub.now.table.shared.table_id }
-    requires work { HasWork op.now from seat.old.state }
+    requires work { HasWork taken.op.now taken.from seat.old.state }
     requires leave { HasLeave seat.old.state × HasRoom seat.old.state }
-    requires group { HoldsGroup T.rows J.deploy J.source op.now group (held_by seat.old.state) (T.in_hand held.old) }
+    requires group { HoldsGroup T.rows J.deploy J.source taken.op.now group (held_by seat.old.state) (T.in_hand held.old) }
     requires since { since_of seat.old.state ≡ [] }
-    requires ready { (found : Found) × ((all : List Stored) → AreInHand T.rows (T.in_hand held.old) all → MeetsAtHand all op.now found) × IsReady J.deploy.prices J.deploy.limit found (drop from (drawn_by seat.old.state)) ready }
+    requires ready { IsReadyInHand T.rows J.deploy (T.in_hand held.old) taken.op.now (drop taken.from (drawn_by seat.old.state)) ready }
     ensures hand { HandCarries T.rows J.deploy J.source (since_of seat.new.state) (held_by seat.new.state) (T.in_hand held.new) }
-    ensures drawn { IsDrawn from seat.old.state seat.new.state result }
+    ensures drawn { IsDrawn taken.entry.from seat.old.state seat.new.state result }
 {
-    let _ = from;
     let Ready {
         made,
         gone,
@@ -120,12 +113,12 @@ fn draw_ready<J: PlayTerms + Sync, T: ShardTables + Sync>(
         again,
     } = ready;
     T::take_out(held, gone.as_slice());
-    let ends = is_one_of(&op.id(), gone.as_slice());
+    let ends = is_one_of(&taken.op.id(), gone.as_slice());
     let more = more_works(offers.len(), ends);
     let price = made.price;
     let faulty = made.fault.is_some();
     let entry = PlayEntry {
-        operation: Snapshot::of(op),
+        operation: Snapshot::of(taken.op),
         made: Some(made),
         touched: group,
     };
@@ -139,68 +132,47 @@ fn draw_ready<J: PlayTerms + Sync, T: ShardTables + Sync>(
     }
 }
 
-// Draws a step of the operation with what was found in hand. Where memory is wanting all is as it was.
-fn draw_found<J: PlayTerms + Sync, T: ShardTables + Sync>(
-    alloc: Global,
-    hub: &Hub<PlayScene<J, T>>,
-    seat: &mut Seat<PlayScene<J, T>>,
-    held: &mut T::Held,
-    op: &Row,
-    group: u64,
-    from: usize,
+// The step of the operation in hand with what was found, ready to be drawn. Want of memory is the one error.
+fn ready_step<J: PlayTerms + Sync, T: ShardTables + Sync>(
+    means: Means,
+    seat: &Seat<PlayScene<J, T>>,
+    taken: Taken,
     found: Found,
-    again: Option<u32>,
-    prices: &Prices,
-    limit: u64,
-) -> Result<Drawn, AllocError>
-    requires hub { home_of seat.old.state ≡ hub.now.table.shared.table_id }
-    requires work { HasWork op.now from seat.old.state }
-    requires leave { HasLeave seat.old.state × HasRoom seat.old.state }
-    requires group { HoldsGroup T.rows J.deploy J.source op.now group (held_by seat.old.state) (T.in_hand held.old) }
-    requires since { since_of seat.old.state ≡ [] }
-    requires terms { (J.deploy.prices ≡ prices.now) × (J.deploy.limit ≡ limit) }
-    requires limit { limit ≤ most_limit prices.now }
-    requires again { IsAgain (drop from (drawn_by seat.old.state)) again }
-    requires found { (all : List Stored) → AreInHand T.rows (T.in_hand held.old) all → MeetsAtHand all op.now found }
-    ensures hand { HandCarries T.rows J.deploy J.source (since_of seat.new.state) (held_by seat.new.state) (T.in_hand held.new) }
-    ensures drawn { IfOk result (IsDrawn from seat.old.state seat.new.state) }
-    ensures same { OnErr result (IsSame seat.old.state seat.new.state) }
+) -> Result<Ready, AllocError>
+    requires means { Serves means J.deploy }
+    requires work { HasTaken taken.op.now taken.from taken.again seat.now.state }
+    requires found { (all : List Stored) × (o : Stored) × MeetsAtHand all o found }
+    ensures { IfOk result (IsReady J.deploy.prices J.deploy.limit found (drop taken.entry.from (drawn_by seat.now.state))) }
 {
     let drawn = seat.drawn();
-    let ready = make_ready(alloc, found, &drawn[from..], again, prices, limit)?;
-    Ok(draw_ready(hub, seat, held, op, group, from, ready))
+    make_ready(means, found, &drawn[taken.from..], taken.again)
 }
 
 /// Draws one entry of the operation: a step with what it meets in hand, or that it was stored where it meets nothing. Where memory is
 /// wanting all is as it was.
 pub fn draw<J: PlayTerms + Sync, T: ShardTables + Sync>(
-    alloc: Global,
+    means: Means,
     hub: &Hub<PlayScene<J, T>>,
     seat: &mut Seat<PlayScene<J, T>>,
     held: &mut T::Held,
-    op: &Row,
+    taken: Taken,
     group: u64,
-    from: usize,
-    again: Option<u32>,
-    prices: &Prices,
-    limit: u64,
 ) -> Result<Drawn, AllocError>
     requires hub { home_of seat.old.state ≡ hub.now.table.shared.table_id }
-    requires work { HasWork op.now from seat.old.state }
+    requires work { HasTaken taken.op.now taken.from taken.again seat.old.state }
     requires leave { HasLeave seat.old.state × HasRoom seat.old.state }
-    requires group { HoldsGroup T.rows J.deploy J.source op.now group (held_by seat.old.state) (T.in_hand held.old) }
+    requires group { HoldsGroup T.rows J.deploy J.source taken.op.now group (held_by seat.old.state) (T.in_hand held.old) }
     requires since { since_of seat.old.state ≡ [] }
-    requires terms { (J.deploy.prices ≡ prices.now) × (J.deploy.limit ≡ limit) }
-    requires limit { limit ≤ most_limit prices.now }
-    requires again { IsAgain (drop from (drawn_by seat.old.state)) again }
+    requires means { Serves means J.deploy }
     ensures hand { HandCarries T.rows J.deploy J.source (since_of seat.new.state) (held_by seat.new.state) (T.in_hand held.new) }
-    ensures drawn { IfOk result (IsDrawn from seat.old.state seat.new.state) }
+    ensures drawn { IfOk result (IsDrawn taken.entry.from seat.old.state seat.new.state) }
     ensures same { OnErr result (IsSame seat.old.state seat.new.state) }
 {
-    match T::first_step(alloc, held, op)? {
-        None => draw_stored(alloc, hub, seat, held, op, group, from),
-        Some(found) => draw_found(
-            alloc, hub, seat, held, op, group, from, found, again, prices, limit,
-        ),
+    match T::first_step(means.alloc, held, taken.op)? {
+        None => draw_stored(means.alloc, hub, seat, held, taken, group),
+        Some(found) => {
+            let ready = ready_step(means, seat, taken, found)?;
+            Ok(draw_ready(hub, seat, held, taken, group, ready))
+        }
     }
 }

@@ -6,5 +6,6 @@ mod counting;
 pub mod drawing;
 pub mod group;
 pub mod making;
+pub mod site;
 pub mod turn;
 pub mod worker;

@@ -6,14 +6,14 @@ ghost use Rattle.row_search.specs.Laws.{MeetsAtHand};
 ghost use Rattle.play_worker.specs.Making.{IsAgain, IsReady};
 
 use crate::counting::repeat_of;
+use crate::site::Means;
 use calculus::Digest;
 use event_log::LogStep;
 use name_seed::Seed;
 use play_hub::{MadeStep, PlayEntry};
-use price_table::Prices;
 use row_search::Found;
 use space_row::Row;
-use std::alloc::{AllocError, Global};
+use std::alloc::AllocError;
 use std::snapshot::Snapshot;
 use step_work::{line_of, work_body};
 
@@ -45,34 +45,32 @@ fn count_of(lasting: bool, repeat: u32) -> Result<Option<u32>, AllocError>
 
 /// The step of what was found, after these entries on its operation. Want of memory is the one error.
 pub fn make_ready(
-    alloc: Global,
+    means: Means,
     found: Found,
     took: &[(u64, PlayEntry)],
     again: Option<u32>,
-    prices: &Prices,
-    limit: u64,
 ) -> Result<Ready, AllocError>
-    requires limit { limit ≤ most_limit prices.now }
+    requires limit { means.limit ≤ most_limit means.prices.now }
     requires found { (all : List Stored) × (o : Stored) × MeetsAtHand all o found }
     requires again { IsAgain took.now again }
-    ensures { IfOk result (IsReady prices.now limit found took.now) }
+    ensures { IfOk result (IsReady means.entry.prices.now means.entry.limit found took.now) }
 {
-    let comm = prices.comm();
+    let comm = means.prices.comm();
     let repeat = repeat_of(took, again, &found)?;
     let seed = Seed::comm(&found.cont, found.taken.as_slice(), repeat);
     let worked = work_body(
-        alloc,
+        means.alloc,
         &found.body,
         found.bound.as_slice(),
         &seed,
-        prices,
-        limit,
+        means.prices,
+        means.limit,
     )?;
     let count = worked.offers.len();
     if count >= 144_115_188_075_855_872 {
         return Err(AllocError);
     }
-    let line = line_of(alloc, &found)?;
+    let line = line_of(means.alloc, &found)?;
     let again = count_of(found.lasting, repeat)?;
     let gone = Snapshot::of(&found.gone);
     let offers = Snapshot::of(&worked.offers);

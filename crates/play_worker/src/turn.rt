@@ -1,19 +1,17 @@
 //! One turn of a worker at the operation that it has in hand.
-ghost use Rattle.std.specs.Prelude.{◌≡◌, ◌≤◌, ◌<◌, ℕ, [], drop, Option, None};
-ghost use Rattle.calculus.specs.Limits.{most_limit};
-ghost use Rattle.group_locks.specs.Seats.{home_of, held_by, drawn_by, due_of, hand_of, stops_of, AtRest, HasLeave, HasRoom};
-ghost use Rattle.play_worker.specs.Making.{IsAgain};
-ghost use Rattle.play_worker.specs.Turns.{HasWork, IsDrawn};
+ghost use Rattle.std.specs.Prelude.{◌≡◌, ◌<◌, ℕ, [], Option, None};
+ghost use Rattle.group_locks.specs.Seats.{due_of, hand_of, stops_of, AtRest, HasLeave, HasRoom};
+ghost use Rattle.play_worker.specs.Making.{Serves};
+ghost use Rattle.play_worker.specs.Turns.{HasTaken, HasWork, IsDrawn};
 
 use crate::drawing::{Drawn, draw};
 use crate::group::take_shown;
+use crate::site::{Means, Site, Taken};
 use group_locks::{Hub, Seat, StopCause};
 use play_hub::{PlayScene, PlayTerms};
-use price_table::Prices;
 use rho_outside::{Gate, Moment};
 use shard_tables::ShardTables;
-use space_row::Row;
-use std::alloc::{AllocError, Global};
+use std::alloc::AllocError;
 use std::sync::Wait;
 
 /// What a turn came to.
@@ -32,19 +30,17 @@ fn settle<R: Wait, J: PlayTerms + Sync, T: ShardTables + Sync>(
     rt: &R,
     hub: &Hub<PlayScene<J, T>>,
     seat: &mut Seat<PlayScene<J, T>>,
+    taken: Taken,
     drawn: Drawn,
-    op: &Row,
-    from: usize,
 ) -> Turn
     requires rest { AtRest hub.now.table.shared.table_id seat.old.state }
-    requires drawn { (before : _) × HasWork op.now from before × IsDrawn from before seat.old.state drawn }
+    requires drawn { (before : _) × HasWork taken.op.now taken.from before × IsDrawn taken.from before seat.old.state drawn }
     ensures rest { AtRest hub.now.table.shared.table_id seat.new.state × (due_of seat.new.state ≡ []) }
     ensures over { result ≡ Turn.Over → 0 < stops_of seat.new.state }
     ensures done { result ≡ Turn.Done → hand_of seat.new.state ≡ [] }
-    ensures more { (again : Option ℕ) → result ≡ Turn.More again → HasWork op.now from seat.new.state × IsAgain (drop from (drawn_by seat.new.state)) again }
+    ensures more { (again : Option ℕ) → result ≡ Turn.More again → HasTaken taken.entry.op.now taken.entry.from again seat.new.state }
 {
-    let _ = op;
-    let _ = from;
+    let _ = taken;
     let Drawn {
         price,
         faulty,
@@ -67,44 +63,34 @@ fn settle<R: Wait, J: PlayTerms + Sync, T: ShardTables + Sync>(
 /// One turn at the operation in hand: the shards that it needs are taken, an entry is drawn with them, they are given home, and the
 /// entry is charged. The gate is passed as soon as the shards are in hand, and again when they are home.
 pub fn take_turn<R: Wait, G: Gate, J: PlayTerms + Sync, T: ShardTables + Sync>(
-    rt: &R,
-    alloc: Global,
-    gate: &G,
-    worker: u32,
+    site: &Site<R, G>,
+    means: Means,
     hub: &Hub<PlayScene<J, T>>,
     seat: &mut Seat<PlayScene<J, T>>,
     held: &mut T::Held,
-    op: &Row,
-    from: usize,
-    again: Option<u32>,
-    prices: &Prices,
-    limit: u64,
+    taken: Taken,
 ) -> Turn
     requires rest { AtRest hub.now.table.shared.table_id seat.old.state }
     requires empty { (k : ℕ) → T.in_hand held.old k ≡ None }
-    requires work { HasWork op.now from seat.old.state }
+    requires work { HasTaken taken.op.now taken.from taken.again seat.old.state }
     requires leave { HasLeave seat.old.state × HasRoom seat.old.state }
-    requires terms { (J.deploy.prices ≡ prices.now) × (J.deploy.limit ≡ limit) }
-    requires limit { limit ≤ most_limit prices.now }
-    requires again { IsAgain (drop from (drawn_by seat.old.state)) again }
+    requires means { Serves means J.deploy }
     ensures rest { AtRest hub.now.table.shared.table_id seat.new.state × (due_of seat.new.state ≡ []) }
     ensures empty { (k : ℕ) → T.in_hand held.new k ≡ None }
     ensures over { result ≡ Turn.Over → 0 < stops_of seat.new.state }
     ensures done { result ≡ Turn.Done → hand_of seat.new.state ≡ [] }
-    ensures more { (next : Option ℕ) → result ≡ Turn.More next → HasWork op.now from seat.new.state × IsAgain (drop from (drawn_by seat.new.state)) next }
+    ensures more { (next : Option ℕ) → result ≡ Turn.More next → HasTaken taken.entry.op.now taken.entry.from next seat.new.state }
 {
-    let Ok(shards) = take_shown(rt, alloc, hub, seat, held, op) else {
+    let Ok(shards) = take_shown(site.rt, means.alloc, hub, seat, held, taken.op) else {
         seat.stop(hub, StopCause::NoMemory);
         return Turn::Over;
     };
-    gate.pass(rt, worker, Moment::Held { shards });
-    let drawn = draw(
-        alloc, hub, seat, held, op, shards, from, again, prices, limit,
-    );
+    site.pass(Moment::Held { shards });
+    let drawn = draw(means, hub, seat, held, taken, shards);
     seat.give_group(hub, held);
-    gate.pass(rt, worker, Moment::Freed { shards });
+    site.pass(Moment::Freed { shards });
     match drawn {
-        Ok(drawn) => settle(rt, hub, seat, drawn, op, from),
+        Ok(drawn) => settle(site.rt, hub, seat, taken, drawn),
         Err(AllocError) => {
             seat.stop(hub, StopCause::NoMemory);
             Turn::Over

@@ -1,18 +1,16 @@
 //! A worker, from its first operation to an end.
-ghost use Rattle.std.specs.Prelude.{◌≡◌, ◌≤◌, ◌<◌, ℕ, [], true, false, drop, length, None};
-ghost use Rattle.calculus.specs.Limits.{most_limit};
+ghost use Rattle.std.specs.Prelude.{◌≡◌, ℕ, [], true, false, drop, length, None};
 ghost use Rattle.group_locks.specs.Seats.{home_of, drawn_by, due_of, hand_of, AtRest, IsIdle, HasLeave, HasRoom};
-ghost use Rattle.play_worker.specs.Making.{IsAgain};
+ghost use Rattle.play_worker.specs.Making.{Serves};
 ghost use Rattle.play_worker.specs.Turns.{HasCause, HasWork};
 
+use crate::site::{Means, Site, Taken};
 use crate::turn::{Turn, take_turn};
 use group_locks::{Hub, Seat, StopCause};
 use play_hub::{PlayScene, PlayTerms};
-use price_table::Prices;
 use rho_outside::Gate;
 use shard_tables::ShardTables;
 use space_row::Row;
-use std::alloc::Global;
 use std::sync::Wait;
 
 // Room and leave for a further entry. Where memory is wanting the hub stops.
@@ -40,23 +38,18 @@ fn may_draw_more<J: PlayTerms + Sync, T: ShardTables + Sync>(
 
 /// Works on the operation in hand until it is stored or leaves. False where an end was found before.
 pub fn work_on<R: Wait, G: Gate, J: PlayTerms + Sync, T: ShardTables + Sync>(
-    rt: &R,
-    alloc: Global,
-    gate: &G,
-    worker: u32,
+    site: &Site<R, G>,
+    means: Means,
     hub: &Hub<PlayScene<J, T>>,
     seat: &mut Seat<PlayScene<J, T>>,
     held: &mut T::Held,
     op: &Row,
-    prices: &Prices,
-    limit: u64,
 ) -> bool
     requires rest { AtRest hub.now.table.shared.table_id seat.old.state }
     requires empty { (k : ℕ) → T.in_hand held.old k ≡ None }
     requires work { HasWork op.now (length (drawn_by seat.old.state)) seat.old.state }
     requires leave { HasLeave seat.old.state × HasRoom seat.old.state }
-    requires terms { (J.deploy.prices ≡ prices.now) × (J.deploy.limit ≡ limit) }
-    requires limit { limit ≤ most_limit prices.now }
+    requires means { Serves means J.deploy }
     ensures rest { AtRest hub.now.table.shared.table_id seat.new.state × (due_of seat.new.state ≡ []) }
     ensures empty { (k : ℕ) → T.in_hand held.new k ≡ None }
     ensures done { result ≡ true → hand_of seat.new.state ≡ [] }
@@ -64,10 +57,9 @@ pub fn work_on<R: Wait, G: Gate, J: PlayTerms + Sync, T: ShardTables + Sync>(
 {
     let from = seat.drawn().len();
     let mut again = None;
-    for _ in rt.forever() {
-        match take_turn(
-            rt, alloc, gate, worker, hub, seat, held, op, from, again, prices, limit,
-        ) {
+    for _ in site.rt.forever() {
+        let taken = Taken { op, from, again };
+        match take_turn(site, means, hub, seat, held, taken) {
             Turn::Over => return false,
             Turn::Done => return true,
             Turn::More(next) => again = next,
@@ -82,34 +74,27 @@ pub fn work_on<R: Wait, G: Gate, J: PlayTerms + Sync, T: ShardTables + Sync>(
 /// Takes operations and works on them until the seat finds an end. It then holds no shard, and has charged all that it drew. Where there
 /// is no memory for the shards in hand, the hub stops.
 pub fn work_through<R: Wait, G: Gate, J: PlayTerms + Sync, T: ShardTables + Sync>(
-    rt: &R,
-    alloc: Global,
-    gate: &G,
-    worker: u32,
+    site: &Site<R, G>,
+    means: Means,
     hub: &Hub<PlayScene<J, T>>,
     seat: Seat<PlayScene<J, T>>,
-    prices: &Prices,
-    limit: u64,
 ) -> Seat<PlayScene<J, T>>
     requires seat { IsIdle hub.now.table.shared.table_id seat.state }
-    requires terms { (J.deploy.prices ≡ prices.now) × (J.deploy.limit ≡ limit) }
-    requires limit { limit ≤ most_limit prices.now }
+    requires means { Serves means J.deploy }
     ensures rest { AtRest hub.now.table.shared.table_id result.state × (due_of result.state ≡ []) }
     ensures cause { HasCause result.state }
 {
     let mut seat = seat;
-    let Ok(held) = T::hand(alloc) else {
+    let Ok(held) = T::hand(means.alloc) else {
         seat.stop(hub, StopCause::NoMemory);
         return seat;
     };
     let mut held = held;
-    for _ in rt.forever() {
-        let Some(op) = seat.take_op(rt, hub) else {
+    for _ in site.rt.forever() {
+        let Some(op) = seat.take_op(site.rt, hub) else {
             return seat;
         };
-        if !work_on(
-            rt, alloc, gate, worker, hub, &mut seat, &mut held, &op, prices, limit,
-        ) {
+        if !work_on(site, means, hub, &mut seat, &mut held, &op) {
             return seat;
         }
     }

@@ -58,7 +58,8 @@ fn give_runs(
     requires fork { IsFork depth children.old.items }
     requires shared { ShareAll depth (leaves_of children.old.items) groups.now }
     ensures fork { OnOk result (IsFork depth children.new.items) }
-    ensures groups { OnOk result ((k : List ℕ) → digest_at (leaves_of children.new.items) k ≡ digest_after groups.now (digest_at (leaves_of children.old.items) k) k) }
+    ensures groups { OnOk result ((k : List ℕ) → digest_at (leaves_of children.new.items) k ≡
+        digest_after groups.now (digest_at (leaves_of children.old.items) k) k) }
     ensures made { IfOk result (λ n. n ≤ (63 - depth) * length groups.now) }
 {
     let mut made: u64 = 0;
@@ -87,7 +88,8 @@ fn give_run(
     requires half { AllGroups (λ k. half_of depth k ≡ half) run.now }
     requires some { 1 ≤ length run.now }
     ensures fork { OnOk result (IsFork depth children.new.items) }
-    ensures groups { OnOk result ((k : List ℕ) → digest_at (leaves_of children.new.items) k ≡ digest_after run.now (digest_at (leaves_of children.old.items) k) k) }
+    ensures groups { OnOk result ((k : List ℕ) → digest_at (leaves_of children.new.items) k ≡
+        digest_after run.now (digest_at (leaves_of children.old.items) k) k) }
     ensures made { IfOk result (λ n. n ≤ (63 - depth) * length run.now) }
 {
     let place = place_for(alloc, children, depth, half)?;

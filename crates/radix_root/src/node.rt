@@ -129,7 +129,8 @@ impl Node {
         requires sizes { (length key.now.0 ≡ 32) × (length digest.now.0 ≡ 32) }
         ensures node { OnOk result (IsNode self.old.depth self.new) }
         ensures half { self.new.half ≡ self.old.half }
-        ensures groups { OnOk result ((k : List ℕ) → digest_at self.new.leaves k ≡ cond (bytes_eq k key.now.0) digest.now.0 (digest_at self.old.leaves k)) }
+        ensures groups { OnOk result ((k : List ℕ) → digest_at self.new.leaves k ≡
+            cond (bytes_eq k key.now.0) digest.now.0 (digest_at self.old.leaves k)) }
         ensures err { OnErr result (self.new ≡ self.old) }
         ensures made { IfOk result (λ n. n + self.old.depth ≤ 64) }
     {
@@ -165,7 +166,8 @@ impl Node {
         requires sizes { (length key.now.0 ≡ 32) × (length digest.now.0 ≡ 32) }
         ensures node { OnOk result (IsNode self.old.depth self.new) }
         ensures half { self.new.half ≡ self.old.half }
-        ensures groups { OnOk result ((k : List ℕ) → digest_at self.new.leaves k ≡ cond (bytes_eq k key.now.0) digest.now.0 (digest_at self.old.leaves k)) }
+        ensures groups { OnOk result ((k : List ℕ) → digest_at self.new.leaves k ≡
+            cond (bytes_eq k key.now.0) digest.now.0 (digest_at self.old.leaves k)) }
         ensures err { OnErr result (self.new ≡ self.old) }
         ensures made { IfOk result (λ n. n + self.old.depth ≤ 64) }
     {
@@ -221,7 +223,8 @@ impl Node {
         requires shared { AllShare self.old.depth group.now.key.0 self.old.leaves }
         ensures node { OnOk result (IsNode self.old.depth self.new) }
         ensures half { self.new.half ≡ self.old.half }
-        ensures groups { OnOk result ((k : List ℕ) → digest_at self.new.leaves k ≡ cond (bytes_eq k group.now.key.0) (given group.now.digest) (digest_at self.old.leaves k)) }
+        ensures groups { OnOk result ((k : List ℕ) → digest_at self.new.leaves k ≡
+            cond (bytes_eq k group.now.key.0) (given group.now.digest) (digest_at self.old.leaves k)) }
         ensures made { IfOk result (λ n. n + self.old.depth ≤ 64) }
     {
         let found = group.digest;
@@ -349,7 +352,8 @@ fn set_below(
     requires shared { AllShare depth key.now.0 (leaves_of children.old.items) }
     requires sizes { (length key.now.0 ≡ 32) × (length digest.now.0 ≡ 32) }
     ensures fork { OnOk result (IsFork depth children.new.items) }
-    ensures groups { OnOk result ((k : List ℕ) → digest_at (leaves_of children.new.items) k ≡ cond (bytes_eq k key.now.0) digest.now.0 (digest_at (leaves_of children.old.items) k)) }
+    ensures groups { OnOk result ((k : List ℕ) → digest_at (leaves_of children.new.items) k ≡
+        cond (bytes_eq k key.now.0) digest.now.0 (digest_at (leaves_of children.old.items) k)) }
     ensures err { OnErr result (children.new.items ≡ children.old.items) }
     ensures made { IfOk result (λ n. n + (depth + 1) ≤ 64) }
 {

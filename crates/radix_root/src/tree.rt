@@ -67,7 +67,8 @@ impl RadixTree {
         key: &Digest,
         rows: &[Vec<u8>],
     ) -> Result<u32, AllocError>
-        ensures rows { OnOk result ((f : List ℕ → List (List ℕ)) → Keeps self.old f → Keeps self.new (changed f key.now.0 (map (λ r. r.items) rows.now))) }
+        ensures rows { OnOk result ((f : List ℕ → List (List ℕ)) → Keeps self.old f →
+            Keeps self.new (changed f key.now.0 (map (λ r. r.items) rows.now))) }
         ensures err { OnErr result (self.new ≡ self.old) }
         ensures made { IfOk result (λ n. n ≤ 65) }
     {

@@ -23,8 +23,10 @@ pub fn check_header(
     prices: &Prices,
 ) -> Result<(), ReplayFault>
     ensures limit { IfOk result (λ _. header.now.limit ≤ greatest_limit prices.now) }
-    ensures refusal { (rows : List AnyRow) (t : Tree) → root rows ≡ base.now.0 → MatchResult result (λ _. header_refusal (asked rows t source.now.0 prices.now) (header_of header.now) ≡ None)
-        (λ e. (is_of_header e ≡ true) × (header_refusal (asked rows t source.now.0 prices.now) (header_of header.now) ≡ refusal_of e)) }
+    ensures refusal { (rows : List AnyRow) (t : Tree) → root rows ≡ base.now.0 →
+        MatchResult result (λ _. header_refusal (asked rows t source.now.0 prices.now) (header_of header.now) ≡ None)
+        (λ e. (is_of_header e ≡ true) × (header_refusal (asked rows t source.now.0 prices.now) (header_of header.now) ≡
+        refusal_of e)) }
 {
     if header.base != *base {
         return Err(ReplayFault::WrongBase {

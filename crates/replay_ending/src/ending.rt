@@ -46,8 +46,9 @@ fn end_done(
 ) -> Result<Replayed, ReplayFault>
     requires shards { length shards.items ≡ 64 }
     ensures steps { IfErr result (λ e. is_of_header e ≡ false) }
-    ensures ends { (b : Bag) (made : List Step) (store : List StoredRow) → AreShardsOf store shards.items → ((r : StoredRow) → Among r store → channels r.part ≢ [])
-        → HasRows b store → differ (first_ids store) ≡ true → NothingIsUsedUp b made → EndsDone b made store cost output.items result }
+    ensures ends { (b : Bag) (made : List Step) (store : List StoredRow) → AreShardsOf store shards.items →
+        ((r : StoredRow) → Among r store → channels r.part ≢ []) → HasRows b store → differ (first_ids store) ≡ true →
+        NothingIsUsedUp b made → EndsDone b made store cost output.items result }
 {
     let rows = rows_of(alloc, shards)?;
     match first_reducible(alloc, rows.as_slice())? {
@@ -68,8 +69,10 @@ fn end_done(
 fn end(alloc: Global, ending: Ending, shards: Vec<ReplayShard>) -> Result<Replayed, ReplayFault>
     requires shards { length shards.items ≡ 64 }
     ensures steps { IfErr result (λ e. is_of_header e ≡ false) }
-    ensures answered { (g : Given) (h : Header) (ss : List Step) (w : Work) (ds : List DidStep) (store : List StoredRow) → IsSound g h ss → AreShardsOf store shards.items
-        → IsLegalLog (deploy_under h.limit g) w ss ds store → EndsSo (deploy_under h.limit g) w ds ending → IsAnswered g h ss result ⊎ Clashes (deploy_under h.limit g) ss }
+    ensures answered { (g : Given) (h : Header) (ss : List Step) (w : Work) (ds : List DidStep)
+        (store : List StoredRow) → IsSound g h ss → AreShardsOf store shards.items →
+        IsLegalLog (deploy_under h.limit g) w ss ds store → EndsSo (deploy_under h.limit g) w ds ending →
+        IsAnswered g h ss result ⊎ Clashes (deploy_under h.limit g) ss }
 {
     let Ending {
         verdict,
@@ -98,8 +101,8 @@ pub fn answer_of(
     requires limit { limit < 2 ^ 64 - 1 }
     requires shards { length raced.shards.items ≡ 64 }
     ensures steps { IfErr result (λ e. is_of_header e ≡ false) }
-    ensures answered { (g : Given) (h : Header) (ss : List Step) → h.limit ≡ limit → length ss ≡ count → IsSound g h ss → HasRaced g h ss raced
-        → IsAnswered g h ss result ⊎ Clashes (deploy_under h.limit g) ss }
+    ensures answered { (g : Given) (h : Header) (ss : List Step) → h.limit ≡ limit → length ss ≡ count →
+        IsSound g h ss → HasRaced g h ss raced → IsAnswered g h ss result ⊎ Clashes (deploy_under h.limit g) ss }
 {
     let Raced {
         entries,

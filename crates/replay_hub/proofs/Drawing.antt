@@ -109,28 +109,39 @@ module _ {R C S : Type 0} (deploy : Deploy) (ss : List Step) (row : R → Row) (
       go (Arrived a) s = s
       go (Idle t) s = idle_tries_are_shown in_hand since held t.value c s now.before now.are at-least
       go (Done m) s =
-          let k = s.makes in
-          record {
-            before = k.before;
-            after = k.after;
-            log = k.log;
-            place = k.place;
-            rows = k.rows;
-            at_hand = λ q i. back part in_hand held now.before now.are at-least c.1 q (s.are q (k.at_hand q i));
-            found = k.found;
-            fits = k.fits;
-            covers = k.covers;
-            gone = k.gone;
-            line = k.line;
-            room = k.room;
-            work = k.work;
-            works = k.works;
-            offers = k.offers;
-            price = k.price;
-            fault = k.fault;
-            are = k.are;
-            uses_of = k.uses_of;
-          }
+          let k = s.makes in (
+            record {
+              before = k.before;
+              after = k.after;
+              log = k.log;
+              place = k.place;
+              rows = k.rows;
+              at_hand = λ q i. back part in_hand held now.before now.are at-least c.1 q (s.are q (k.at_hand q i));
+              found = k.found;
+              fits = k.fits;
+              covers = k.covers;
+              gone = k.gone;
+              line = k.line;
+              room = k.room;
+              work = k.work;
+              works = k.works;
+              offers = k.offers;
+              price = k.price;
+              fault = k.fault;
+              early = k.early;
+              are = k.are;
+              uses_of = k.uses_of;
+            },
+            λ i h b t a log place. let w = s.early i h b t a log place in record {
+              receiver = w.receiver;
+              there = w.there;
+              named = w.named;
+              joined = λ n st. has-shard part in_hand held now.before now.are at-least c.1 n (w.joined n st);
+              id = w.id;
+              wanted = w.wanted;
+              none = λ q j e. w.none q (in-hand part in_hand now.before now.are q j) e;
+            },
+          )
 
   pub draws_carry : DrawsCarry deploy ss row channel part
   draws_carry old new since held e c h = carried (values deploy ss row channel part) old new e since held h.here h.absent c

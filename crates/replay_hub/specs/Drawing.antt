@@ -43,12 +43,28 @@ module _ {S : Type 0} (part : S → Part) (in_hand : ℕ → Option S) where
   abbrev pub ShowsIdle : {C : Type 0} → List Step → (C → Tree) → Try C → Type 0
   ShowsIdle ss channel t = IdsTellHand → (before : List Step) (s : Step) (after : List Step) → ss ≡ before ++ s ∷ after → length before ≡ t.step → ShowsNoFit ss before s t.step (channel t.channel)
 
+  -- what the shards in hand show of a step that may not be done once these rows have met: its receiver is one of them, all shards of this one are in hand, and no row in hand has an id of
+  -- the step's data
+  pub record ShowsEarly (rows : List SeenRow) (s : Step) : Type 0 where
+    pub receiver : SeenRow
+    pub there : IsIn receiver rows
+    pub named : receiver.row.id ≡ s.receiver
+    pub joined : (k : ℕ) → stands_in k receiver.row ≡ true → is_some (in_hand k) ≡ true
+    pub id : List ℕ
+    pub wanted : IsIn id s.data_ids
+    pub none : (q : SeenRow) → IsInHand q → q.row.id ≡ id → ⊥
+
+  -- so it is of the steps with these indices
+  abbrev pub AreShownEarly : List Step → List SeenRow → List ℕ → Type 0
+  AreShownEarly ss rows early = (i : ℕ) → IsIn i early → (before : List Step) (s : Step) (after : List Step) → ss ≡ before ++ s ∷ after → length before ≡ i → ShowsEarly rows s
+
 module _ {R C S : Type 0} (deploy : Deploy) (ss : List Step) (row : R → Row) (channel : C → Tree) (part : S → Part) where
   -- what a worker shows of a done step: it is made with rows in hand
   pub record ShowsDone (in_hand : ℕ → Option S) (touched : ℕ → Bool) (m : Made R C) : Type 0 where
     pub there : List SeenRow
     pub are : (q : SeenRow) → IsIn q there → IsInHand part in_hand q
     pub makes : Makes ss deploy there m.step touched (making_of row channel m) (map (try_of row channel) m.next.value.items)
+    pub early : AreShownEarly part in_hand ss makes.rows makes.early
 
   -- what a worker shows of what an entry does that touches these shards
   abbrev pub ShowsDeed : (ℕ → Option S) → (ℕ → Bool) → Did R C → Type 0

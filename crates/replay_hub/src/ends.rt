@@ -26,9 +26,11 @@ pub fn close_replay<J: ReplayTerms + Sync>(
 ) -> Result<Closed<ReplayScene<J>>, Pool<ReplayScene<J>>>
     requires seats { All (λ s. AtRest hub.table.shared.table_id s.state) seats.items }
     requires count { length seats.items ≡ seat_count hub.table.shared.key }
-    ensures decides { IfOk result (λ r. (w : Work) → Unfolds J.deploy.prices J.deploy.limit J.deploy.process (source_seed J.deploy) w → FitsInTexts J.deploy J.steps → differ (map (λ q. q.id) J.deploy.rows) ≡ true
-        → r.left.items ≡ [] → all_of (λ s. hand_of s.state) seats.items ≡ []
-        → DecideLog J.deploy w J.steps (did_by (map (entry_of J.row_of J.channel_of) r.entries.items)) (map J.part_of r.shards.items) ⊎ SomeClash J.deploy w J.steps) }
+    ensures decides { IfOk result (λ r. (w : Work) → Unfolds J.deploy.prices J.deploy.limit J.deploy.process
+        (source_seed J.deploy) w → FitsInTexts J.deploy J.steps → differ (map (λ q. q.id) J.deploy.rows) ≡ true →
+        r.left.items ≡ [] → all_of (λ s. hand_of s.state) seats.items ≡ [] →
+        DecideLog J.deploy w J.steps (did_by (map (entry_of J.row_of J.channel_of) r.entries.items))
+        (map J.part_of r.shards.items) ⊎ SomeClash J.deploy w J.steps) }
     ensures ended { 0 < length seats.items → spent_of hub.table.shared.key ≡ 0 → All (λ s. FoundAnEnd s.state) seats.items
         → IfOk result (λ r. r.stop ≡ None → (r.left.items ≡ []) × (all_of (λ s. hand_of s.state) seats.items ≡ [])) }
 {

@@ -24,10 +24,12 @@ pub fn end_idle<J: ReplayTerms + Sync>(
     requires leave { HasLeave seat.old.state × HasRoom seat.old.state }
     requires charged { due_of seat.old.state ≡ [] }
     requires work { (index : ℕ) × (taken_by seat.old.state ≡ (index, Index tried) ∷ []) × (offered_by seat.old.state ≡ []) }
-    requires carries { Carries (values J.deploy J.steps J.row_of J.channel_of J.part_of) (since_of seat.old.state) (held_by seat.old.state) (J.in_hand held.now) }
+    requires carries { Carries (values J.deploy J.steps J.row_of J.channel_of J.part_of) (since_of seat.old.state)
+        (held_by seat.old.state) (J.in_hand held.now) }
     requires idle { AreShownIdle J.steps J.channel_of J.part_of (J.in_hand held.now) (held_by seat.old.state) tried }
     ensures hub { home_of seat.new.state ≡ home_of seat.old.state }
-    ensures carries { Carries (values J.deploy J.steps J.row_of J.channel_of J.part_of) (since_of seat.new.state) (held_by seat.new.state) (J.in_hand held.now) }
+    ensures carries { Carries (values J.deploy J.steps J.row_of J.channel_of J.part_of) (since_of seat.new.state)
+        (held_by seat.new.state) (J.in_hand held.now) }
     ensures drawn { (taken_by seat.new.state ≡ []) × (due_of seat.new.state ≡ []) }
     ensures offered { offered_by seat.new.state ≡ [] }
 {
@@ -54,10 +56,13 @@ pub fn draw_entry<J: ReplayTerms + Sync>(
     requires within { (k : ℕ) → has_bit entry.shards k ≡ true → 0 < count k (held_by seat.old.state) }
     requires offers { offers.now.items ≡ offers_of entry.did }
     requires few { length offers.now.items < 2 ^ 57 }
-    requires shown { (old : ℕ → Option J.Shard) × Carries (values J.deploy J.steps J.row_of J.channel_of J.part_of) (since_of seat.old.state) (held_by seat.old.state) old
-        × ShowsEntry J.deploy J.steps J.row_of J.channel_of J.part_of old entry × IsChangedBy J.deploy J.steps J.row_of J.channel_of J.part_of entry old (J.in_hand held.now) }
+    requires shown { (old : ℕ → Option J.Shard) × Carries (values J.deploy J.steps J.row_of J.channel_of J.part_of)
+        (since_of seat.old.state) (held_by seat.old.state) old ×
+        ShowsEntry J.deploy J.steps J.row_of J.channel_of J.part_of old entry ×
+        IsChangedBy J.deploy J.steps J.row_of J.channel_of J.part_of entry old (J.in_hand held.now) }
     ensures hub { home_of seat.new.state ≡ home_of seat.old.state }
-    ensures carries { Carries (values J.deploy J.steps J.row_of J.channel_of J.part_of) (since_of seat.new.state) (held_by seat.new.state) (J.in_hand held.now) }
+    ensures carries { Carries (values J.deploy J.steps J.row_of J.channel_of J.part_of) (since_of seat.new.state)
+        (held_by seat.new.state) (J.in_hand held.now) }
     ensures ended { (taken_by seat.new.state ≡ []) × (due_of seat.new.state ≡ []) }
     ensures offered { things_of (offered_by seat.new.state) ≡ offers.now.items }
 {

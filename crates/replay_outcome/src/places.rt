@@ -44,8 +44,9 @@ fn is_free(places: &[Option<Came>], index: usize) -> bool
 // Keeps a done step at its index, unless one is kept there.
 fn place_step<R: Drop, C: Drop>(places: &mut Vec<Option<Came>>, made: Made<R, C>)
     ensures count { length places.new.items ≡ length places.old.items }
-    ensures kept { (ds : List DidStep) (d : DidStep) → d.index ≡ made.step → d.price ≡ made.price → d.fault ≡ made.fault → d.line ≡ line_items made.line
-        → KeptFrom 0 ds places.old.items → KeptFrom 0 (ds ++ d ∷ []) places.new.items }
+    ensures kept { (ds : List DidStep) (d : DidStep) → d.index ≡ made.step → d.price ≡ made.price → d.fault ≡
+        made.fault → d.line ≡ line_items made.line → KeptFrom 0 ds places.old.items →
+        KeptFrom 0 (ds ++ d ∷ []) places.new.items }
 {
     let Made {
         step,
@@ -67,7 +68,8 @@ fn place_step<R: Drop, C: Drop>(places: &mut Vec<Option<Came>>, made: Made<R, C>
 // Keeps the step that an entry does, if it does one.
 fn place_entry<R: Drop, C: Drop>(places: &mut Vec<Option<Came>>, entry: Entry<R, C>)
     ensures count { length places.new.items ≡ length places.old.items }
-    ensures kept { (row : R → Row) (channel : C → Tree) (ds : List DidStep) → KeptFrom 0 ds places.old.items → KeptFrom 0 (ds ++ did_in (deed_of row channel entry.did)) places.new.items }
+    ensures kept { (row : R → Row) (channel : C → Tree) (ds : List DidStep) → KeptFrom 0 ds places.old.items →
+        KeptFrom 0 (ds ++ did_in (deed_of row channel entry.did)) places.new.items }
 {
     let Entry { did, shards: _ } = entry;
     match did {
@@ -83,7 +85,8 @@ pub(crate) fn place_all<R: Drop, C: Drop>(
     count: u32,
 ) -> Result<Vec<Option<Came>>, AllocError>
     ensures count { IfOk result (λ v. length v.items ≡ count) }
-    ensures kept { (row : R → Row) (channel : C → Tree) → IfOk result (λ v. KeptFrom 0 (did_by (map (entry_of row channel) entries.items)) v.items) }
+    ensures kept { (row : R → Row) (channel : C → Tree) →
+        IfOk result (λ v. KeptFrom 0 (did_by (map (entry_of row channel) entries.items)) v.items) }
 {
     let mut places = empty_places(alloc, count)?;
     for entry in entries {

@@ -37,7 +37,8 @@ pub enum Settled {
 // How a replay with this sum ends at this limit.
 fn end(alloc: Global, sum: Sum, limit: u64) -> Ending
     requires { limit < 2 ^ 64 - 1 }
-    ensures { (deploy : Deploy) (w : Work) (ds : List DidStep) → deploy.limit ≡ limit → IsSum (work_price deploy.limit w) (work_fault w) ds sum → EndsSo deploy w ds result }
+    ensures { (deploy : Deploy) (w : Work) (ds : List DidStep) → deploy.limit ≡ limit →
+        IsSum (work_price deploy.limit w) (work_fault w) ds sum → EndsSo deploy w ds result }
 {
     let Sum {
         total,
@@ -73,8 +74,9 @@ pub fn settle<R: Drop, C: Drop>(
     limit: u64,
 ) -> Result<Settled, AllocError>
     requires { limit < 2 ^ 64 - 1 }
-    ensures { (deploy : Deploy) (w : Work) (row : R → Row) (channel : C → Tree) → deploy.limit ≡ limit → work_price deploy.limit w ≡ price → work_fault w ≡ fault
-        → IfOk result (Settles deploy w count (did_by (map (entry_of row channel) entries.items))) }
+    ensures { (deploy : Deploy) (w : Work) (row : R → Row) (channel : C → Tree) → deploy.limit ≡ limit →
+        work_price deploy.limit w ≡ price → work_fault w ≡ fault →
+        IfOk result (Settles deploy w count (did_by (map (entry_of row channel) entries.items))) }
 {
     let places = place_all(alloc, entries, count)?;
     match sum_up(alloc, places, price, fault)? {

@@ -52,8 +52,9 @@ fn add_line(lines: &mut Vec<u8>, line: Option<Box<Vec<u8>>>) -> Result<(), Alloc
 
 // Adds a step.
 fn add_step(sum: &mut Sum, index: u32, came: Came) -> Result<(), AllocError>
-    ensures { (price : ℕ) (fault : Option FaultKind) (ds : List DidStep) (d : DidStep) → IsSum price fault ds sum.old → length ds ≡ index
-        → came.price ≡ d.price → came.fault ≡ d.fault → line_items came.line ≡ d.line → IfOk result (λ _. IsSum price fault (ds ++ d ∷ []) sum.new) }
+    ensures { (price : ℕ) (fault : Option FaultKind) (ds : List DidStep) (d : DidStep) → IsSum price fault ds sum.old →
+        length ds ≡ index → came.price ≡ d.price → came.fault ≡ d.fault → line_items came.line ≡ d.line →
+        IfOk result (λ _. IsSum price fault (ds ++ d ∷ []) sum.new) }
 {
     let Came { price, fault, line } = came;
     add_line(&mut sum.lines, line)?;

@@ -17,7 +17,7 @@ ghost use Rattle.replay_hub.specs.Values.{entry_of, values};
 use group_locks::{Closed, Hub, Pool, Seat};
 use numbered_jobs::numbered;
 use replay_hub::{ReplayScene, Task, close_replay};
-use replay_worker::{ReplayTables, work_through};
+use replay_worker::{ReplayTables, Site, work_through};
 use rho_outside::Gate;
 use std::alloc::{AllocError, Global};
 use std::sync::Wait;
@@ -48,7 +48,13 @@ fn side_by_side<J: ReplayTables + Sync, R: Threads + Wait + Sync, G: Gate + Sync
             ensures { AtRest hub.entry.now.table.shared.table_id result.state × FoundAnEnd result.state }
         {
             let (worker, seat) = job;
-            work_through(rt, alloc, gate, worker, tables, hub, seat)
+            let site = Site {
+                rt,
+                alloc,
+                gate,
+                worker,
+            };
+            work_through(&site, tables, hub, seat)
         },
     )
 }
@@ -69,9 +75,12 @@ pub fn replay_side_by_side<J: ReplayTables + Sync + Drop, R: Threads + Wait + Sy
     requires knows { J.knows tables }
     requires workers { (1 ≤ workers) × (workers ≤ 32) }
     requires sizes { (length shards.items ≡ 64) × (length tasks.items ≤ 2 ^ 58) }
-    requires opens { (store : Space) × Projected (values J.deploy J.steps J.row_of J.channel_of J.part_of).projects store shards.items × (values J.deploy J.steps J.row_of J.channel_of J.part_of).opens store tasks.items }
-    ensures decides { IfOk result (λ r. (w : Work) → Unfolds J.deploy.prices J.deploy.limit J.deploy.process (source_seed J.deploy) w → FitsInTexts J.deploy J.steps → differ (map (λ q. q.id) J.deploy.rows) ≡ true
-        → DecideLog J.deploy w J.steps (did_by (map (entry_of J.row_of J.channel_of) r.entries.items)) (map J.part_of r.shards.items) ⊎ SomeClash J.deploy w J.steps) }
+    requires opens { (store : Space) × Projected (values J.deploy J.steps J.row_of J.channel_of J.part_of).projects
+        store shards.items × (values J.deploy J.steps J.row_of J.channel_of J.part_of).opens store tasks.items }
+    ensures decides { IfOk result (λ r. (w : Work) → Unfolds J.deploy.prices J.deploy.limit J.deploy.process
+        (source_seed J.deploy) w → FitsInTexts J.deploy J.steps → differ (map (λ q. q.id) J.deploy.rows) ≡ true →
+        DecideLog J.deploy w J.steps (did_by (map (entry_of J.row_of J.channel_of) r.entries.items))
+        (map J.part_of r.shards.items) ⊎ SomeClash J.deploy w J.steps) }
 {
     let scene = ReplayScene::new();
     let Pool { hub, seats } = Hub::start(alloc, scene, shards, tasks, workers, 0, MOST_CHARGED)?;

@@ -123,8 +123,10 @@ pub fn replay<R: Threads + Wait + Sync, G: Gate + Sync>(
     requires closed { IsClosed term.now }
     requires numberable { IsNumberable term.now }
     requires writable { IsWritable log }
-    ensures refused { (r : Refusal) → header_refusal (asked base.now term.now source.now.0 prices.now) (header_of log.header) ≡ Some r → IsErrAnd result (λ e. refusal_of e ≡ Some r) }
-    ensures header { IfErr result (λ e. is_of_header e ≡ true → header_refusal (asked base.now term.now source.now.0 prices.now) (header_of log.header) ≡ refusal_of e) }
+    ensures refused { (r : Refusal) → header_refusal (asked base.now term.now source.now.0 prices.now)
+        (header_of log.header) ≡ Some r → IsErrAnd result (λ e. refusal_of e ≡ Some r) }
+    ensures header { IfErr result (λ e. is_of_header e ≡ true →
+        header_refusal (asked base.now term.now source.now.0 prices.now) (header_of log.header) ≡ refusal_of e) }
     ensures answered { IsAnswered (asked base.now term.now source.now.0 prices.now) (header_of log.header) (steps_of log.steps.items) result
         ⊎ Clashes (deploy_under log.header.limit (asked base.now term.now source.now.0 prices.now)) (steps_of log.steps.items) }
 {

@@ -152,12 +152,14 @@ module _ (t : Tree) (source : List ℕ) (b : Begins (from_receiver t source) the
     offers = refl;
     price = refl;
     fault = refl;
+    early = [];
     are = refl;
     uses_of = one-in (IsUse both_steps (bare rows-first)) (try_at 1) (record { row = receiver (2 ∷ []) kinds.Persistent; there = inl refl; channel = inl refl; named = λ before s after log place. subst (λ u. names_id (2 ∷ []) u ≡ true) (second-at before s after log place) refl });
   }
 
   allowed-2 : Allowed (replay (from_receiver t source) both_steps) (first_space (from_receiver t source) the_source) the_jobs log-2
-  allowed-2 = next log-1 (2, first_done) allowed-1 (refl, refl) makes-first
+  unfolding makes-first
+  allowed-2 = next log-1 (2, first_done) allowed-1 (refl, refl) (makes-first, λ i h. absurd h)
 
   -- no row with this id is there but the receiver
   not-there : (z : SeenRow) → Member z ((now (replay (from_receiver t source) both_steps) (first_space (from_receiver t source) the_source) the_jobs log-2).store ++ (now (replay (from_receiver t source) both_steps) (first_space (from_receiver t source) the_source) the_jobs log-2).built) → z.row.id ≡ 3 ∷ [] → ⊥
@@ -238,12 +240,14 @@ module _ (t : Tree) (source : List ℕ) (b : Begins (from_receiver t source) the
     offers = refl;
     price = refl;
     fault = refl;
+    early = [];
     are = refl;
     uses_of = λ y i. absurd i;
   }
 
   allowed-5 : Allowed (replay (from_receiver t source) both_steps) (first_space (from_receiver t source) the_source) the_jobs log-5
-  allowed-5 = next log-4 (4, second_done) allowed-4 (refl, refl) makes-second
+  unfolding makes-second
+  allowed-5 = next log-4 (4, second_done) allowed-4 (refl, refl) (makes-second, λ i h. absurd h)
 
   abbrev nothing : List (ℕ × Job)
   nothing = []

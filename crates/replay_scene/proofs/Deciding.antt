@@ -34,6 +34,7 @@ use Rattle.replay_scene.specs.Scene.{did_step, IsEvent, IsFreshSpace, Opens, IsP
 use Rattle.replay_scene.specs.Closing.{IsLegalLog, DecideLog}
 use Rattle.replay_scene.specs.Laws.{HubsDecideOrClash}
 use Rattle.scene_laws.proofs.Logs.{now, now_more, along}
+use Rattle.replay_scene.proofs.Early.{same-done}
 use Rattle.replay_scene.proofs.Fresh.{DoneBy, none-done, next-done, fresh-reached}
 use Rattle.replay_scene.proofs.Here.{steps-alike, once}
 use Rattle.replay_scene.proofs.Bounded.{made-length, few-done}
@@ -101,12 +102,12 @@ module _ (deploy : Deploy) (ss : List Step) where
     fresh-next : (s : Space) (touched : ℕ → Bool) (d : Deed) → IsFreshSpace deploy ss s → IsEvent deploy ss s touched d → IsFreshSpace deploy ss (space_after s touched d) ⊎ SomeClash deploy s.work ss
     fresh-next s touched (arrives a next) fr i = inl fr
     fresh-next s touched (idles t) fr i = inl fr
-    fresh-next s touched (does t m next) fr i = go (tested s.work i.reached.begins i.next.done (next-done deploy s.work ss i.reached.begins i.reached.racing i.next i.reached.races (fresh-reached deploy ss s i.reached fr) i.event))
+    fresh-next s touched (does t m next) fr i = go (tested s.work i.reached.begins i.event.between.done (next-done deploy s.work ss i.reached.begins i.reached.racing i.event.between i.reached.races (fresh-reached deploy ss s i.reached fr) i.event.finishes))
       where
-        same : steps_did (space_after s touched (does t m next)).done ≡ done_steps i.next.done
-        same = ap steps_did i.is.done ∙ steps-alike deploy i.next.done
+        same : steps_did (space_after s touched (does t m next)).done ≡ done_steps i.event.between.done
+        same = ap steps_did i.is.done ∙ steps-alike deploy i.next.done ∙ ap done_steps (same-done (first_bag deploy.rows s.work) ss i.event.early i.event.between i.next i.event.ends)
 
-        go : AreFresh deploy (done_steps i.next.done) ⊎ SomeClash deploy s.work ss → IsFreshSpace deploy ss (space_after s touched (does t m next)) ⊎ SomeClash deploy s.work ss
+        go : AreFresh deploy (done_steps i.event.between.done) ⊎ SomeClash deploy s.work ss → IsFreshSpace deploy ss (space_after s touched (does t m next)) ⊎ SomeClash deploy s.work ss
         go (inl a) = inl (subst (AreFresh deploy) (sym same) a)
         go (inr x) = inr x
 

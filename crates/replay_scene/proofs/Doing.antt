@@ -12,20 +12,22 @@ use Rattle.events.proofs.Counts.{ids, member-times, times-one_of}
 use Rattle.events.proofs.Standing.{built_ins}
 use Rattle.events.proofs.Spent.{row-of-id, leaving-met}
 use Rattle.events.proofs.Making.{among}
+use Rattle.hub_rule.specs.Counts.{Each}
 use Rattle.run_entries.specs.Entries.{Making}
-use Rattle.racing_replays.specs.Replaying.{DoneStep, names, ids_before, is_done, all_done, is_due}
-use Rattle.racing_replays.specs.Racing.{next_use, later_uses, Finishes}
+use Rattle.racing_replays.specs.Replaying.{DoneStep, done_steps, names, ids_before, is_done, all_done, is_due}
+use Rattle.racing_replays.specs.Racing.{RacingState, next_use, later_uses, Finishes}
 use Rattle.racing_replays.specs.Laws.{first_bag, IsFresh}
 use Rattle.racing_replays.specs.Possible.{HaveArrived, Fits, after_finish}
 use Rattle.racing_replays.specs.Counted.{names_id}
 use Rattle.racing_replays.proofs.Due.{GivenBy, due-whole, by-given, all-from}
 use Rattle.racing_replays.proofs.Keeping.{one-row}
 use Rattle.racing_replays.proofs.Possible.{fitting_steps_are_done}
-use Rattle.replay_scene.specs.Spaces.{SeenRow, NewRow, IndexTry, DidStep, Space, new_row, bare, steps_did, lies_in}
+use Rattle.replay_scene.specs.Spaces.{SeenRow, NewRow, IndexTry, DidStep, Part, Space, new_row, bare, steps_did, lies_in, IsPart}
 use Rattle.replay_scene.specs.Entries.{does, space_after, did_by_try, but_index, indices}
-use Rattle.replay_scene.specs.Showing.{IsLower, use_at, Makes}
-use Rattle.replay_scene.specs.Scene.{did_step, IsEvent, IsReached}
+use Rattle.replay_scene.specs.Showing.{IsLower, use_at, Makes, AreEarly}
+use Rattle.replay_scene.specs.Scene.{did_step, EndIdle, IsEvent, IsReached}
 use Rattle.replay_scene.proofs.Basics.{no-test, has, hold, each-both, each-id, image-of, TakenOut, try-out}
+use Rattle.replay_scene.proofs.Early.{with-tries, all-end, none-meet}
 use Rattle.replay_scene.proofs.Good.{Good}
 use Rattle.replay_scene.proofs.Here.{once, turns, rows-here, given-lower}
 use Rattle.replay_scene.proofs.Uses.{one-count, its-next}
@@ -122,7 +124,7 @@ module _ (deploy : Deploy) (ss : List Step) (st : Space) (r : IsReached deploy s
       due : is_due (first_bag deploy.rows st.work) r.racing.done mk.before a.step ≡ true
       due = due-whole (first_bag deploy.rows st.work) r.racing.done mk.before a.step (record { not_done = turn.0; given = all-from (names a.step) _ given; earlier = turn.1 })
 
-      module _ (tried : Member x.index st.tries) where
+      module _ (tried : Member x.index st.tries) (shards : List (ℕ × Part)) (parts : Each (IsPart st) shards) (idle : AreEarly ss shards mk.rows mk.early) where
         out : TakenOut st.tries x.index (but_index x.index st.tries)
         out = try-out x.index st.tries tried
 
@@ -136,22 +138,34 @@ module _ (deploy : Deploy) (ss : List Step) (st : Space) (r : IsReached deploy s
         store-is : bare (space_after st touched (does x a later)).store ≡ without (ids (leaving_rows mk.found.receiver.kind mk.found.sends (bare mk.rows))) r.racing.store
         store-is = left-bare touched a.step a.gone st.store (λ q m e. named-lies q (member-left q st.store st.built m) (gone-named q.row.id e)) ∙ ap (without a.gone) r.is.store ∙ gone-is
 
-        tries-are : indices later ≡ later_uses ss (length mk.before) (standing (stored (without (ids (leaving_rows mk.found.receiver.kind mk.found.sends (bare mk.rows))) r.racing.store))) (names a.step)
+        tries-are : mk.early ++ indices later ≡ later_uses ss (length mk.before) (standing (stored (without (ids (leaving_rows mk.found.receiver.kind mk.found.sends (bare mk.rows))) r.racing.store))) (names a.step)
         tries-are = mk.are ∙ same-uses ss x.index a.gone r.racing.store mk.rows (once deploy ss st r f) bare-stands built-stay next-at
             ∙ ap (later_uses ss x.index (standing (stored (without a.gone r.racing.store)))) (sym mk.fits.named)
             ∙ ap (λ n. later_uses ss n (standing (stored (without a.gone r.racing.store))) (names a.step)) (sym mk.place)
             ∙ ap (λ l. later_uses ss (length mk.before) (standing (stored l)) (names a.step)) gone-is
 
+        abbrev mid : RacingState
+        mid = after_finish ss r.racing out.pre out.post (length mk.before) a.step (bare mk.rows) mk.found mk.work
+
+        abbrev last : RacingState
+        last = with-tries (first_bag deploy.rows st.work) ss mid.store mid.arriving mid.done ((out.pre ++ out.post) ++ indices later)
+
+        -- the early tries end
+        ends : EndIdle (first_bag deploy.rows st.work) ss mk.early mid last
+        ends = subst (λ ts. EndIdle (first_bag deploy.rows st.work) ss mk.early (with-tries (first_bag deploy.rows st.work) ss mid.store mid.arriving mid.done ts) last) (ap (λ l. (out.pre ++ out.post) ++ l) tries-are)
+            (all-end (first_bag deploy.rows st.work) ss mid.store mid.arriving mid.done mk.early (out.pre ++ out.post) (indices later)
+            (λ i m before s after log place due. none-meet deploy ss st r f shards parts mk.rows at-hand (ids (leaving_rows mk.found.receiver.kind mk.found.sends (bare mk.rows))) s (idle i m before s after log place) (done_steps mid.done)))
+
         pub done-event : IsEvent deploy ss st touched (does x a later)
         done-event = record {
           reached = r;
-          next = after_finish ss r.racing out.pre out.post (length mk.before) a.step (bare mk.rows) mk.found mk.work;
-          event = event;
+          next = last;
+          event = record { between = mid; finishes = event; early = mk.early; ends = ends };
           is = record {
             built = built-rows touched a.step st.built ∙ r.is.built;
             store = store-is;
             arriving = each-both (λ y. y.row) st.arriving (each (new_row (Some x.index)) a.offers) ∙ ap (λ l. l ++ each (λ (y : NewRow). y.row) (each (new_row (Some x.index)) a.offers)) r.is.arriving ∙ ap (λ l. r.racing.arriving ++ l) (each-id (λ y. y.row) (new_row (Some x.index)) (λ z. refl) a.offers ∙ mk.offers);
-            tries = ap (λ l. l ++ indices later) out.left ∙ ap (λ l. (out.pre ++ out.post) ++ l) tries-are;
+            tries = ap (λ l. l ++ indices later) out.left;
             done = ap (λ l. l ++ new ∷ []) r.is.done ∙ ap (λ e. each (did_step deploy) r.racing.done ++ e ∷ []) same-did ∙ sym (each-both (did_step deploy) r.racing.done (made ∷ []));
           };
           right = mk;

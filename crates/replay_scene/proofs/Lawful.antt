@@ -51,6 +51,7 @@ module _ (deploy : Deploy) (ss : List Step) where
     price = k.price;
     fault = k.fault;
     line = k.line;
+    early = k.early;
     are = k.are;
     uses_of = k.uses_of;
   }
@@ -63,6 +64,7 @@ module _ (deploy : Deploy) (ss : List Step) where
     -- law 4
     pub told : (e : Entry) → Pending (replay deploy ss) works log i (job_of e.deed) → Each (IsProjected deploy ss (now (replay deploy ss) st works log)) shards → TellsEntry ss deploy shards [] e
         → IsFreshSpace deploy ss (now (replay deploy ss) st works log) → IsEvent deploy ss (now (replay deploy ss) st works log) e.shards e.deed
+    unfolding makes-there
     told e pend each tells fr = go e.deed pend tells
       where
         here : Holding deploy ss st works h (now (replay deploy ss) st works log) log
@@ -82,7 +84,7 @@ module _ (deploy : Deploy) (ss : List Step) where
 
         go : (d : Deed) → Pending (replay deploy ss) works log i (job_of d) → TellsDeed ss deploy shards e.shards d → IsEvent deploy ss (now (replay deploy ss) st works log) e.shards d
         go (arrives x next) pend c = arrival-event deploy ss (now (replay deploy ss) st works log) here.reached f here.good x next e.shards (waits x pend) c.0 c.1
-        go (does x m next) pend c = done-event deploy ss (now (replay deploy ss) st works log) here.reached f x e.shards m next (makes-there (now (replay deploy ss) st works log) shards parts x.index e.shards m next c) here.good (tried x pend)
+        go (does x m next) pend c = done-event deploy ss (now (replay deploy ss) st works log) here.reached f x e.shards m next (makes-there (now (replay deploy ss) st works log) shards parts x.index e.shards m next c.0) here.good (tried x pend) shards parts c.1
         go (idles x) pend c = idle-event deploy ss (now (replay deploy ss) st works log) here.reached f here.good x e.shards (tried x pend) (here.tries i x pend.0) shards parts c
 
   -- law 3

@@ -6,6 +6,7 @@ pub mod Here
 pub mod Hands
 pub mod Idle
 pub mod Leaving
+pub mod Early
 pub mod Doing
 pub mod Told
 pub mod Keeps

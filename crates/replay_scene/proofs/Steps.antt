@@ -12,6 +12,7 @@ use Rattle.replay_scene.specs.Entries.{Deed, arrives, does, idles, indices, spac
 use Rattle.replay_scene.specs.Scene.{IsEvent, IsReached, IsFreshSpace}
 use Rattle.replay_scene.proofs.Basics.{has, image-of}
 use Rattle.replay_scene.proofs.Good.{Good, GoodTry}
+use Rattle.replay_scene.proofs.Early.{idle-races}
 use Rattle.replay_scene.proofs.Fresh.{fresh-reached}
 use Rattle.replay_scene.proofs.Keeps.{comes-more, good-arrival, good-first, good-done, good-next}
 
@@ -61,7 +62,7 @@ one-try y next m = let z = image-of try_index (try_index y) next m in subst (λ 
 module _ (deploy : Deploy) (ss : List Step) (st : Space) (touched : ℕ → Bool) where
   pub reached-after : (d : Deed) → IsEvent deploy ss st touched d → IsReached deploy ss (space_after st touched d)
   reached-after (arrives a next) i = record { begins = i.reached.begins; racing = i.next; races = arrival i.reached.races i.event; is = i.is }
-  reached-after (does x m next) i = record { begins = i.reached.begins; racing = i.next; races = done_index i.reached.races i.event; is = i.is }
+  reached-after (does x m next) i = record { begins = i.reached.begins; racing = i.next; races = idle-races deploy st.work ss i.event.early i.event.between i.next (done_index i.reached.races i.event.finishes) i.event.ends; is = i.is }
   reached-after (idles x) i = record { begins = i.reached.begins; racing = i.next; races = idle_try i.reached.races i.event; is = i.is }
 
   module _ (fr : IsFreshSpace deploy ss st) (g : Good (first_bag deploy.rows st.work) st) where

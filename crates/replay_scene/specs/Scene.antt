@@ -1,6 +1,7 @@
 -- The scene of a replay: which entries are allowed.
 use Rattle.std.specs.Prelude.{◌≡◌, ⊤, ℕ, ◌+◌, Bool, true, false, List, [], ◌∷◌, ◌++◌, map as each, None}
 use Rattle.calculus.specs.Log.{Step}
+use Rattle.calculus.specs.Steps.{Bag}
 use Rattle.calculus.specs.Rows.{stdout, stdout_ack}
 use Rattle.calculus.specs.Unfolding.{rows_of}
 use Rattle.calculus.specs.Runs.{Deploy, Work, work_products, work_price, work_fault}
@@ -27,6 +28,18 @@ pub record IsSpaceOf (deploy : Deploy) (space : Space) (c : RacingState) : Type 
   pub tries : space.tries ≡ c.tries
   pub done : space.done ≡ each (did_step deploy) c.done
 
+-- tries with these indices end, one behind the other
+abbrev pub EndIdle : Bag → List Step → List ℕ → RacingState → RacingState → Type 0
+EndIdle b ss [] c d = c ≡ d
+EndIdle b ss (i ∷ js) c d = (m : RacingState) × Idles b ss c m × EndIdle b ss js m d
+
+-- a step is done, and tries that it offers may end at once
+pub record FinishesSo (deploy : Deploy) (w : Work) (ss : List Step) (c d : RacingState) : Type 0 where
+  pub between : RacingState
+  pub finishes : Finishes deploy.prices deploy.limit (first_bag deploy.rows w) ss c between
+  pub early : List ℕ
+  pub ends : EndIdle (first_bag deploy.rows w) ss early between d
+
 module _ (deploy : Deploy) (ss : List Step) where
   -- the digests of the steps done so far are fresh
   abbrev pub IsFreshSpace : Space → Type 0
@@ -42,7 +55,7 @@ module _ (deploy : Deploy) (ss : List Step) where
   -- the event of a deed, where the source comes to this work
   abbrev pub EventOf : Work → Deed → RacingState → RacingState → Type 0
   EventOf w (arrives a next) c d = Arrives ss c d
-  EventOf w (does t a next) c d = Finishes deploy.prices deploy.limit (first_bag deploy.rows w) ss c d
+  EventOf w (does t a next) c d = FinishesSo deploy w ss c d
   EventOf w (idles t) c d = Idles (first_bag deploy.rows w) ss c d
 
   -- what a deed says is so
@@ -51,7 +64,7 @@ module _ (deploy : Deploy) (ss : List Step) where
   IsRight space touched (does t a next) = Makes ss deploy (space.store ++ space.built) t.index touched a next
   IsRight space touched (idles t) = ⊤
 
-  -- a deed is an event: events lead to a state that the space before it has, and one more to a state that the space after it has, and what it says is so
+  -- a deed is an event: events lead to a state that the space before it has, and one more, with early tries that end, to a state that the space after it has, and what it says is so
   pub record IsEvent (space : Space) (touched : ℕ → Bool) (deed : Deed) : Type 0 where
     pub reached : IsReached space
     pub next : RacingState

@@ -81,7 +81,7 @@ module _ (ss : List Step) where
   IsIdle shards t = IdsTellSeen (shown shards) → (before : List Step) (s : Step) (after : List Step) → ss ≡ before ++ s ∷ after → length before ≡ t.index → IsShownIdle shards t before s
 
   -- Rows that are there fit the step with the index i of the log, as the making tells it: what leaves, what is printed, and what the body comes to. The next use of each named row that
-  -- stays is to be tried. The shards of all rows that the step names are touched.
+  -- stays is to be tried, but for some early ones. The shards of all rows that the step names are touched.
   pub record Makes (deploy : Deploy) (there : List SeenRow) (i : ℕ) (touched : ℕ → Bool) (a : Making) (next : List IndexTry) : Type 0 where
     pub before : List Step
     pub after : List Step
@@ -100,13 +100,29 @@ module _ (ss : List Step) where
     pub offers : a.offers ≡ rows_of (work_products work)
     pub price : a.price ≡ deploy.prices.comm + work_price deploy.limit work
     pub fault : a.fault ≡ work_fault work
-    pub are : indices next ≡ flat_map (later_use a.gone) rows
+    pub early : List ℕ
+    pub are : early ++ indices next ≡ flat_map (later_use a.gone) rows
     pub uses_of : (t : IndexTry) → IsIn t next → IsUse (bare rows) t
+
+  -- The shards in hand show of a step that it may not be done once these rows have met: its receiver is one of them, all shards of this one are in hand, and no row in hand has an id of the
+  -- step's data.
+  pub record IsEarly (shards : List (ℕ × Part)) (rows : List SeenRow) (s : Step) : Type 0 where
+    pub receiver : SeenRow
+    pub there : IsIn receiver rows
+    pub named : receiver.row.id ≡ s.receiver
+    pub joined : (k : ℕ) → stands_in k receiver.row ≡ true → HasShard shards k
+    pub id : List ℕ
+    pub wanted : IsIn id s.data_ids
+    pub none : (q : SeenRow) → IsIn q (shown shards) → q.row.id ≡ id → ⊥
+
+  -- so they show of the steps with these indices, which are not to be tried
+  abbrev pub AreEarly : List (ℕ × Part) → List SeenRow → List ℕ → Type 0
+  AreEarly shards rows early = (i : ℕ) → IsIn i early → (before : List Step) (s : Step) (after : List Step) → ss ≡ before ++ s ∷ after → length before ≡ i → IsEarly shards rows s
 
   -- the shards in hand tell that a deed is allowed
   abbrev pub TellsDeed : Deploy → List (ℕ × Part) → (ℕ → Bool) → Deed → Type 0
   TellsDeed deploy shards touched (arrives a next) = Covers touched (a.row ∷ []) × IsFirstUse a.row next
-  TellsDeed deploy shards touched (does t a next) = Makes deploy (shown shards) t.index touched a next
+  TellsDeed deploy shards touched (does t a next) = (m : Makes deploy (shown shards) t.index touched a next) × AreEarly shards m.rows m.early
   TellsDeed deploy shards touched (idles t) = IsIdle shards t
 
   -- and so that an entry is; earlier entries on its job tell nothing

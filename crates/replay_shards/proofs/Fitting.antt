@@ -174,7 +174,7 @@ module _ (ss : List Step) (shown : List SeenRow) (before : List Step) (s : Step)
   no-full true b e = absurd (cc)
   no-full false b e = refl
 
-  pub some-ready : may ≡ true → (receiver : Row) (rs : List Row) (k : Rows (names s) (receiver ∷ rs)) (r : SeenRow) (ds : List SeenRow) → k.rows ≡ r ∷ ds → (f : Ready) → Meet ss s.repeat r ds f → IsReady ss shown before s i f
+  pub some-ready : may ≡ true → (receiver : Row) (rs : List Row) (k : Rows (names s) (receiver ∷ rs)) (r : SeenRow) (ds : List SeenRow) → k.rows ≡ r ∷ ds → (f : Ready) → Meet ss shown s.repeat r ds f → IsReady ss shown before s i f
   some-ready e receiver rs k r ds w f m = record {
     receiver = r;
     data_rows = ds;
@@ -189,14 +189,16 @@ module _ (ss : List Step) (shown : List SeenRow) (before : List Step) (s : Step)
       lower = λ q n. k.lower q (subst (λ (l : List SeenRow). IsIn q l) (sym w) n);
       repeats = ap (λ b. b && (eqb s.repeat 0 || is_lasting m.found.meeting)) (and-right (differ s.data_ids) (eqb s.repeat (count_by (same_meeting s) before)) (and-right (not (has_full s shown)) (differ s.data_ids && eqb s.repeat (count_by (same_meeting s) before)) e)) ∙ m.may;
     };
-    are = m.next.are;
-    uses_of = m.next.uses_of;
+    early = m.but.early;
+    are = m.but.are ∙ m.next.are;
+    uses_of = λ z n. m.next.uses_of z (m.but.fewer z n);
+    lacks = m.but.lacks;
     low = low-where s shown (no-full (has_full s shown) (differ s.data_ids && eqb s.repeat (count_by (same_meeting s) before)) e);
   }
 
   -- what rows that are taken come to
   pub answered : may ≡ true → (receiver : Row) (rs : List Row) → IsTaken ss shown i s.receiver receiver → AreTaken ss shown i s.data_ids rs → (res : Result (Option Ready) AllocError)
-      → ((r : SeenRow) (ds : List SeenRow) → AreFound shown (names s) (r ∷ ds) → r.row ≡ receiver → bare ds ≡ rs → IfOk res (λ o. MatchOption o (MeetNot (r ∷ ds) s.repeat) (Meet ss s.repeat r ds)))
+      → ((r : SeenRow) (ds : List SeenRow) → AreFound shown (names s) (r ∷ ds) → r.row ≡ receiver → bare ds ≡ rs → IfOk res (λ o. MatchOption o (MeetNot (r ∷ ds) s.repeat) (Meet ss shown s.repeat r ds)))
       → IfOk res (λ o. MatchOption o (FitsNothing ss shown before s i) (IsReady ss shown before s i))
   unfolding rows-of
   answered e receiver rs t h res g = go res (g t.seen d.rows (t.found, d.found) t.row d.are)
@@ -207,7 +209,7 @@ module _ (ss : List Step) (shown : List SeenRow) (before : List Step) (s : Step)
       k : Rows (names s) (receiver ∷ rs)
       k = rows-of (names s) (receiver ∷ rs) (t, h)
 
-      go : (res : Result (Option Ready) AllocError) → IfOk res (λ o. MatchOption o (MeetNot (t.seen ∷ d.rows) s.repeat) (Meet ss s.repeat t.seen d.rows)) → IfOk res (λ o. MatchOption o (FitsNothing ss shown before s i) (IsReady ss shown before s i))
+      go : (res : Result (Option Ready) AllocError) → IfOk res (λ o. MatchOption o (MeetNot (t.seen ∷ d.rows) s.repeat) (Meet ss shown s.repeat t.seen d.rows)) → IfOk res (λ o. MatchOption o (FitsNothing ss shown before s i) (IsReady ss shown before s i))
       go (Err x) m = tt
       go (Ok None) m = none-meet t.seen d.rows (t.found, d.found) m
       go (Ok (Some f)) m = some-ready e receiver rs k t.seen d.rows refl f m

@@ -9,6 +9,7 @@ pub mod Placing
 pub mod Arriving
 pub mod Fullness
 pub mod Trying
+pub mod Lacking
 pub mod Fitting
 pub mod Calling
 pub mod Drawing

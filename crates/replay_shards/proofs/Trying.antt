@@ -17,7 +17,8 @@ use Rattle.replay_scene.proofs.Basics.{has, hold}
 use Rattle.replay_space.proofs.Filed.{mapped-more}
 use Rattle.replay_shards.specs.declared.ready.Try.{Try}
 use Rattle.replay_shards.specs.Rows.{find_seen}
-use Rattle.replay_shards.specs.Taken.{bytes_of, AreFound, AreTaken, IsNotTaken, IsTaken, OneIsNotTaken}
+use Rattle.replay_shards.specs.declared.taking.TakenRows.{TakenRows}
+use Rattle.replay_shards.specs.Taken.{bytes_of, taken_rows, AreFound, AreTaken, IsNotTaken, IsTaken, IsTakenAlone, OneIsNotTaken}
 use Rattle.replay_shards.specs.Ready.{index_try, index_tries, AreNext, Follow, IsUseTry}
 use Rattle.replay_shards.proofs.Filing.{same-id}
 
@@ -153,7 +154,19 @@ taken-next ss shown n ids i d rows new r o lt h e m w =
     (subst (λ (xs : List (List ℕ)). AreTaken ss shown n xs (rows ++ r ∷ [])) (sym (mapped-more (λ (z : Digest). z.0) ids i d lt))
     (taken-last ss shown n (bytes_of (take i ids)) rows (get_or ids i d).0 r h (subst (λ (z : Option Row). MatchOption z (IsNotTaken ss shown n (get_or ids i d).0) (IsTaken ss shown n (get_or ids i d).0)) e m)))
 
-at-place : (ids : List Digest) (i : ℕ) (d : Digest) → i < length ids → IsIn (get_or ids i d).0 (bytes_of ids)
+-- one alone
+pub lone-of : (ids : List Digest) (d : Digest) → length ids ≡ 1 → slice_get ids 0 ≡ Some d → ids ≡ d ∷ []
+lone-of [] d h e = cc
+lone-of (x ∷ []) d h e = let same : x ≡ d = cc e in ap (λ z. z ∷ []) same
+lone-of (x ∷ y ∷ ids) d h e = absurd (omega (arith, h))
+
+-- the one row that is taken
+pub taken-alone : (ss : List Step) (shown : List SeenRow) (n : ℕ) (ids : List Digest) (d : Digest) (o : Option TakenRows) → ids ≡ d ∷ []
+    → MatchOption o (IsNotTaken ss shown n d.0) (λ t. IsTakenAlone ss shown n d.0 (taken_rows t)) → MatchOption o (OneIsNotTaken ss shown n (bytes_of ids)) (λ t. AreTaken ss shown n (bytes_of ids) (taken_rows t))
+taken-alone ss shown n ids d None e h = record { id = d.0; there = subst (λ (l : List Digest). IsIn d.0 (bytes_of l)) (sym e) (inl refl); none = h }
+taken-alone ss shown n ids d (Some t) e h = subst (λ (l : List Digest). AreTaken ss shown n (bytes_of l) (taken_rows t)) (sym e) h
+
+pub at-place : (ids : List Digest) (i : ℕ) (d : Digest) → i < length ids → IsIn (get_or ids i d).0 (bytes_of ids)
 at-place [] i d h = absurd (omega (arith, h))
 at-place (x ∷ ids) zero d h = inl refl
 at-place (x ∷ ids) (suc i) d h = inr (at-place ids i d (omega (arith, h)))

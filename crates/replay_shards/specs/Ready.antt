@@ -1,5 +1,5 @@
 -- What a step may be done with.
-use Rattle.std.specs.Prelude.{◌≡◌, ◌++◌, ℕ, true, ◌||◌, eqb, List, [], ◌∷◌, map as each, flat_map, Option, Some, None}
+use Rattle.std.specs.Prelude.{◌≡◌, ◌++◌, ℕ, true, ◌||◌, eqb, length, List, [], ◌∷◌, map as each, flat_map, Option, Some, None}
 use Rattle.calculus.specs.Log.{Step}
 use Rattle.calculus.specs.Rows.{Row}
 use Rattle.calculus.specs.Steps.{Meeting}
@@ -42,15 +42,46 @@ pub record Follow (ss : List Step) (gone : List (List ℕ)) (q : SeenRow) (old n
   pub are : new ≡ old ++ more
   pub next : AreNext ss gone (q ∷ []) more
 
+-- no row in hand has one of these ids
+pub record LacksOne (shown : List SeenRow) (ids : List (List ℕ)) : Type 0 where
+  pub id : List ℕ
+  pub wanted : IsIn id ids
+  pub none : find_seen id shown ≡ None
+
+-- a step has the receiver with this id, and no row in hand has the id of one of its data
+pub record Lacks (shown : List SeenRow) (x : List ℕ) (s : Step) : Type 0 where
+  pub receiver : x ≡ s.receiver
+  pub datum : LacksOne shown s.data_ids
+
+-- so it is of the step with this index
+abbrev pub LacksAt : List Step → List SeenRow → List ℕ → ℕ → Type 0
+LacksAt ss shown x i = (before : List Step) (s : Step) (after : List Step) → ss ≡ before ++ s ∷ after → length before ≡ i → Lacks shown x s
+
+-- so it is of the step of the first of these tries
+pub record StartsEarly (ss : List Step) (shown : List SeenRow) (x : List ℕ) (ts : List Try) : Type 0 where
+  pub first : Try
+  pub others : List Try
+  pub are : ts ≡ first ∷ others
+  pub lacks : LacksAt ss shown x first.step
+
+-- tries are all of these but some early ones
+pub record AreBut (ss : List Step) (shown : List SeenRow) (x : List ℕ) (all ts : List Try) : Type 0 where
+  pub early : List ℕ
+  pub are : early ++ indices (index_tries ts) ≡ indices (index_tries all)
+  pub fewer : (t : IndexTry) → IsIn t (index_tries ts) → IsIn t (index_tries all)
+  pub lacks : (i : ℕ) → IsIn i early → LacksAt ss shown x i
+
 -- rows do not meet, or not so that a step with this repeat number may be made
 abbrev pub MeetNot : List SeenRow → ℕ → Type 0
 MeetNot qs n = (m : Meeting) → met (bare qs) ≡ Some m → eqb n 0 || is_lasting m ≡ true → ⊥
 
 -- a receiver and data meet, and this tells what they bind, and the tries that follow
-pub record Meet (ss : List Step) (n : ℕ) (receiver : SeenRow) (data_rows : List SeenRow) (r : Ready) : Type 0 where
+pub record Meet (ss : List Step) (shown : List SeenRow) (n : ℕ) (receiver : SeenRow) (data_rows : List SeenRow) (r : Ready) : Type 0 where
   pub found : IsMeeting receiver.row (bare data_rows) r.found
   pub may : eqb n 0 || is_lasting found.meeting ≡ true
-  pub next : AreNext ss (bytes_of r.found.gone.items) (receiver ∷ data_rows) r.next.items
+  pub all : List Try
+  pub next : AreNext ss (bytes_of r.found.gone.items) (receiver ∷ data_rows) all
+  pub but : AreBut ss shown receiver.row.id all r.next.items
 
 -- rows in hand fit the step with the index i, and this tells what they bind, and the tries that follow
 pub record IsReady (ss : List Step) (shown : List SeenRow) (before : List Step) (s : Step) (i : ℕ) (r : Ready) : Type 0 where
@@ -60,6 +91,8 @@ pub record IsReady (ss : List Step) (shown : List SeenRow) (before : List Step) 
   pub at_hand : (q : SeenRow) → IsIn q (receiver ∷ data_rows) → IsIn q shown
   pub found : IsMeeting receiver.row (bare data_rows) r.found
   pub fits : Fit ss before s i (receiver ∷ data_rows) found.meeting
-  pub are : indices (index_tries r.next.items) ≡ flat_map (later_use ss (bytes_of r.found.gone.items)) (receiver ∷ data_rows)
+  pub early : List ℕ
+  pub are : early ++ indices (index_tries r.next.items) ≡ flat_map (later_use ss (bytes_of r.found.gone.items)) (receiver ∷ data_rows)
   pub uses_of : (t : IndexTry) → IsIn t (index_tries r.next.items) → IsUse ss (bare (receiver ∷ data_rows)) t
+  pub lacks : (i : ℕ) → IsIn i early → LacksAt ss shown receiver.row.id i
   pub low : AreLow s shown

@@ -1,5 +1,5 @@
 -- Rows in hand that a step names.
-use Rattle.std.specs.Prelude.{◌≡◌, ⊤, ℕ, List, [], ◌∷◌, map as each, slice_get, Some}
+use Rattle.std.specs.Prelude.{◌≡◌, ⊤, ℕ, List, [], ◌∷◌, map as each, slice_get, Option, None, Some, option_copied}
 use Rattle.calculus.specs.declared.ids.Digest.{Digest}
 use Rattle.calculus.specs.Log.{Step}
 use Rattle.calculus.specs.Rows.{Row}
@@ -8,6 +8,7 @@ use Rattle.racing_replays.specs.Counted.{uses}
 use Rattle.replay_scene.specs.Spaces.{SeenRow, IsIn}
 use Rattle.replay_scene.specs.Showing.{Fit, IdsTellSeen, IsLower}
 use Rattle.replay_shards.specs.Rows.{find_seen}
+use Rattle.replay_shards.specs.declared.taking.TakenRows.{TakenRows}
 
 -- the ids themselves
 abbrev pub bytes_of : List Digest → List (List ℕ)
@@ -30,6 +31,19 @@ abbrev pub AreTaken : List Step → List SeenRow → ℕ → List (List ℕ) →
 AreTaken ss shown i [] [] = ⊤
 AreTaken ss shown i (x ∷ xs) (r ∷ rs) = IsTaken ss shown i x r × AreTaken ss shown i xs rs
 AreTaken ss shown i _ _ = ⊥
+
+-- one row alone, if there is one, and else these
+abbrev pub one_or_all : Option Row → List Row → List Row
+one_or_all None rs = rs
+one_or_all (Some r) rs = r ∷ []
+
+-- the rows that are taken
+abbrev pub taken_rows : TakenRows → List Row
+taken_rows t = one_or_all (option_copied t.one) t.copies.items
+
+-- rows are the one with this id
+abbrev pub IsTakenAlone : List Step → List SeenRow → ℕ → List ℕ → List Row → Type 0
+IsTakenAlone ss shown i x rs = AreTaken ss shown i (x ∷ []) rs
 
 -- one of these ids has no such row
 pub record OneIsNotTaken (ss : List Step) (shown : List SeenRow) (i : ℕ) (ids : List (List ℕ)) : Type 0 where

@@ -2,7 +2,7 @@
 ghost use Rattle.std.specs.Prelude.{◌≡◌, ◌<◌, ◌^◌, ◌-◌, ◌∷◌, ◌++◌, List, ◌||◌, ◌&&◌, eqb, not, length, count_by, IfOk, MatchOption};
 ghost use Rattle.calculus.specs.Log.{Step};
 ghost use Rattle.calculus.specs.Steps.{differ, same_meeting};
-ghost use Rattle.event_log.specs.View.{step_of};
+ghost use Rattle.event_log.specs.View.{step_of, steps_of};
 ghost use Rattle.replay_scene.specs.Spaces.{SeenRow, bare};
 ghost use Rattle.replay_space.specs.Rigs.{IsRigOf};
 ghost use Rattle.replay_shards.specs.Hands.{all_shown, parts_of, AreSlotsFiled};
@@ -10,6 +10,7 @@ ghost use Rattle.replay_shards.specs.Ready.{IsReady, Meet, MeetNot};
 ghost use Rattle.replay_shards.specs.Rows.{has_full};
 ghost use Rattle.replay_shards.specs.Taken.{bytes_of, AreFound, FitsNothing};
 
+use crate::early::but_early;
 use crate::full::has_full_row;
 use crate::kept::is_among;
 use crate::next::all_next;
@@ -47,8 +48,9 @@ fn may_be_made(repeat: u32, lasting: bool) -> bool
 fn may_fit(slots: &[Slot], rig: &Rig, wanted: &LogStep, step: u32) -> bool
     requires filed { AreSlotsFiled slots.now }
     requires step { (ss : List Step) × (IsRigOf ss rig.now × step < length ss) }
-    ensures { (before : List Step) (s : Step) (after : List Step) → IsRigOf (before ++ s ∷ after) rig.now → length before ≡ step → s ≡ step_of wanted.now
-        → result ≡ not (has_full s (all_shown (parts_of slots.now))) && (differ s.data_ids && eqb s.repeat (count_by (same_meeting s) before)) }
+    ensures { (before : List Step) (s : Step) (after : List Step) → IsRigOf (before ++ s ∷ after) rig.now →
+        length before ≡ step → s ≡ step_of wanted.now → result ≡ not (has_full s (all_shown (parts_of slots.now))) &&
+        (differ s.data_ids && eqb s.repeat (count_by (same_meeting s) before)) }
 {
     if has_full_row(slots, wanted) {
         return false;
@@ -64,14 +66,18 @@ fn meet_taken(
     alloc: Global,
     slots: &[Slot],
     rig: &Rig,
+    steps: &[LogStep],
     wanted: &LogStep,
     step: u32,
     receiver: &Row,
     sends: &[Row],
 ) -> Result<Option<Ready>, AllocError>
     requires { AreSlotsFiled slots.now }
-    ensures { (ss : List Step) (r : SeenRow) (ds : List SeenRow) → IsRigOf ss rig.now → AreFound (all_shown (parts_of slots.now)) (wanted.now.cont.0 ∷ bytes_of wanted.now.taken.items) (r ∷ ds)
-        → r.row ≡ receiver.now → bare ds ≡ sends.now → IfOk result (λ o. MatchOption o (MeetNot (r ∷ ds) wanted.now.repeat) (Meet ss wanted.now.repeat r ds)) }
+    ensures { (ss : List Step) (r : SeenRow) (ds : List SeenRow) → IsRigOf ss rig.now → ss ≡ steps_of steps.now →
+        AreFound (all_shown (parts_of slots.now)) (wanted.now.cont.0 ∷ bytes_of wanted.now.taken.items) (r ∷ ds) →
+        r.row ≡ receiver.now → bare ds ≡ sends.now → IfOk result
+        (λ o. MatchOption o (MeetNot (r ∷ ds) wanted.now.repeat)
+        (Meet ss (all_shown (parts_of slots.now)) wanted.now.repeat r ds)) }
 {
     let Some(found) = meet_rows(alloc, receiver, sends)? else {
         return Ok(None);
@@ -79,7 +85,7 @@ fn meet_taken(
     if !may_be_made(wanted.repeat, found.lasting) {
         return Ok(None);
     }
-    let next = all_next(
+    let all = all_next(
         alloc,
         slots,
         rig,
@@ -88,6 +94,7 @@ fn meet_taken(
         &wanted.cont,
         wanted.taken.as_slice(),
     )?;
+    let next = but_early(slots, steps, &wanted.cont, all);
     Ok(Some(Ready { found, next }))
 }
 
@@ -96,13 +103,17 @@ pub(crate) fn fit(
     alloc: Global,
     slots: &[Slot],
     rig: &Rig,
+    steps: &[LogStep],
     wanted: &LogStep,
     step: u32,
 ) -> Result<Option<Ready>, AllocError>
     requires filed { AreSlotsFiled slots.now }
     requires step { (ss : List Step) × (IsRigOf ss rig.now × step < length ss) }
-    ensures { (before : List Step) (s : Step) (after : List Step) → IsRigOf (before ++ s ∷ after) rig.now → length (before ++ s ∷ after) < 2 ^ 32 - 1 → length before ≡ step → s ≡ step_of wanted.now
-        → IfOk result (λ o. MatchOption o (FitsNothing (before ++ s ∷ after) (all_shown (parts_of slots.now)) before s step) (IsReady (before ++ s ∷ after) (all_shown (parts_of slots.now)) before s step)) }
+    ensures { (before : List Step) (s : Step) (after : List Step) → IsRigOf (before ++ s ∷ after) rig.now → before ++
+        s ∷ after ≡ steps_of steps.now → length (before ++ s ∷ after) < 2 ^ 32 - 1 → length before ≡ step → s ≡
+        step_of wanted.now → IfOk result (λ o. MatchOption o
+        (FitsNothing (before ++ s ∷ after) (all_shown (parts_of slots.now)) before s step)
+        (IsReady (before ++ s ∷ after) (all_shown (parts_of slots.now)) before s step)) }
 {
     let Some(receiver) = lend_row(slots, rig, step, 0, &wanted.cont) else {
         return Ok(None);
@@ -113,5 +124,14 @@ pub(crate) fn fit(
     if !may_fit(slots, rig, wanted, step) {
         return Ok(None);
     }
-    meet_taken(alloc, slots, rig, wanted, step, receiver, sends.as_slice())
+    meet_taken(
+        alloc,
+        slots,
+        rig,
+        steps,
+        wanted,
+        step,
+        receiver,
+        sends.rows(),
+    )
 }

@@ -121,7 +121,8 @@ impl ReplayHeld {
         requires shards { (k : ℕ) → has_bit shards k ≡ stands_in k row }
         requires held { (k : ℕ) → has_bit shards k ≡ true → IsSome (shard_at self.old k) }
         ensures back { OnErr result (self.new ≡ self.old) }
-        ensures arrived { OnOk result ((next : List IndexTry) → TouchedBecome (has_bit shards) (arrives (new_row from row) next) self.old self.new) }
+        ensures arrived { OnOk result ((next : List IndexTry) →
+            TouchedBecome (has_bit shards) (arrives (new_row from row) next) self.old self.new) }
     {
         match only_shard(shards) {
             Some(number) => arrive_at(alloc, &mut self.slots, row, from, number),
@@ -133,8 +134,10 @@ impl ReplayHeld {
     /// exactly where there is none.
     pub fn step_shards(&self, log: &Log, step: u32) -> Option<u64>
         requires { step < length log.now.steps.items }
-        ensures { (before : List Step) (s : Step) (after : List Step) → steps_of log.now.steps.items ≡ before ++ s ∷ after → length before ≡ step
-            → MatchOption result (find_seen s.receiver (all_shown self.now) ≡ None) (λ n. (r : SeenRow) × (find_seen s.receiver (all_shown self.now) ≡ Some r) × ((k : ℕ) → has_bit n k ≡ stands_in k r.row)) }
+        ensures { (before : List Step) (s : Step) (after : List Step) → steps_of log.now.steps.items ≡ before ++ s ∷
+            after → length before ≡ step → MatchOption result (find_seen s.receiver (all_shown self.now) ≡ None)
+            (λ n. (r : SeenRow) × (find_seen s.receiver (all_shown self.now) ≡ Some r) ×
+            ((k : ℕ) → has_bit n k ≡ stands_in k r.row)) }
     {
         match find_in(self.taken(), &log.steps[step as usize].cont) {
             None => None,
@@ -142,8 +145,8 @@ impl ReplayHeld {
         }
     }
 
-    /// Rows in hand that fit a step, and the tries that follow once it is done; None exactly where no rows in hand do, if
-    /// ids tell these. Want of memory is the one error.
+    /// Rows in hand that fit a step, and the tries that follow once it is done, but for one that would come too early; None
+    /// exactly where no rows in hand do, if ids tell these. Want of memory is the one error.
     pub fn possible(
         &self,
         alloc: Global,
@@ -154,19 +157,30 @@ impl ReplayHeld {
         requires step { step < length log.now.steps.items }
         requires writable { IsWritable log.now }
         requires rig { IsRigOf (steps_of log.now.steps.items) rig.now }
-        ensures { (before : List Step) (s : Step) (after : List Step) → steps_of log.now.steps.items ≡ before ++ s ∷ after → length before ≡ step
-            → IfOk result (λ o. MatchOption o (FitsNothing (steps_of log.now.steps.items) (all_shown self.now) before s step) (IsReady (steps_of log.now.steps.items) (all_shown self.now) before s step)) }
+        ensures { (before : List Step) (s : Step) (after : List Step) → steps_of log.now.steps.items ≡ before ++ s ∷
+            after → length before ≡ step → IfOk result (λ o. MatchOption o
+            (FitsNothing (steps_of log.now.steps.items) (all_shown self.now) before s step)
+            (IsReady (steps_of log.now.steps.items) (all_shown self.now) before s step)) }
     {
-        fit(alloc, self.taken(), rig, &log.steps[step as usize], step)
+        fit(
+            alloc,
+            self.taken(),
+            rig,
+            log.steps.as_slice(),
+            &log.steps[step as usize],
+            step,
+        )
     }
 
     /// A step is done, and the rows with these ids leave: each shard in hand becomes what the step makes of it. It takes no
     /// memory.
     pub fn commit_done(&mut self, log: &Log, step: u32, gone: &[Digest])
         requires step { step < length log.now.steps.items }
-        requires low { (before : List Step) (s : Step) (after : List Step) → steps_of log.now.steps.items ≡ before ++ s ∷ after → length before ≡ step → AreLow s (all_shown self.old) }
-        ensures { (before : List Step) (s : Step) (after : List Step) → steps_of log.now.steps.items ≡ before ++ s ∷ after → length before ≡ step
-            → (t : IndexTry) (a : Making) (next : List IndexTry) → a.step ≡ s → a.gone ≡ bytes_of gone.now → AllBecome (does t a next) self.old self.new }
+        requires low { (before : List Step) (s : Step) (after : List Step) → steps_of log.now.steps.items ≡ before ++
+            s ∷ after → length before ≡ step → AreLow s (all_shown self.old) }
+        ensures { (before : List Step) (s : Step) (after : List Step) → steps_of log.now.steps.items ≡ before ++ s ∷
+            after → length before ≡ step → (t : IndexTry) (a : Making) (next : List IndexTry) → a.step ≡ s → a.gone ≡
+            bytes_of gone.now → AllBecome (does t a next) self.old self.new }
     {
         settle_all(&mut self.slots, &log.steps[step as usize], gone);
     }

@@ -57,7 +57,8 @@ fn take_out(rows: &mut Rows, gone: &[Digest])
 // Whether the id of the datum at this place of a step is its receiver's or that of a datum before it.
 fn was_named(step: &LogStep, place: usize) -> bool
     requires { place < length step.now.taken.items }
-    ensures { result ≡ is_one_of (slice_index_or step.now.taken.items place step.now.cont).0 (step.now.cont.0 ∷ each (λ (d : Digest). d.0) (take place step.now.taken.items)) }
+    ensures { result ≡ is_one_of (slice_index_or step.now.taken.items place step.now.cont).0
+        (step.now.cont.0 ∷ each (λ (d : Digest). d.0) (take place step.now.taken.items)) }
 {
     let id = &step.taken[place];
     if id == &step.cont {
@@ -70,7 +71,8 @@ fn was_named(step: &LogStep, place: usize) -> bool
 fn count_if(rows: &mut Rows, id: &Digest, wanted: bool)
     requires filed { AreFiled rows.old.entries }
     requires low { wanted ≡ true → (q : SeenRow) → IsIn q (filed_rows rows.old.entries) → id.now.0 ≡ q.row.id → q.done < 2 ^ 32 - 1 }
-    ensures rows { filed_rows rows.new.entries ≡ cond wanted (flat_map (settled id.now.0 false) (filed_rows rows.old.entries)) (filed_rows rows.old.entries) }
+    ensures rows { filed_rows rows.new.entries ≡ cond wanted
+        (flat_map (settled id.now.0 false) (filed_rows rows.old.entries)) (filed_rows rows.old.entries) }
     ensures filed { AreFiled rows.new.entries }
 {
     if !wanted {

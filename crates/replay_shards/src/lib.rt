@@ -2,6 +2,7 @@
 #![tactic(auto)]
 
 mod bits;
+mod early;
 mod finding;
 mod fit;
 mod full;

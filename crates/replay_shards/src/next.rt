@@ -32,12 +32,28 @@ fn use_try(row: &ShardedRow, next: Option<u32>) -> Option<Try>
     }
 }
 
-/// The try that follows where a row arrives: of its first use in the log. Want of memory is the one error.
-pub fn first_tries(alloc: Global, rig: &Rig, row: &ShardedRow) -> Result<Vec<Try>, AllocError>
+// The first use of an id, whose row was offered by this step. It is looked for in the step behind that one first.
+fn first_use(rig: &Rig, id: &Digest, from: Option<u32>) -> Option<u32>
+    ensures { (ss : List Step) → IsRigOf ss rig.now → result ≡ slice_get (uses id.now.0 0 ss) 0 }
+{
+    match from {
+        None => rig.next_use(id, 0),
+        Some(step) => rig.next_use_near(id, step.saturating_add(1), 0),
+    }
+}
+
+/// The try that follows where a row arrives: of its first use in the log. `from` is the step that offered it, and changes
+/// nothing in the answer: where the step behind that one uses the row, nothing is looked up. Want of memory is the one error.
+pub fn first_tries(
+    alloc: Global,
+    rig: &Rig,
+    row: &ShardedRow,
+    from: Option<u32>,
+) -> Result<Vec<Try>, AllocError>
     ensures { (ss : List Step) → IsRigOf ss rig.now → IfOk result (λ v. IsFirstUse ss row.now (index_tries v.items)) }
 {
     let mut tries = Vec::new(alloc);
-    match use_try(row, rig.next_use(&row.id(), 0)) {
+    match use_try(row, first_use(rig, &row.id(), from)) {
         None => Ok(tries),
         Some(tried) => {
             tries.push(tried)?;
@@ -57,7 +73,9 @@ fn add_next(
     next: &mut Vec<Try>,
 ) -> Result<(), AllocError>
     requires { AreSlotsFiled slots.now }
-    ensures { (ss : List Step) (q : SeenRow) → IsRigOf ss rig.now → find_seen id.now.0 (all_shown (parts_of slots.now)) ≡ Some q → OnOk result (Follow ss (bytes_of gone.now) q next.old.items next.new.items) }
+    ensures { (ss : List Step) (q : SeenRow) → IsRigOf ss rig.now →
+        find_seen id.now.0 (all_shown (parts_of slots.now)) ≡ Some q →
+        OnOk result (Follow ss (bytes_of gone.now) q next.old.items next.new.items) }
 {
     if is_among(id, gone) {
         return Ok(());
@@ -87,8 +105,9 @@ pub(crate) fn all_next(
     others: &[Digest],
 ) -> Result<Vec<Try>, AllocError>
     requires { AreSlotsFiled slots.now }
-    ensures { (ss : List Step) (r : SeenRow) (ds : List SeenRow) → IsRigOf ss rig.now → AreFound (all_shown (parts_of slots.now)) (first.now.0 ∷ bytes_of others.now) (r ∷ ds)
-        → IfOk result (λ v. AreNext ss (bytes_of gone.now) (r ∷ ds) v.items) }
+    ensures { (ss : List Step) (r : SeenRow) (ds : List SeenRow) → IsRigOf ss rig.now →
+        AreFound (all_shown (parts_of slots.now)) (first.now.0 ∷ bytes_of others.now) (r ∷ ds) →
+        IfOk result (λ v. AreNext ss (bytes_of gone.now) (r ∷ ds) v.items) }
 {
     let mut next = Vec::new(alloc);
     add_next(slots, rig, step, 0, gone, first, &mut next)?;

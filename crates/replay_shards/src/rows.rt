@@ -22,8 +22,7 @@ pub(crate) fn make_room(alloc: Global, rows: &mut Rows, id: &Digest) -> Result<(
     match rows.get_mut(&id.0) {
         Some(list) => list.reserve(1),
         None => {
-            let mut list = Vec::new(alloc);
-            list.reserve(1)?;
+            let list = Vec::with_capacity(alloc, 1)?;
             rows.insert(id.0, list)?;
             Ok(())
         }

@@ -59,7 +59,8 @@ fn add_if(
     number: u32,
 ) -> Result<(), AllocError>
     requires { number < 64 }
-    ensures { OnOk result (each seen_row built.new.items ≡ each seen_row built.old.items ++ filter (seen_in number) (standing_row row.now ∷ [])) }
+    ensures { OnOk result (each seen_row built.new.items ≡ each seen_row built.old.items ++
+        filter (seen_in number) (standing_row row.now ∷ [])) }
 {
     if !is_set(row.shards(), number) {
         return Ok(());

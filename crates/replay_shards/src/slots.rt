@@ -46,7 +46,8 @@ pub(crate) fn make_room_all(
     ensures long { length slots.new.items ≡ 64 }
     ensures same { parts_of slots.new.items ≡ parts_of slots.old.items }
     ensures filed { AreSlotsFiled slots.old.items → AreSlotsFiled slots.new.items }
-    ensures room { OnOk result ((k : ℕ) → k < 64 → has_bit shards k ≡ true → IsSome (slice_index_or slots.old.items k None) → HasRoomAt id.now.0 (slice_index_or slots.new.items k None)) }
+    ensures room { OnOk result ((k : ℕ) → k < 64 → has_bit shards k ≡ true →
+        IsSome (slice_index_or slots.old.items k None) → HasRoomAt id.now.0 (slice_index_or slots.new.items k None)) }
 {
     for number in 0..64u32 {
         let wanted = is_set(shards, number);
@@ -79,7 +80,8 @@ pub(crate) fn make_copies(
     shards: u64,
 ) -> Result<Vec<Option<Seen<ShardedRow>>>, AllocError>
     ensures long { IfOk result (λ v. length v.items ≡ 64) }
-    ensures are { IfOk result (λ v. (k : ℕ) → k < 64 → slice_index_or v.items k None ≡ cond (has_bit shards k) (Some (arrived_seen row.now from)) None) }
+    ensures are { IfOk result (λ v. (k : ℕ) → k < 64 → slice_index_or v.items k None ≡
+        cond (has_bit shards k) (Some (arrived_seen row.now from)) None) }
 {
     let mut copies = Vec::new(alloc);
     for number in 0..64u32 {
@@ -130,7 +132,8 @@ pub(crate) fn arrive_at(
     ensures long { length slots.new.items ≡ 64 }
     ensures back { OnErr result (parts_of slots.new.items ≡ parts_of slots.old.items) }
     ensures filed { AreSlotsFiled slots.old.items → AreSlotsFiled slots.new.items }
-    ensures arrived { OnOk result (GainsSeen (arrived_seen row from) (slice_index_or slots.old.items number None) (slice_index_or slots.new.items number None)) }
+    ensures arrived { OnOk result (GainsSeen (arrived_seen row from) (slice_index_or slots.old.items number None)
+        (slice_index_or slots.new.items number None)) }
     ensures others { (k : ℕ) → k ≢ number → slice_index_or slots.new.items k None ≡ slice_index_or slots.old.items k None }
 {
     arrive_one(alloc, &mut slots[number as usize], row, from)
@@ -140,9 +143,11 @@ pub(crate) fn arrive_at(
 pub(crate) fn put_all(slots: &mut Vec<Slot>, copies: Vec<Option<Seen<ShardedRow>>>)
     requires long { length slots.old.items ≡ 64 }
     requires many { length copies.items ≡ 64 }
-    requires room { (k : ℕ) (s : Seen ShardedRow) → slice_index_or copies.items k None ≡ Some s → HasRoomAt s.row.id (slice_index_or slots.old.items k None) }
+    requires room { (k : ℕ) (s : Seen ShardedRow) → slice_index_or copies.items k None ≡ Some s →
+        HasRoomAt s.row.id (slice_index_or slots.old.items k None) }
     ensures long { length slots.new.items ≡ 64 }
-    ensures put { (k : ℕ) → GainsRow (slice_index_or copies.items k None) (slice_index_or slots.old.items k None) (slice_index_or slots.new.items k None) }
+    ensures put { (k : ℕ) → GainsRow (slice_index_or copies.items k None) (slice_index_or slots.old.items k None)
+        (slice_index_or slots.new.items k None) }
 {
     let mut rest = copies;
     for k in 0..64usize {
@@ -166,7 +171,9 @@ pub(crate) fn arrive_in(
     ensures back { OnErr result (parts_of slots.new.items ≡ parts_of slots.old.items) }
     ensures filed { AreSlotsFiled slots.old.items → AreSlotsFiled slots.new.items }
     ensures absent { (k : ℕ) → shard_at (parts_of slots.old.items) k ≡ None → shard_at (parts_of slots.new.items) k ≡ None }
-    ensures arrived { OnOk result ((next : List IndexTry) → TouchedBecome (has_bit shards) (arrives (new_row from row.now) next) (parts_of slots.old.items) (parts_of slots.new.items)) }
+    ensures arrived { OnOk result ((next : List IndexTry) →
+        TouchedBecome (has_bit shards) (arrives (new_row from row.now) next) (parts_of slots.old.items)
+        (parts_of slots.new.items)) }
 {
     let copies = make_copies(alloc, row, from, shards)?;
     make_room_all(alloc, slots, shards, &row.id())?;
@@ -178,7 +185,8 @@ pub(crate) fn arrive_in(
 fn settle_at(slot: &mut Slot, step: &LogStep, gone: &[Digest])
     requires filed { IsSlotFiled slot.old }
     requires low { AreLow (step_of step.now) (shown_at (option_map part_of slot.old)) }
-    ensures part { option_map part_of slot.new ≡ option_map (settled_part (step_of step.now) (each (λ (d : Digest). d.0) gone.now)) (option_map part_of slot.old) }
+    ensures part { option_map part_of slot.new ≡ option_map
+        (settled_part (step_of step.now) (each (λ (d : Digest). d.0) gone.now)) (option_map part_of slot.old) }
     ensures filed { IsSlotFiled slot.new }
 {
     if let Some(kept) = slot {
@@ -193,7 +201,8 @@ pub(crate) fn settle_all(slots: &mut Vec<Slot>, step: &LogStep, gone: &[Digest])
     requires low { AreLow (step_of step.now) (all_shown (parts_of slots.old.items)) }
     ensures long { length slots.new.items ≡ 64 }
     ensures filed { AreSlotsFiled slots.new.items }
-    ensures parts { parts_of slots.new.items ≡ each (option_map (settled_part (step_of step.now) (each (λ (d : Digest). d.0) gone.now))) (parts_of slots.old.items) }
+    ensures parts { parts_of slots.new.items ≡ each (option_map
+        (settled_part (step_of step.now) (each (λ (d : Digest). d.0) gone.now))) (parts_of slots.old.items) }
 {
     for k in 0..64usize {
         settle_at(&mut slots[k], step, gone);

@@ -3,7 +3,6 @@ pub mod Filed
 pub mod Numbering
 pub mod Lone
 pub mod Listed
-pub mod Sorted
 pub mod Drafting
 pub mod Placed
 pub mod Kept

@@ -1,6 +1,6 @@
 // The ids that steps name, with their numbers and their uses.
-ghost use Rattle.std.specs.Prelude.{◌≡◌, ◌<◌, ◌≤◌, ◌-◌, ◌+◌, ◌^◌, ◌++◌, ◌∷◌, [], List, Some, length, slice_get, IfOk, IfSome};
-ghost use Rattle.replay_space.specs.Rigs.{number_of, AreNumbered, IsDraft};
+ghost use Rattle.std.specs.Prelude.{◌≡◌, ◌<◌, ◌≤◌, ◌-◌, ◌+◌, ◌^◌, ◌++◌, ◌∷◌, [], List, length, IfOk};
+ghost use Rattle.replay_space.specs.Rigs.{number_of, IsDraft};
 
 use crate::naming::Naming;
 use std::alloc::{AllocError, Global};
@@ -30,7 +30,7 @@ fn one_index(alloc: Global, index: u32) -> Result<Vec<u32>, AllocError>
 
 // So many zeros.
 fn zeros(alloc: Global, count: usize) -> Result<Vec<u32>, AllocError> {
-    let mut list = Vec::new(alloc);
+    let mut list = Vec::with_capacity(alloc, count)?;
     for _ in 0..count {
         list.push(0)?;
     }
@@ -59,31 +59,14 @@ impl Draft {
         })
     }
 
-    // The number of the last id, where it is this one.
-    fn last_number(&self, id: &[u8; 32]) -> Option<u32>
-        requires { length self.now.ids.items < 2 ^ 32 }
-        ensures { IfSome result (λ n. slice_get self.now.ids.items n ≡ Some id.now) }
-    {
-        let last = self.ids.last()?;
-        if last != id {
-            return None;
-        }
-        Some((self.ids.len() - 1) as u32)
-    }
-
-    // The number of an id, if it has one. That of the last one is not looked up.
+    // The number of an id, if it has one.
     fn number_of(&self, id: &[u8; 32]) -> Option<u32>
-        requires few { length self.now.ids.items < 2 ^ 32 }
-        requires numbered { AreNumbered self.now.numbers.entries self.now.ids.items }
         ensures { result ≡ number_of self.now.numbers.entries id.now }
     {
-        match self.last_number(id) {
-            Some(number) => Some(number),
-            None => self.numbers.get(id).copied(),
-        }
+        self.numbers.get(id).copied()
     }
 
-    /// Adds a naming. Those of one id are best added one behind the other. Want of memory is the one error.
+    /// Adds a naming. Want of memory is the one error.
     pub(crate) fn add(&mut self, alloc: Global, naming: &Naming) -> Result<(), AllocError>
         requires few { length self.old.uses.items < 2 ^ 32 - 1 }
         requires drafted { (ns : List Naming) × IsDraft ns self.old }

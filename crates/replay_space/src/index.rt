@@ -10,7 +10,7 @@ ghost use Rattle.replay_space.specs.Rigs.{IsIndexOf, IsLone};
 
 use crate::draft::{Draft, Numbers};
 use crate::lists::Lists;
-use crate::naming::{Namings, by_id};
+use crate::naming::Namings;
 use calculus::Digest;
 use event_log::LogStep;
 use std::alloc::{AllocError, Global};
@@ -40,8 +40,7 @@ impl Index {
         ensures { IfOk result (IsIndexOf (steps_of steps.now)) }
     {
         let Namings { all, ends } = Namings::from_steps(alloc, steps)?;
-        let namings = by_id(all)?;
-        let draft = Draft::from_namings(alloc, namings.as_slice())?;
+        let draft = Draft::from_namings(alloc, all.as_slice())?;
         let uses = Lists::from_vecs(alloc, draft.uses)?;
         Ok(Index {
             numbers: draft.numbers,
@@ -78,6 +77,28 @@ impl Index {
         ensures { (ss : List Step) → IsIndexOf ss self.now → result.now ≡ uses id.now.0 0 ss }
     {
         match self.number_at(id, step, place) {
+            Some(number) => self.uses.at(number),
+            None => self.uses(id),
+        }
+    }
+
+    // The number of an id, where it is one of those that a step names.
+    fn number_near(&self, id: &Digest, step: u32) -> Option<u32>
+        ensures { IfSome result (λ n. slice_get self.now.ids.items n ≡ Some id.now.0) }
+    {
+        for place in 0..self.names.at(step).len() {
+            if let Some(number) = self.number_at(id, step, place) {
+                return Some(number);
+            }
+        }
+        None
+    }
+
+    /// The same. Where the step names the id at any place, nothing is looked up.
+    pub(crate) fn uses_near(&self, id: &Digest, step: u32) -> &[u32]
+        ensures { (ss : List Step) → IsIndexOf ss self.now → result.now ≡ uses id.now.0 0 ss }
+    {
+        match self.number_near(id, step) {
             Some(number) => self.uses.at(number),
             None => self.uses(id),
         }

@@ -3,7 +3,7 @@ ghost use Rattle.std.specs.Prelude.{◌≡◌, ◌<◌, ◌≤◌, ◌+◌, ◌*
 ghost use Rattle.calculus.specs.Log.{Step};
 ghost use Rattle.calculus.specs.Steps.{is_one_of};
 ghost use Rattle.event_log.specs.View.{step_of, steps_of, TakesInRange};
-ghost use Rattle.replay_space.specs.Rigs.{steps_in, AreNamed};
+ghost use Rattle.replay_space.specs.Rigs.{AreNamed};
 
 use calculus::Digest;
 use event_log::LogStep;
@@ -41,7 +41,8 @@ fn is_among(id: &Digest, ids: &[Digest]) -> bool
 // Whether the id of the datum at this place of a step is its receiver's or that of a datum before it.
 fn was_named(step: &LogStep, place: usize) -> bool
     requires { place < length step.now.taken.items }
-    ensures { result ≡ is_one_of (slice_index_or step.now.taken.items place step.now.cont).0 (step.now.cont.0 ∷ each (λ (d : Digest). d.0) (take place step.now.taken.items)) }
+    ensures { result ≡ is_one_of (slice_index_or step.now.taken.items place step.now.cont).0
+        (step.now.cont.0 ∷ each (λ (d : Digest). d.0) (take place step.now.taken.items)) }
 {
     let id = &step.taken[place];
     if id == &step.cont {
@@ -64,8 +65,8 @@ impl Namings {
 
     // Adds an id that the step of this index names, and has not named before.
     fn add(&mut self, id: &Digest, index: u32) -> Result<(), AllocError>
-        ensures named { (before : List Step) (ids : List (List ℕ)) → length before ≡ index → is_one_of id.now.0 ids ≡ false → AreNamed before ids self.old
-            → IfOk result (λ _. AreNamed before (ids ++ id.now.0 ∷ []) self.new) }
+        ensures named { (before : List Step) (ids : List (List ℕ)) → length before ≡ index → is_one_of id.now.0 ids ≡
+            false → AreNamed before ids self.old → IfOk result (λ _. AreNamed before (ids ++ id.now.0 ∷ []) self.new) }
         ensures few { IfOk result (λ _. length self.new.all.items ≤ length self.old.all.items + 1) }
     {
         let place = (self.all.len() % 0x1_0000_0000) as u32;
@@ -80,8 +81,10 @@ impl Namings {
     // Adds the id of the datum at this place of a step, unless the step has named it before.
     fn add_datum(&mut self, step: &LogStep, place: usize, index: u32) -> Result<(), AllocError>
         requires { place < length step.now.taken.items }
-        ensures named { (before : List Step) → length before ≡ index → AreNamed before (step.now.cont.0 ∷ each (λ (d : Digest). d.0) (take place step.now.taken.items)) self.old
-            → IfOk result (λ _. AreNamed before (step.now.cont.0 ∷ each (λ (d : Digest). d.0) (take (place + 1) step.now.taken.items)) self.new) }
+        ensures named { (before : List Step) → length before ≡ index →
+            AreNamed before (step.now.cont.0 ∷ each (λ (d : Digest). d.0) (take place step.now.taken.items)) self.old →
+            IfOk result (λ _. AreNamed before (step.now.cont.0 ∷
+            each (λ (d : Digest). d.0) (take (place + 1) step.now.taken.items)) self.new) }
         ensures few { IfOk result (λ _. length self.new.all.items ≤ length self.old.all.items + 1) }
     {
         if was_named(step, place) {
@@ -118,14 +121,4 @@ impl Namings {
         }
         Ok(namings)
     }
-}
-
-/// The same in the order of their ids. Those of one id keep their order. Want of memory is the one error.
-pub(crate) fn by_id(namings: Vec<Naming>) -> Result<Vec<Naming>, AllocError>
-    ensures same { IfOk result (λ v. (x : List ℕ) → steps_in x v.items ≡ steps_in x namings.items) }
-    ensures long { IfOk result (λ v. length v.items ≡ length namings.items) }
-{
-    let mut sorted = namings;
-    sorted.sort_by(|a, b| a.id.cmp(&b.id))?;
-    Ok(sorted)
 }

@@ -32,8 +32,10 @@ pub(crate) fn count_step(
     counts: &mut Counts,
     step: &LogStep,
 ) -> Result<u32, AllocError>
-    ensures { (log before : List Step) → length before < 2 ^ 32 - 1 → (IsLone log (step_of step.now) → ⊥) → AreCounts log before counts.old.entries
-        → IfOk result (λ n. (n ≡ count_by (same_meeting (step_of step.now)) before) × AreCounts log (before ++ step_of step.now ∷ []) counts.new.entries) }
+    ensures { (log before : List Step) → length before < 2 ^ 32 - 1 → (IsLone log (step_of step.now) → ⊥) →
+        AreCounts log before counts.old.entries → IfOk result
+        (λ n. (n ≡ count_by (same_meeting (step_of step.now)) before) ×
+        AreCounts log (before ++ step_of step.now ∷ []) counts.new.entries) }
 {
     let key = step_key(alloc, step)?;
     let count = match counts.get(key.as_slice()) {

@@ -29,8 +29,10 @@ fn next_repeat(
     step: &LogStep,
     number: u32,
 ) -> Result<u32, AllocError>
-    ensures { (log before after : List Step) → IsIndexOf log index.now → log ≡ before ++ step_of step.now ∷ after → length before < 2 ^ 32 - 1 → AreCounts log before counts.old.entries
-        → IfOk result (λ n. (n ≡ count_by (same_meeting (step_of step.now)) before) × AreCounts log (before ++ step_of step.now ∷ []) counts.new.entries) }
+    ensures { (log before after : List Step) → IsIndexOf log index.now → log ≡ before ++ step_of step.now ∷ after →
+        length before < 2 ^ 32 - 1 → AreCounts log before counts.old.entries →
+        IfOk result (λ n. (n ≡ count_by (same_meeting (step_of step.now)) before) ×
+        AreCounts log (before ++ step_of step.now ∷ []) counts.new.entries) }
 {
     if index.has_lone_id(step, number) {
         return Ok(0);
@@ -86,11 +88,18 @@ impl Rig {
         self.index.uses_at(id, step, place).get(done).copied()
     }
 
+    /// The same. Where this step names the id, nothing is looked up.
+    pub fn next_use_near(&self, id: &Digest, step: u32, done: usize) -> Option<u32>
+        ensures { (ss : List Step) → IsRigOf ss self.now → result ≡ slice_get (uses id.now.0 0 ss) done }
+    {
+        self.index.uses_near(id, step).get(done).copied()
+    }
+
     /// How many steps below this one have the same receiver and the same data.
     pub fn repeat_of(&self, step: u32) -> u32
         requires { (ss : List Step) × (IsRigOf ss self.now × step < length ss) }
-        ensures { (ss before : List Step) (s : Step) (after : List Step) → IsRigOf ss self.now → ss ≡ before ++ s ∷ after → length before ≡ step
-            → result ≡ count_by (same_meeting s) before }
+        ensures { (ss before : List Step) (s : Step) (after : List Step) → IsRigOf ss self.now → ss ≡ before ++ s ∷
+            after → length before ≡ step → result ≡ count_by (same_meeting s) before }
     {
         self.repeats[step as usize]
     }

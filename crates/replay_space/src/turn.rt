@@ -23,8 +23,9 @@ fn is_from_below(from: Option<u32>, step: u32) -> bool
 
 // Whether a step is the next use of a row that it names, which was not offered by this step or a later one.
 fn is_turn(rig: &Rig, seen: &Seen<Row>, step: u32) -> bool
-    ensures { (ss before : List Step) (s : Step) (after : List Step) → IsRigOf ss rig.now → ss ≡ before ++ s ∷ after → length before ≡ step → names_id seen.now.row.id s ≡ true
-        → Decides result (IsTheirTurn before (seen_of seen.now ∷ [])) }
+    ensures { (ss before : List Step) (s : Step) (after : List Step) → IsRigOf ss rig.now → ss ≡ before ++ s ∷ after →
+        length before ≡ step → names_id seen.now.row.id s ≡ true →
+        Decides result (IsTheirTurn before (seen_of seen.now ∷ [])) }
 {
     if !is_from_below(seen.from, step) {
         return false;

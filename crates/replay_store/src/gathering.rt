@@ -43,7 +43,8 @@ fn gather(alloc: Global, shards: Vec<ReplayShard>) -> Result<Vec<Row>, AllocErro
 
 /// The rows of the store of these 64 shards, each once. Want of memory is the one error.
 pub fn rows_of(alloc: Global, shards: Vec<ReplayShard>) -> Result<Vec<Row>, AllocError>
-    ensures { (store : List StoredRow) → length shards.items ≡ 64 → AreShardsOf store shards.items → ((r : StoredRow) → Among r store → channels r.part ≢ []) → IfOk result (λ v. IsPermutation v.items store) }
+    ensures { (store : List StoredRow) → length shards.items ≡ 64 → AreShardsOf store shards.items →
+        ((r : StoredRow) → Among r store → channels r.part ≢ []) → IfOk result (λ v. IsPermutation v.items store) }
 {
     gather(alloc, shards)
 }

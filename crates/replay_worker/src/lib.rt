@@ -3,9 +3,11 @@
 
 mod arrival;
 mod ends;
+pub mod site;
 pub mod tables;
 mod trying;
 pub mod worker;
 
+pub use crate::site::Site;
 pub use crate::tables::{Arriving, Doing, Looked, ReplayTables};
 pub use crate::worker::work_through;

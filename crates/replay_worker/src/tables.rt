@@ -81,7 +81,9 @@ pub trait ReplayTables: ReplayTerms {
         requires shards { (k : ℕ) → has_bit shards k ≡ stands_in k (Self.row_of coming.row) }
         requires held { (k : ℕ) → has_bit shards k ≡ true → is_some (Self.in_hand held.old k) ≡ true }
         ensures back { OnErr result ((k : ℕ) → Self.in_hand held.new k ≡ Self.in_hand held.old k) }
-        ensures arrived { OnOk result ((next : List IndexTry) → AllBecome Self.part_of (has_bit shards) (arrives (new_row_of Self.row_of Self.channel_of coming) next) (Self.in_hand held.old) (Self.in_hand held.new)) };
+        ensures arrived { OnOk result ((next : List IndexTry) →
+            AllBecome Self.part_of (has_bit shards) (arrives (new_row_of Self.row_of Self.channel_of coming) next)
+            (Self.in_hand held.old) (Self.in_hand held.new)) };
 
     /// What the shards in hand, which have these bits, show of a try.
     fn look(
@@ -94,7 +96,8 @@ pub trait ReplayTables: ReplayTerms {
         requires knows { knows self.now }
         requires shards { (k : ℕ) → has_bit shards k ≡ is_some (Self.in_hand held.now k) }
         requires own { has_bit shards (shard (Self.channel_of tried.now.channel)) ≡ true }
-        ensures { IfOk result (Shows Self.deploy Self.steps Self.row_of Self.channel_of Self.part_of (Self.in_hand held.now) (has_bit shards) tried.now) };
+        ensures { IfOk result (Shows Self.deploy Self.steps Self.row_of Self.channel_of Self.part_of
+            (Self.in_hand held.now) (has_bit shards) tried.now) };
 
     /// Counts a step that is done in all shards in hand, and takes the rows out that leave by it. It takes no memory.
     fn finish(&self, held: &mut Self::Held, doing: &Doing<Self::Row, Self::Channel>)
@@ -102,5 +105,6 @@ pub trait ReplayTables: ReplayTerms {
         requires place { IsAtItsPlace Self.steps doing.now.made }
         requires gone { doing.now.gone.items ≡ doing.now.made.gone.value.items }
         requires low { AreLow Self.part_of (Self.in_hand held.old) (step_of doing.now.made.made.value) }
-        ensures { AllBecome Self.part_of (λ k. true) (deed_of Self.row_of Self.channel_of (Done doing.now.made)) (Self.in_hand held.old) (Self.in_hand held.new) };
+        ensures { AllBecome Self.part_of (λ k. true) (deed_of Self.row_of Self.channel_of (Done doing.now.made))
+            (Self.in_hand held.old) (Self.in_hand held.new) };
 }

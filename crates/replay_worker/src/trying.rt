@@ -3,20 +3,20 @@ ghost use Rattle.std.specs.Prelude.{◌≡◌, ◌<◌, ℕ, [], ◌∷◌, true
 ghost use Rattle.std.specs.Int.{bit_at};
 ghost use Rattle.calculus.specs.Storing.{shard};
 ghost use Rattle.hub_rule.specs.Counts.{count, things_of};
-ghost use Rattle.hub_rule.specs.Rule.{Carries};
-ghost use Rattle.group_locks.specs.Seats.{home_of, held_by, since_of, due_of, hand_of, taken_by, offered_by, stops_of, AtRest, HasLeave, HasRoom};
+ghost use Rattle.group_locks.specs.Seats.{home_of, held_by, due_of, hand_of, taken_by, offered_by, stops_of, AtRest, HasLeave, HasRoom};
 ghost use Rattle.replay_hub.specs.declared.deed.Task.TheVariants.{Index};
 ghost use Rattle.replay_hub.specs.Values.{has_bit, values};
 ghost use Rattle.replay_hub.specs.Drawing.{ShowsIdle};
 ghost use Rattle.replay_worker.specs.Looking.{IsDoing};
+ghost use Rattle.replay_worker.specs.Seats.{HandCarries, HasJob};
 
-use crate::ends::{give_back, give_up, leave};
+use crate::ends::{give_back, give_up, go_home};
+use crate::site::Site;
 use crate::tables::{Doing, Looked, ReplayTables};
 use group_locks::{Hub, Seat};
 use replay_hub::worker::{draw_entry, end_idle};
 use replay_hub::{Did, Entry, ReplayScene, Task, Try};
 use rho_outside::{Gate, Moment};
-use std::alloc::Global;
 use std::sync::Wait;
 
 // Does a step with the shards in hand, and draws it. It answers the jobs that this offers.
@@ -31,12 +31,12 @@ fn draw_step<J: ReplayTables + Sync>(
     requires knows { J.knows tables.now }
     requires hub { (home_of seat.old.state ≡ hub.now.table.shared.table_id) × (due_of seat.old.state ≡ []) }
     requires leave { HasLeave seat.old.state × HasRoom seat.old.state }
-    requires work { (index : ℕ) × (tried : _) × (taken_by seat.old.state ≡ (index, Index tried) ∷ []) × (offered_by seat.old.state ≡ [])
+    requires work { (tried : _) × HasJob (Index tried) seat.old.state
         × IsDoing J.deploy J.steps J.row_of J.channel_of J.part_of (J.in_hand held.old) (has_bit shards) tried doing }
     requires turns { (k : ℕ) → count k (held_by seat.old.state) ≡ bit_at shards k }
-    requires carries { Carries (values J.deploy J.steps J.row_of J.channel_of J.part_of) (since_of seat.old.state) (held_by seat.old.state) (J.in_hand held.old) }
+    requires carries { HandCarries (values J.deploy J.steps J.row_of J.channel_of J.part_of) seat.old.state (J.in_hand held.old) }
     ensures hub { (home_of seat.new.state ≡ hub.now.table.shared.table_id) × (due_of seat.new.state ≡ []) }
-    ensures carries { Carries (values J.deploy J.steps J.row_of J.channel_of J.part_of) (since_of seat.new.state) (held_by seat.new.state) (J.in_hand held.new) }
+    ensures carries { HandCarries (values J.deploy J.steps J.row_of J.channel_of J.part_of) seat.new.state (J.in_hand held.new) }
     ensures drawn { (taken_by seat.new.state ≡ []) × (things_of (offered_by seat.new.state) ≡ result.items) }
 {
     tables.finish(held, &doing);
@@ -50,43 +50,9 @@ fn draw_step<J: ReplayTables + Sync>(
     tasks
 }
 
-// Does a step with the shards in hand, gives them home, and leaves what the step offers. The gate is passed before the step is
-// done, and again when the shards are home. False where memory was wanting; the hub is then stopped.
-fn do_step<J: ReplayTables + Sync, R: Wait, G: Gate>(
-    rt: &R,
-    gate: &G,
-    worker: u32,
-    tables: &J,
-    hub: &Hub<ReplayScene<J>>,
-    seat: &mut Seat<ReplayScene<J>>,
-    held: &mut J::Held,
-    shards: u64,
-    doing: Doing<J::Row, J::Channel>,
-) -> bool
-    requires knows { J.knows tables.now }
-    requires hub { (home_of seat.old.state ≡ hub.now.table.shared.table_id) × (due_of seat.old.state ≡ []) }
-    requires leave { HasLeave seat.old.state × HasRoom seat.old.state }
-    requires work { (index : ℕ) × (tried : _) × (taken_by seat.old.state ≡ (index, Index tried) ∷ []) × (offered_by seat.old.state ≡ [])
-        × IsDoing J.deploy J.steps J.row_of J.channel_of J.part_of (J.in_hand held.old) (has_bit shards) tried doing }
-    requires turns { (k : ℕ) → count k (held_by seat.old.state) ≡ bit_at shards k }
-    requires carries { Carries (values J.deploy J.steps J.row_of J.channel_of J.part_of) (since_of seat.old.state) (held_by seat.old.state) (J.in_hand held.old) }
-    ensures seat { AtRest hub.now.table.shared.table_id seat.new.state × (due_of seat.new.state ≡ []) }
-    ensures empty { (k : ℕ) → J.in_hand held.new k ≡ None }
-    ensures left { result ≡ true → hand_of seat.new.state ≡ [] }
-    ensures stopped { result ≡ false → 0 < stops_of seat.new.state }
-{
-    gate.pass(rt, worker, Moment::Held { shards });
-    let tasks = draw_step(tables, hub, seat, held, shards, doing);
-    seat.give_group(hub, held);
-    gate.pass(rt, worker, Moment::Freed { shards });
-    leave(rt, hub, seat, tasks)
-}
-
 // Ends a try whose step may not be done, and gives the shards in hand home. The gate is passed before, and again when they are home.
 fn idle<J: ReplayTables + Sync, R: Wait, G: Gate>(
-    rt: &R,
-    gate: &G,
-    worker: u32,
+    site: &Site<R, G>,
     hub: &Hub<ReplayScene<J>>,
     seat: &mut Seat<ReplayScene<J>>,
     held: &mut J::Held,
@@ -95,26 +61,24 @@ fn idle<J: ReplayTables + Sync, R: Wait, G: Gate>(
 )
     requires hub { (home_of seat.old.state ≡ hub.now.table.shared.table_id) × (due_of seat.old.state ≡ []) }
     requires leave { HasLeave seat.old.state × HasRoom seat.old.state }
-    requires work { (index : ℕ) × (taken_by seat.old.state ≡ (index, Index tried) ∷ []) × (offered_by seat.old.state ≡ []) }
-    requires carries { Carries (values J.deploy J.steps J.row_of J.channel_of J.part_of) (since_of seat.old.state) (held_by seat.old.state) (J.in_hand held.old) }
+    requires work { HasJob (Index tried) seat.old.state }
+    requires carries { HandCarries (values J.deploy J.steps J.row_of J.channel_of J.part_of) seat.old.state (J.in_hand held.old) }
     requires idle { ShowsIdle J.part_of (J.in_hand held.old) J.steps J.channel_of tried }
     ensures seat { AtRest hub.now.table.shared.table_id seat.new.state × (due_of seat.new.state ≡ []) }
     ensures empty { (k : ℕ) → J.in_hand held.new k ≡ None }
     ensures left { hand_of seat.new.state ≡ [] }
 {
-    gate.pass(rt, worker, Moment::Held { shards });
+    site.pass(Moment::Held { shards });
     end_idle(hub, seat, held, tried);
     seat.give_group(hub, held);
-    gate.pass(rt, worker, Moment::Freed { shards });
+    site.pass(Moment::Freed { shards });
 }
 
 /// Does the step of a try, and leaves what it offers, or ends the try where its step may not be done. It looks with more
-/// shards in hand where the step's receiver stands in more. False where memory was wanting; the hub is then stopped.
+/// shards in hand where the step's receiver stands in more. The gate is passed before the entry is drawn, and again when the shards
+/// are home. False where memory was wanting; the hub is then stopped.
 pub(crate) fn try_step<J: ReplayTables + Sync, R: Wait, G: Gate>(
-    rt: &R,
-    alloc: Global,
-    gate: &G,
-    worker: u32,
+    site: &Site<R, G>,
     tables: &J,
     hub: &Hub<ReplayScene<J>>,
     seat: &mut Seat<ReplayScene<J>>,
@@ -124,26 +88,28 @@ pub(crate) fn try_step<J: ReplayTables + Sync, R: Wait, G: Gate>(
     requires knows { J.knows tables.now }
     requires seat { AtRest hub.now.table.shared.table_id seat.old.state × (due_of seat.old.state ≡ []) }
     requires leave { HasLeave seat.old.state × HasRoom seat.old.state }
-    requires work { (index : ℕ) × (taken_by seat.old.state ≡ (index, Index tried) ∷ []) × (offered_by seat.old.state ≡ []) }
+    requires work { HasJob (Index tried) seat.old.state }
     requires empty { (k : ℕ) → J.in_hand held.old k ≡ None }
     ensures seat { AtRest hub.now.table.shared.table_id seat.new.state × (due_of seat.new.state ≡ []) }
     ensures empty { (k : ℕ) → J.in_hand held.new k ≡ None }
     ensures left { result ≡ true → hand_of seat.new.state ≡ [] }
     ensures stopped { result ≡ false → 0 < stops_of seat.new.state }
 {
-    let Ok(own) = tables.own_shard(alloc, &tried.channel) else {
+    let Ok(own) = tables.own_shard(site.alloc, &tried.channel) else {
         return give_up(hub, seat);
     };
     let mut shards = own;
-    for _ in rt.forever() {
-        seat.take_group(rt, hub, held, shards);
-        match tables.look(alloc, held, &tried, shards) {
+    for _ in site.rt.forever() {
+        seat.take_group(site.rt, hub, held, shards);
+        match tables.look(site.alloc, held, &tried, shards) {
             Err(_) => return give_back(hub, seat, held),
             Ok(Looked::Fits(doing)) => {
-                return do_step(rt, gate, worker, tables, hub, seat, held, shards, doing);
+                site.pass(Moment::Held { shards });
+                let tasks = draw_step(tables, hub, seat, held, shards, doing);
+                return go_home(site, hub, seat, held, shards, tasks);
             }
             Ok(Looked::Idle) => {
-                idle(rt, gate, worker, hub, seat, held, shards, tried);
+                idle(site, hub, seat, held, shards, tried);
                 return true;
             }
             Ok(Looked::Wider(more)) => {

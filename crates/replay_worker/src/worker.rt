@@ -2,22 +2,20 @@
 ghost use Rattle.std.specs.Prelude.{◌≡◌, ◌<◌, ℕ, [], ◌∷◌, true, false, None};
 ghost use Rattle.group_locks.specs.Seats.{due_of, hand_of, offered_by, stops_of, taken_by, AtRest, HasLeave, HasRoom, IsIdle};
 ghost use Rattle.replay_hub.specs.Ends.{FoundAnEnd};
+ghost use Rattle.replay_worker.specs.Seats.{HasJob};
 
 use crate::arrival::bring_in;
+use crate::site::Site;
 use crate::tables::ReplayTables;
 use crate::trying::try_step;
 use group_locks::{Hub, Seat, StopCause};
 use replay_hub::{ReplayScene, Task};
 use rho_outside::Gate;
-use std::alloc::Global;
 use std::sync::Wait;
 
 // Does one job, and leaves those that follow. False where memory was wanting; the hub is then stopped.
 fn do_task<J: ReplayTables + Sync, R: Wait, G: Gate>(
-    rt: &R,
-    alloc: Global,
-    gate: &G,
-    worker: u32,
+    site: &Site<R, G>,
     tables: &J,
     hub: &Hub<ReplayScene<J>>,
     seat: &mut Seat<ReplayScene<J>>,
@@ -27,7 +25,7 @@ fn do_task<J: ReplayTables + Sync, R: Wait, G: Gate>(
     requires knows { J.knows tables.now }
     requires seat { AtRest hub.now.table.shared.table_id seat.old.state × (due_of seat.old.state ≡ []) }
     requires leave { HasLeave seat.old.state × HasRoom seat.old.state }
-    requires work { (index : ℕ) × (taken_by seat.old.state ≡ (index, task) ∷ []) × (offered_by seat.old.state ≡ []) }
+    requires work { HasJob task seat.old.state }
     requires empty { (k : ℕ) → J.in_hand held.old k ≡ None }
     ensures seat { AtRest hub.now.table.shared.table_id seat.new.state × (due_of seat.new.state ≡ []) }
     ensures empty { (k : ℕ) → J.in_hand held.new k ≡ None }
@@ -35,18 +33,15 @@ fn do_task<J: ReplayTables + Sync, R: Wait, G: Gate>(
     ensures stopped { result ≡ false → 0 < stops_of seat.new.state }
 {
     match task {
-        Task::Arrive(coming) => bring_in(rt, alloc, gate, worker, tables, hub, seat, held, coming),
-        Task::Index(tried) => try_step(rt, alloc, gate, worker, tables, hub, seat, held, tried),
+        Task::Arrive(coming) => bring_in(site, tables, hub, seat, held, coming),
+        Task::Index(tried) => try_step(site, tables, hub, seat, held, tried),
     }
 }
 
 /// Does jobs of a hub until nothing is pending or the hub stops. It stops the hub where memory is wanting. The worker of this number
 /// passes the gate before each entry that it draws, and again when the shards are home.
 pub fn work_through<J: ReplayTables + Sync, R: Wait, G: Gate>(
-    rt: &R,
-    alloc: Global,
-    gate: &G,
-    worker: u32,
+    site: &Site<R, G>,
     tables: &J,
     hub: &Hub<ReplayScene<J>>,
     seat: Seat<ReplayScene<J>>,
@@ -57,17 +52,15 @@ pub fn work_through<J: ReplayTables + Sync, R: Wait, G: Gate>(
     ensures cause { FoundAnEnd result.state }
 {
     let mut seat = seat;
-    let Ok(mut held) = tables.hand(alloc) else {
+    let Ok(mut held) = tables.hand(site.alloc) else {
         seat.stop(hub, StopCause::NoMemory);
         return seat;
     };
-    for _ in rt.forever() {
-        let Some(task) = seat.take_op(rt, hub) else {
+    for _ in site.rt.forever() {
+        let Some(task) = seat.take_op(site.rt, hub) else {
             return seat;
         };
-        if !do_task(
-            rt, alloc, gate, worker, tables, hub, &mut seat, &mut held, task,
-        ) {
+        if !do_task(site, tables, hub, &mut seat, &mut held, task) {
             return seat;
         }
     }

@@ -1,6 +1,6 @@
 -- A step that is made with rows in hand may be drawn.
-use Rattle.std.proofs.Common.{◌≡◌, ℕ, Bool, true, cond, List, [], ◌∷◌, ◌++◌, length, map as each, sym, ap, subst, ◌∙◌}
-use Rattle.std.specs.Prelude.{◌||◌, Some, flat_map}
+use Rattle.std.proofs.Common.{◌≡◌, ℕ, Bool, true, cond, List, [], ◌∷◌, ◌++◌, length, map as each, refl, inl, sym, ap, subst, ◌∙◌}
+use Rattle.std.specs.Prelude.{◌||◌, Some, flat_map, is_some}
 use Rattle.std.specs.Str.{bytes_eq}
 use Rattle.std.proofs.lemmas.List.{map-id}
 use Rattle.calculus.specs.declared.ids.Digest.{Digest}
@@ -30,12 +30,13 @@ use Rattle.replay_shards.specs.Hands.{InHand, shard_at, all_shown}
 use Rattle.replay_shards.specs.Ready.{IsReady}
 use Rattle.replay_shards.specs.Taken.{bytes_of}
 use Rattle.replay_shards.proofs.Drawing.{ready-covers}
+use Rattle.replay_shards.proofs.Lacking.{none-seen}
 use Rattle.replayed_log.specs.Making.{IsMade}
 use Rattle.replayed_log.proofs.Showing.{part, to-hand, to-shown}
 
 module _ (deploy : Deploy) (ss : List Step) (h : InHand) (touched : ℕ → Bool) (t : Try Tree) (u : LogStep) (r : Ready) (before after : List Step)
     (log : ss ≡ before ++ step_of u ∷ after) (place : length before ≡ t.step) (y : IsReady ss (all_shown h) before (step_of u) t.step r)
-    (covers : (k : ℕ) → stands_in k y.receiver.row ≡ true → touched k ≡ true) (d : Doing Row Tree) (m : IsMade deploy.prices deploy.limit u t r d) where
+    (covers : (k : ℕ) → stands_in k y.receiver.row ≡ true → touched k ≡ true) (within : (k : ℕ) → touched k ≡ true → is_some (shard_at h k) ≡ true) (d : Doing Row Tree) (m : IsMade deploy.prices deploy.limit u t r d) where
   abbrev rows : List SeenRow
   rows = y.receiver ∷ y.data_rows
 
@@ -83,8 +84,18 @@ module _ (deploy : Deploy) (ss : List Step) (h : InHand) (touched : ℕ → Bool
         offers = map-id d.made.offers.value.items ∙ m.offers;
         price = m.price;
         fault = m.fault;
-        are = ap indices m.next ∙ y.are ∙ ap (λ ds. flat_map (later_use ss (bytes_of ds)) rows) (sym m.seen);
+        early = y.early;
+        are = ap (λ l. y.early ++ l) (ap indices m.next) ∙ y.are ∙ ap (λ ds. flat_map (later_use ss (bytes_of ds)) rows) (sym m.seen);
         uses_of = λ z i. y.uses_of z (subst (λ (ts : List IndexTry). IsIn z ts) m.next i);
+      };
+      early = λ i j b s a log place. let w = y.lacks i j b s a log place in record {
+        receiver = y.receiver;
+        there = inl refl;
+        named = w.receiver;
+        joined = λ k st. within k (covers k st);
+        id = w.datum.id;
+        wanted = w.datum.wanted;
+        none = λ q n e. none-seen w.datum.id (all_shown h) w.datum.none q (to-shown h q n) e;
       };
     };
     same_step = m.same_step;

@@ -66,7 +66,10 @@ impl<N: ReplayNames> ReplayTables for LogReplay<N> {
         coming: &Coming<ShardedRow>,
     ) -> Result<Arriving<ShardedRow, ShardedChannel>, AllocError> {
         let shards = coming.row.shards();
-        let tries = hub_tries(alloc, first_tries(alloc, &self.rig, &coming.row)?)?;
+        let tries = hub_tries(
+            alloc,
+            first_tries(alloc, &self.rig, &coming.row, coming.from)?,
+        )?;
         let next = Snapshot::of(&tries);
         let tasks = with_tries(Vec::new(alloc), tries)?;
         Ok(Arriving {
@@ -86,7 +89,9 @@ impl<N: ReplayNames> ReplayTables for LogReplay<N> {
         requires shards { (k : ℕ) → has_bit shards k ≡ stands_in k coming.row }
         requires held { (k : ℕ) → has_bit shards k ≡ true → is_some (shard_at held.old k) ≡ true }
         ensures back { OnErr result ((k : ℕ) → shard_at held.new k ≡ shard_at held.old k) }
-        ensures arrived { OnOk result ((next : List IndexTry) → AllBecome (λ x. x) (has_bit shards) (arrives (new_row_of (λ r. r) (λ t. t) coming) next) (shard_at held.old) (shard_at held.new)) }
+        ensures arrived { OnOk result ((next : List IndexTry) →
+            AllBecome (λ x. x) (has_bit shards) (arrives (new_row_of (λ r. r) (λ t. t) coming) next) (shard_at held.old)
+            (shard_at held.new)) }
     {
         held.arrive(alloc, coming.row, coming.from, shards)
     }

@@ -54,7 +54,8 @@ pub fn eval_term(
     requires cap { cap < 2 ^ 64 - 1 }
     requires price { price ≤ cap }
     requires closed { IsClosed term.now }
-    ensures { MatchResult result (λ p. Came cap price p.price p.value (value prices.now term.now)) (λ e. Stopped cap price (value prices.now term.now) e) }
+    ensures { MatchResult result (λ p. Came cap price p.price p.value (value prices.now term.now))
+        (λ e. Stopped cap price (value prices.now term.now) e) }
 {
     let done = eval_parts(alloc, term.parts(), prices, cap, price)?;
     let value = make_par(alloc, done.value)?;
@@ -74,7 +75,9 @@ fn eval_parts(
     requires price { price ≤ cap }
     requires closed { All (λ q. IsClosed (only (part_tree q))) parts.now }
     requires ordered { All (λ q. IsOrdered (part_tree q)) parts.now }
-    ensures values { MatchResult result (λ p. CameFlat cap price p.price (map part_tree p.value.items) (in_order (map (λ q. value prices.now (part_tree q)) parts.now))) (λ e. Stopped cap price (in_order (map (λ q. value prices.now (part_tree q)) parts.now)) e) }
+    ensures values { MatchResult result (λ p. CameFlat cap price p.price (map part_tree p.value.items)
+        (in_order (map (λ q. value prices.now (part_tree q)) parts.now)))
+        (λ e. Stopped cap price (in_order (map (λ q. value prices.now (part_tree q)) parts.now)) e) }
     ensures ordered { IfOk result (λ p. All (λ q. IsOrdered (part_tree q)) p.value.items) }
 {
     let mut total = price;
@@ -103,7 +106,9 @@ pub fn eval_terms(
     requires cap { cap < 2 ^ 64 - 1 }
     requires price { price ≤ cap }
     requires closed { All IsClosed terms.now.items }
-    ensures { MatchResult result (λ p. Came cap price p.price p.value.items (in_order (map (value prices.now) terms.now.items))) (λ e. Stopped cap price (in_order (map (value prices.now) terms.now.items)) e) }
+    ensures { MatchResult result (λ p. Came cap price p.price p.value.items
+        (in_order (map (value prices.now) terms.now.items)))
+        (λ e. Stopped cap price (in_order (map (value prices.now) terms.now.items)) e) }
 {
     let mut total = price;
     let mut values = Vec::new(alloc);
@@ -131,7 +136,9 @@ fn eval_pairs(
     requires price { price ≤ cap }
     requires keys { All (λ q. IsClosed q.0) pairs.now.items }
     requires values { All (λ q. IsClosed q.1) pairs.now.items }
-    ensures { MatchResult result (λ p. Came cap price p.price (map pair_tree p.value.items) (in_order (map (λ q. value prices.now (pair_tree q)) pairs.now.items))) (λ e. Stopped cap price (in_order (map (λ q. value prices.now (pair_tree q)) pairs.now.items)) e) }
+    ensures { MatchResult result (λ p. Came cap price p.price (map pair_tree p.value.items)
+        (in_order (map (λ q. value prices.now (pair_tree q)) pairs.now.items)))
+        (λ e. Stopped cap price (in_order (map (λ q. value prices.now (pair_tree q)) pairs.now.items)) e) }
 {
     let mut total = price;
     let mut values = Vec::new(alloc);
@@ -160,7 +167,8 @@ pub fn eval_part(
     requires price { price ≤ cap }
     requires closed { IsClosed (only (part_tree part.now)) }
     requires ordered { IsOrdered (part_tree part.now) }
-    ensures { MatchResult result (λ p. Came cap price p.price p.value (value prices.now (part_tree part.now))) (λ e. Stopped cap price (value prices.now (part_tree part.now)) e) }
+    ensures { MatchResult result (λ p. Came cap price p.price p.value (value prices.now (part_tree part.now)))
+        (λ e. Stopped cap price (value prices.now (part_tree part.now)) e) }
 {
     match part {
         Part::List(members) => {

@@ -13,7 +13,8 @@ use term_encoder::code_len;
 /// The process at this price so far, or its fault where it is beyond the limits.
 pub fn limited(term: Term, price: u64, cap: u64) -> Result<Priced<Term>, EvalStop>
     requires { price ≤ cap }
-    ensures { MatchResult result (λ p. Came cap price p.price p.value (free (within_limits term))) (λ e. Stopped cap price (free (within_limits term)) e) }
+    ensures { MatchResult result (λ p. Came cap price p.price p.value (free (within_limits term)))
+        (λ e. Stopped cap price (free (within_limits term)) e) }
 {
     if term.height() > MOST_HEIGHT {
         let kind = FaultKind::TooDeep;
@@ -29,7 +30,10 @@ pub fn limited(term: Term, price: u64, cap: u64) -> Result<Priced<Term>, EvalSto
 /// The price so far and that of an operator or a method on operands of so many bytes, where they do not pass the cap.
 pub(crate) fn charge(prices: &Prices, bytes: u64, price: u64, cap: u64) -> Result<u64, EvalStop>
     requires { cap < 2 ^ 64 - 1 }
-    ensures { MatchResult result (λ n. (l : ℕ) → bytes ≡ in_u64 l → (n ≡ price + (prices.now.op + prices.now.byte * l)) × (n ≤ cap)) (λ e. (e ≡ EvalStop.Over) × ((l : ℕ) → bytes ≡ in_u64 l → cap < price + (prices.now.op + prices.now.byte * l))) }
+    ensures { MatchResult result (λ n. (l : ℕ) → bytes ≡ in_u64 l →
+        (n ≡ price + (prices.now.op + prices.now.byte * l)) × (n ≤ cap))
+        (λ e. (e ≡ EvalStop.Over) × ((l : ℕ) → bytes ≡ in_u64 l → cap < price +
+        (prices.now.op + prices.now.byte * l))) }
 {
     let cost = prices
         .byte()

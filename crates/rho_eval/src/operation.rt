@@ -32,7 +32,9 @@ pub(crate) fn operate_one(
     price: u64,
 ) -> Result<Priced<Term>, EvalStop>
     requires cap { cap < 2 ^ 64 - 1 }
-    ensures { MatchResult result (λ p. Came cap price p.price p.value (operated prices.now (arg.now ∷ []) (unary_answer op arg.now))) (λ e. Stopped cap price (operated prices.now (arg.now ∷ []) (unary_answer op arg.now)) e) }
+    ensures { MatchResult result (λ p. Came cap price p.price p.value
+        (operated prices.now (arg.now ∷ []) (unary_answer op arg.now)))
+        (λ e. Stopped cap price (operated prices.now (arg.now ∷ []) (unary_answer op arg.now)) e) }
 {
     let bytes = code_len(arg);
     let price = charge(prices, bytes, price, cap)?;
@@ -53,7 +55,10 @@ pub(crate) fn operate_two(
     requires cap { cap < 2 ^ 64 - 1 }
     requires left { IsOperand left.now }
     requires right { IsOperand right.now }
-    ensures { MatchResult result (λ p. Came cap price p.price p.value (operated prices.now (left.now ∷ right.now ∷ []) (binary_answer op left.now right.now))) (λ e. Stopped cap price (operated prices.now (left.now ∷ right.now ∷ []) (binary_answer op left.now right.now)) e) }
+    ensures { MatchResult result (λ p. Came cap price p.price p.value
+        (operated prices.now (left.now ∷ right.now ∷ []) (binary_answer op left.now right.now)))
+        (λ e. Stopped cap price (operated prices.now (left.now ∷ right.now ∷ []) (binary_answer op left.now right.now))
+        e) }
 {
     let bytes = code_len(left).saturating_add(code_len(right));
     let price = charge(prices, bytes, price, cap)?;
@@ -74,7 +79,10 @@ pub(crate) fn call(
     requires cap { cap < 2 ^ 64 - 1 }
     requires target { IsOperand target.now }
     requires args { All IsOperand args.now.items }
-    ensures { MatchResult result (λ p. Came cap price p.price p.value (operated prices.now (target.now ∷ args.now.items) (method_answer name.now target.now args.now.items))) (λ e. Stopped cap price (operated prices.now (target.now ∷ args.now.items) (method_answer name.now target.now args.now.items)) e) }
+    ensures { MatchResult result (λ p. Came cap price p.price p.value
+        (operated prices.now (target.now ∷ args.now.items) (method_answer name.now target.now args.now.items)))
+        (λ e. Stopped cap price (operated prices.now (target.now ∷ args.now.items)
+        (method_answer name.now target.now args.now.items)) e) }
 {
     let bytes = code_len(target).saturating_add(bytes_of(args));
     let price = charge(prices, bytes, price, cap)?;
@@ -96,7 +104,8 @@ fn bytes_of(terms: &Vec<Term>) -> u64
 // An answer at this price so far, within the limits.
 fn answered(answer: Result<Term, OpStop>, price: u64, cap: u64) -> Result<Priced<Term>, EvalStop>
     requires { price ≤ cap }
-    ensures { (a : Answer Tree) → Answers a answer → MatchResult result (λ p. Came cap price p.price p.value (free (checked a))) (λ e. Stopped cap price (free (checked a)) e) }
+    ensures { (a : Answer Tree) → Answers a answer → MatchResult result
+        (λ p. Came cap price p.price p.value (free (checked a))) (λ e. Stopped cap price (free (checked a)) e) }
 {
     match answer {
         Ok(value) => limited(value, price, cap),

@@ -24,7 +24,8 @@ pub fn eval_owned(
     requires cap { cap < 2 ^ 64 - 1 }
     requires price { price ≤ cap }
     requires closed { IsClosed term }
-    ensures { MatchResult result (λ p. Came cap price p.price p.value (value prices.now term)) (λ e. Stopped cap price (value prices.now term) e) }
+    ensures { MatchResult result (λ p. Came cap price p.price p.value (value prices.now term))
+        (λ e. Stopped cap price (value prices.now term) e) }
 {
     if are_own_values(term.parts()) {
         return limited(term, price, cap);

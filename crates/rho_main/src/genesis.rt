@@ -35,8 +35,10 @@ fn genesis_made<S: Shelf, O: Sink>(alloc: Global, name: &str, shelf: &mut S, out
     ensures all { result ≡ Status.Done → FoundsAll name.now
         (world (S.files shelf.old) (S.fetch_faults shelf.old) (S.keep_faults shelf.old) (O.written out.old) (O.faults out.old))
         (world (S.files shelf.new) (S.fetch_faults shelf.new) (S.keep_faults shelf.new) (O.written out.new) (O.faults out.new)) }
-    ensures part { OnHalt result (StopsOnTheWay (entries_of name.now) empty_line (S.files shelf.old) (S.files shelf.new) (S.keep_faults shelf.old) (S.keep_faults shelf.new) (O.written out.old) (O.written out.new)) }
-    ensures write_fault { result ≡ Status.WriteFault → Rose (S.keep_faults shelf.old) (S.keep_faults shelf.new) ⊎ Rose (O.faults out.old) (O.faults out.new) }
+    ensures part { OnHalt result (StopsOnTheWay (entries_of name.now) empty_line (S.files shelf.old) (S.files shelf.new)
+        (S.keep_faults shelf.old) (S.keep_faults shelf.new) (O.written out.old) (O.written out.new)) }
+    ensures write_fault { result ≡ Status.WriteFault → Rose (S.keep_faults shelf.old) (S.keep_faults shelf.new) ⊎
+        Rose (O.faults out.old) (O.faults out.new) }
     ensures complete { ¬ (Rose (S.keep_faults shelf.old) (S.keep_faults shelf.new)) → ¬ (Rose (O.faults out.old) (O.faults out.new))
         → (result ≡ Status.Done) ⊎ (result ≡ Status.NoMemory) }
 {

@@ -61,7 +61,8 @@ pub fn run<R: Threads + Wait + Sync, S: Shelf, O: Sink, G: Gate + Sync>(
     // The words.
     ensures usage { OnUsage result (IsSaidBy (answer_of (map string_bytes words.now))) }
     ensures usage_exact { IsRefusal (answer_of (map string_bytes words.now)) → SaysUsage result }
-    ensures usage_stays { IsRefusal (answer_of (map string_bytes words.now)) → (S.files shelf.new ≡ S.files shelf.old) × (O.written out.new ≡ O.written out.old) }
+    ensures usage_stays { IsRefusal (answer_of (map string_bytes words.now)) → (S.files shelf.new ≡ S.files shelf.old) ×
+        (O.written out.new ≡ O.written out.old) }
 
     // The verbs, each from what the shelf and the output tell before the call to what they tell after it.
     ensures genesis { OnGenesis (map string_bytes words.now) (λ name. IsGenesis name

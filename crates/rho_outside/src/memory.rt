@@ -127,7 +127,8 @@ impl Shelf for MemShelf {
         ensures keep_faults { self.new.keep_faults ≡ self.old.keep_faults }
         ensures within { IfOk result (λ bytes. length bytes.items ≤ max) }
         ensures given { IfOk result (λ bytes. Gives (Some (files_of self.old.files)) name.now bytes.items) }
-        ensures cause { IfErr result (FetchCause (Some (files_of self.old.files)) name.now max self.old.fetch_faults self.new.fetch_faults) }
+        ensures cause { IfErr result (FetchCause (Some (files_of self.old.files)) name.now max self.old.fetch_faults
+            self.new.fetch_faults) }
 
         // The named calls fail, and no other.
         ensures failing { Contains self.old.failing.items self.old.calls → result ≡ Err FetchFault.Failed }

@@ -69,7 +69,8 @@ impl<'a> Parser<'a> {
     #[cycle(parse)]
     pub fn group(&mut self, inner: Part<Proc>, free: u32) -> Result<Part<Proc>, Fault>
         requires { inner.height < free }
-        ensures reads { Gives free (Sort.Group processes (of_proc inner)) of_proc (view self.old.cursor.rest.now) result (view self.new.cursor.rest.now) }
+        ensures reads { Gives free (Sort.Group processes (of_proc inner)) of_proc (view self.old.cursor.rest.now) result
+            (view self.new.cursor.rest.now) }
         ensures room { IfOk result (λ p. p.height ≤ free) }
         ensures shorter { length self.new.cursor.rest.now ≤ length self.old.cursor.rest.now }
     {
@@ -86,7 +87,8 @@ impl<'a> Parser<'a> {
     #[cycle(parse)]
     pub fn block(&mut self, inner: Part<Proc>, free: u32) -> Result<Part<Proc>, Fault>
         requires { inner.height < free }
-        ensures reads { Gives free (Sort.BraceTail (of_proc inner)) of_proc (view self.old.cursor.rest.now) result (view self.new.cursor.rest.now) }
+        ensures reads { Gives free (Sort.BraceTail (of_proc inner)) of_proc (view self.old.cursor.rest.now) result
+            (view self.new.cursor.rest.now) }
         ensures room { IfOk result (λ p. p.height ≤ free) }
         ensures shorter { length self.new.cursor.rest.now ≤ length self.old.cursor.rest.now }
     {
@@ -109,9 +111,12 @@ impl<'a> Parser<'a> {
         free: u32,
     ) -> Result<Part<Vec<(Proc, Proc)>>, Fault>
         requires { pairs.height < free }
-        ensures reads { Turns free (rule Tutorial (Prod.pairs_more (pairs_written pairs.value.items) pairs.height)) (λ p. last (Sort.Pairs (pairs_written p.value.items) p.height)) (view self.old.cursor.rest.now) result (view self.new.cursor.rest.now) }
+        ensures reads { Turns free (rule Tutorial (Prod.pairs_more (pairs_written pairs.value.items) pairs.height))
+            (λ p. last (Sort.Pairs (pairs_written p.value.items) p.height)) (view self.old.cursor.rest.now) result
+            (view self.new.cursor.rest.now) }
         ensures room { IfOk result (λ p. p.height < free) }
-        ensures shorter { MatchResult result (λ _. length self.new.cursor.rest.now < length self.old.cursor.rest.now) (λ _. length self.new.cursor.rest.now ≤ length self.old.cursor.rest.now) }
+        ensures shorter { MatchResult result (λ _. length self.new.cursor.rest.now < length self.old.cursor.rest.now)
+            (λ _. length self.new.cursor.rest.now ≤ length self.old.cursor.rest.now) }
     {
         self.cursor.expect(Mark::Comma)?;
         let found = self.par(free - 1);
@@ -123,7 +128,8 @@ impl<'a> Parser<'a> {
     /// Row ::= [ Par { "," Par } ], and the sign that closes it
     #[cycle(parse)]
     pub fn row(&mut self, bracket: Bracket, free: u32) -> Result<Part<Vec<Proc>>, Fault>
-        ensures reads { Gives free (Sort.Row processes (bracket_of bracket)) of_row (view self.old.cursor.rest.now) result (view self.new.cursor.rest.now) }
+        ensures reads { Gives free (Sort.Row processes (bracket_of bracket)) of_row (view self.old.cursor.rest.now)
+            result (view self.new.cursor.rest.now) }
         ensures room { IfOk result (λ p. p.height ≤ free) }
         ensures shorter { length self.new.cursor.rest.now ≤ length self.old.cursor.rest.now }
     {

@@ -16,7 +16,8 @@ use token_cursor::pattern_forms;
 
 /// The form of processes that was read, as a pattern without variables.
 pub fn closed_form(alloc: Global, form: Result<Part<Proc>, Fault>) -> Result<Part<Pat>, Fault>
-    ensures reads { (free : ℕ) (s : Sort) (ts us : List Terminal) → Gives free s of_proc ts form us → Makes free (at s (λ p. done (closed_of p))) of_pat ts result us }
+    ensures reads { (free : ℕ) (s : Sort) (ts us : List Terminal) → Gives free s of_proc ts form us →
+        Makes free (at s (λ p. done (closed_of p))) of_pat ts result us }
     ensures room { (n : ℕ) → IfOk form (λ p. p.height ≤ n) → IfOk result (λ p. p.height ≤ n) }
 {
     match form {

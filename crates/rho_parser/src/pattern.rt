@@ -75,7 +75,8 @@ impl<'a> Parser<'a> {
     #[cycle(parse)]
     pub fn pattern_sent(&mut self, sending: Sending<NamePat>, free: u32) -> Result<Part<Pat>, Fault>
         requires { sending.channel.height < free }
-        ensures reads { Makes free (after_channel_pattern sending) of_pat (view self.old.cursor.rest.now) result (view self.new.cursor.rest.now) }
+        ensures reads { Makes free (after_channel_pattern sending) of_pat (view self.old.cursor.rest.now) result
+            (view self.new.cursor.rest.now) }
         ensures room { IfOk result (λ p. p.height ≤ free) }
         ensures shorter { length self.new.cursor.rest.now ≤ length self.old.cursor.rest.now }
     {

@@ -22,7 +22,8 @@ impl<'a> Parser<'a> {
     #[cycle(parse)]
     pub fn pattern_group(&mut self, first: Part<Pat>, free: u32) -> Result<Part<Pat>, Fault>
         requires { first.height < free }
-        ensures reads { Gives free (Sort.Group patterns (of_pat first)) of_pat (view self.old.cursor.rest.now) result (view self.new.cursor.rest.now) }
+        ensures reads { Gives free (Sort.Group patterns (of_pat first)) of_pat (view self.old.cursor.rest.now) result
+            (view self.new.cursor.rest.now) }
         ensures room { IfOk result (λ p. p.height ≤ free) }
         ensures shorter { length self.new.cursor.rest.now ≤ length self.old.cursor.rest.now }
     {
@@ -38,7 +39,8 @@ impl<'a> Parser<'a> {
     /// Row ::= [ PPar { "," PPar } ], and the sign that closes it
     #[cycle(parse)]
     pub fn pattern_row(&mut self, bracket: Bracket, free: u32) -> Result<Part<Vec<Pat>>, Fault>
-        ensures reads { Gives free (Sort.Row patterns (bracket_of bracket)) of_pat_row (view self.old.cursor.rest.now) result (view self.new.cursor.rest.now) }
+        ensures reads { Gives free (Sort.Row patterns (bracket_of bracket)) of_pat_row (view self.old.cursor.rest.now)
+            result (view self.new.cursor.rest.now) }
         ensures room { IfOk result (λ p. p.height ≤ free) }
         ensures shorter { length self.new.cursor.rest.now ≤ length self.old.cursor.rest.now }
     {
@@ -58,7 +60,8 @@ impl<'a> Parser<'a> {
     /// sign that closes it
     #[cycle(parse)]
     pub fn pattern_sequence(&mut self, bracket: Bracket, free: u32) -> Result<Part<Sequence>, Fault>
-        ensures reads { Gives free (Sort.Seq (bracket_of bracket)) of_sequence (view self.old.cursor.rest.now) result (view self.new.cursor.rest.now) }
+        ensures reads { Gives free (Sort.Seq (bracket_of bracket)) of_sequence (view self.old.cursor.rest.now) result
+            (view self.new.cursor.rest.now) }
         ensures room { IfOk result (λ p. p.height ≤ free) }
         ensures shorter { length self.new.cursor.rest.now ≤ length self.old.cursor.rest.now }
     {
@@ -81,7 +84,8 @@ impl<'a> Parser<'a> {
     #[cycle(parse)]
     pub fn pattern_block(&mut self, first: Part<Pat>, free: u32) -> Result<Part<Pat>, Fault>
         requires { first.height < free }
-        ensures reads { Gives free (Sort.PBraceTail (of_pat first)) of_pat (view self.old.cursor.rest.now) result (view self.new.cursor.rest.now) }
+        ensures reads { Gives free (Sort.PBraceTail (of_pat first)) of_pat (view self.old.cursor.rest.now) result
+            (view self.new.cursor.rest.now) }
         ensures room { IfOk result (λ p. p.height ≤ free) }
         ensures shorter { length self.new.cursor.rest.now ≤ length self.old.cursor.rest.now }
     {
@@ -105,9 +109,13 @@ impl<'a> Parser<'a> {
     ) -> Result<Part<Vec<(Pat, Pat)>>, Fault>
         requires member { sees_member (view self.old.cursor.rest.now) ≡ true }
         requires room { pairs.height < free }
-        ensures reads { Turns free (rule Tutorial (choose (Sort.PPairs (pat_pairs_written pairs.value.items) pairs.height) (view self.old.cursor.rest.now))) (λ p. last (Sort.PPairs (pat_pairs_written p.value.items) p.height)) (view self.old.cursor.rest.now) result (view self.new.cursor.rest.now) }
+        ensures reads { Turns free (rule Tutorial (choose (Sort.PPairs (pat_pairs_written pairs.value.items)
+            pairs.height) (view self.old.cursor.rest.now))) (λ p. last
+            (Sort.PPairs (pat_pairs_written p.value.items) p.height)) (view self.old.cursor.rest.now) result
+            (view self.new.cursor.rest.now) }
         ensures room { IfOk result (λ p. p.height < free) }
-        ensures shorter { MatchResult result (λ _. length self.new.cursor.rest.now < length self.old.cursor.rest.now) (λ _. length self.new.cursor.rest.now ≤ length self.old.cursor.rest.now) }
+        ensures shorter { MatchResult result (λ _. length self.new.cursor.rest.now < length self.old.cursor.rest.now)
+            (λ _. length self.new.cursor.rest.now ≤ length self.old.cursor.rest.now) }
     {
         self.cursor.expect(Mark::Comma)?;
         let found = self.pattern_par(free - 1);

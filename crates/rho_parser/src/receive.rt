@@ -49,7 +49,9 @@ impl<'a> Parser<'a> {
         free: u32,
     ) -> Result<Part<Proc>, Fault>
         requires { binds.height < free }
-        ensures reads { Gives free (Sort.BindsTail kind (separator_of separator) more (map bind_written binds.value.items) binds.height) of_proc (view self.old.cursor.rest.now) result (view self.new.cursor.rest.now) }
+        ensures reads { Gives free (Sort.BindsTail kind (separator_of separator) more
+            (map bind_written binds.value.items) binds.height) of_proc (view self.old.cursor.rest.now) result
+            (view self.new.cursor.rest.now) }
         ensures room { IfOk result (λ p. p.height ≤ free) }
         ensures shorter { length self.new.cursor.rest.now ≤ length self.old.cursor.rest.now }
     {
@@ -96,7 +98,8 @@ impl<'a> Parser<'a> {
         requires { cases.height < free }
         ensures reads { ReadsCase free cases (view self.old.cursor.rest.now) result (view self.new.cursor.rest.now) }
         ensures room { IfOk result (λ p. p.height < free) }
-        ensures shorter { MatchResult result (λ _. length self.new.cursor.rest.now < length self.old.cursor.rest.now) (λ _. length self.new.cursor.rest.now ≤ length self.old.cursor.rest.now) }
+        ensures shorter { MatchResult result (λ _. length self.new.cursor.rest.now < length self.old.cursor.rest.now)
+            (λ _. length self.new.cursor.rest.now ≤ length self.old.cursor.rest.now) }
     {
         self.cursor.refuse_minus()?;
         let found = self.pattern_one(free - 1);

@@ -3,10 +3,10 @@ use Rattle.std.specs.Prelude.{◌≡◌, ℕ, zero, suc, ◌+◌, cond, eqb, Lis
 use Rattle.calculus.specs.declared.plain.Kind.{Kind}
 use Rattle.calculus.specs.declared.plain.TermRest.{TermRest}
 use Rattle.calculus.specs.declared.plain.TermRest.TheVariants as rests
-use Rattle.calculus.specs.Tree.{Tree, trees}
-use Rattle.calculus.specs.Shape.{held}
+use Rattle.calculus.specs.Tree.{Tree, trees, rest}
+use Rattle.calculus.specs.Shape.{held, leaf}
 use Rattle.calculus.specs.Variables.{bound, bound_all}
-use Rattle.calculus.specs.Form.{Sort, a_bind, pat, name_pat, all}
+use Rattle.calculus.specs.Form.{Sort, term, a_bind, pat, name_pat, pat_part, name_part, all}
 use Rattle.calculus.specs.Printed.{first_text, separated, variable_text, bind_texts, rest_text, with_commas, with_rest, operand_text}
 use Rattle.calculus.specs.Formed.{IsFine, Formed, Holds}
 use Rattle.rho_term.specs.declared.term.Part.{Part}
@@ -81,3 +81,47 @@ Writes s t d old new = Formed IsFine s t → (n : ℕ) → new ≡ old ++ text_o
 -- processes of this sort have been written, with a mark between each two
 abbrev pub WritesAll : List ℕ → Sort → List Tree → ℕ → List ℕ → List ℕ → Type 0
 WritesAll mark s ts d old new = Holds IsFine (all s) (trees ts) → (n : ℕ) → new ≡ old ++ separated mark (texts_of s ts d n)
+
+-- a process has been written after this text, in such a form of its own text
+abbrev pub WritesAs : (List ℕ → List ℕ) → Tree → ℕ → List ℕ → List ℕ → Type 0
+WritesAs form t d old new = Formed IsFine term t → (n : ℕ) → new ≡ old ++ form (text_of term t d n)
+
+-- what is of this sort has been written after this text, its variables numbered from `n` on
+abbrev pub WritesFrom : Sort → Tree → ℕ → ℕ → List ℕ → List ℕ → Type 0
+WritesFrom s t d n old new = Formed IsFine s t → new ≡ old ++ text_of s t d n
+
+-- the same of these, with a comma between each two
+abbrev pub WritesListed : Sort → List Tree → ℕ → ℕ → List ℕ → List ℕ → Type 0
+WritesListed s ts d n old new = Holds IsFine (all s) (trees ts) → new ≡ old ++ separated (codes ", ") (texts_of s ts d n)
+
+-- the same of a part of a pattern
+abbrev pub WritesPart : Tree → ℕ → ℕ → List ℕ → List ℕ → Type 0
+WritesPart t d n old new = Formed IsFine name_part t → new ≡ old ++ text_of pat_part t d n
+
+-- the same of the parts of a pattern, with a bar between each two
+abbrev pub WritesParts : List Tree → ℕ → ℕ → List ℕ → List ℕ → Type 0
+WritesParts ts d n old new = Holds IsFine (all name_part) (trees ts) → new ≡ old ++ separated (codes " | ") (texts_of pat_part ts d n)
+
+-- the same of a bind of a receive of this kind
+abbrev pub WritesBind : Kind → Tree → ℕ → ℕ → List ℕ → List ℕ → Type 0
+WritesBind k t d n old new = Formed IsFine a_bind t → new ≡ old ++ bind_text_of k t d n
+
+-- the same of its binds
+abbrev pub WritesBinds : Kind → List Tree → ℕ → List ℕ → List ℕ → Type 0
+WritesBinds k ts d old new = Holds IsFine (all a_bind) (trees ts) → new ≡ old ++ separated (codes " & ") (binds_texts k ts d d)
+
+-- where each of these is of this sort, this has been written after the old text
+abbrev pub WritesIfFine : Sort → List Tree → List ℕ → List ℕ → List ℕ → Type 0
+WritesIfFine s ts text old new = Holds IsFine (all s) (trees ts) → new ≡ old ++ text
+
+-- behind what is of this sort, numbered from `n` on, the next number is `m`
+abbrev pub NumbersPast : Sort → Tree → ℕ → ℕ → Type 0
+NumbersPast s t n m = Formed IsFine s t → m ≡ n + length (bound t)
+
+-- the same behind all of these
+abbrev pub NumbersPastAll : Sort → List Tree → ℕ → ℕ → Type 0
+NumbersPastAll s ts n m = Holds IsFine (all s) (trees ts) → m ≡ n + length (bound_all (trees ts))
+
+-- the same behind all of these and a remainder
+abbrev pub NumbersPastRest : Sort → List Tree → TermRest → ℕ → ℕ → Type 0
+NumbersPastRest s ts r n m = Holds IsFine (all s) (trees ts) → m ≡ n + length (bound_all (trees ts)) + length (bound (leaf (rest r)))

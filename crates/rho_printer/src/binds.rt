@@ -1,13 +1,10 @@
 // The texts of binds and of cases.
-ghost use Rattle.std.specs.Prelude.{◌≡◌, ◌++◌, ◌+◌, ◌≤◌, map, length, codes, IfOk, OnOk};
-ghost use Rattle.calculus.specs.Form.{all, a_bind, a_case, name_pat};
-ghost use Rattle.calculus.specs.Printed.{rest_text, with_commas, separated};
-ghost use Rattle.calculus.specs.Shape.{leaf};
-ghost use Rattle.calculus.specs.Tree.{rest, trees};
-ghost use Rattle.calculus.specs.Variables.{bound, bound_all};
-ghost use Rattle.calculus.specs.Formed.{IsFine, Formed, Holds};
+ghost use Rattle.std.specs.Prelude.{◌≤◌, map, length, codes, IfOk, OnOk};
+ghost use Rattle.calculus.specs.Form.{a_bind, a_case, name_pat};
+ghost use Rattle.calculus.specs.Tree.{rest};
 ghost use Rattle.rho_term.specs.Parts.{bind_tree, case_tree};
-ghost use Rattle.rho_printer.specs.Texts.{HasRoom, Writes, WritesAll, bind_text_of, binds_texts, left_text};
+ghost use Rattle.rho_printer.specs.Texts.{HasRoom, NumbersPast, NumbersPastAll, NumbersPastRest, left_text};
+ghost use Rattle.rho_printer.specs.Texts.{Writes, WritesAll, WritesBind, WritesBinds, WritesIfFine};
 
 use crate::fixed::arrow;
 use crate::patterns::{put_name_pats, put_pat};
@@ -26,8 +23,8 @@ pub(crate) fn put_binds(
     depth: usize,
 ) -> Result<usize, AllocError>
     requires { depth ≤ length out.old.items }
-    ensures text { OnOk result (Holds IsFine (all a_bind) (trees (map bind_tree binds.now)) → out.new.items ≡ out.old.items ++ separated (codes " & ") (binds_texts kind (map bind_tree binds.now) depth depth)) }
-    ensures next { IfOk result (λ m. Holds IsFine (all a_bind) (trees (map bind_tree binds.now)) → m ≡ depth + length (bound_all (trees (map bind_tree binds.now)))) }
+    ensures text { OnOk result (WritesBinds kind (map bind_tree binds.now) depth out.old.items out.new.items) }
+    ensures next { IfOk result (NumbersPastAll a_bind (map bind_tree binds.now) depth) }
     ensures room { IfOk result (λ m. HasRoom depth m out.new.items) }
     ensures grows { OnOk result (length out.old.items ≤ length out.new.items) }
 {
@@ -48,8 +45,8 @@ fn put_bind(
     next: usize,
 ) -> Result<usize, AllocError>
     requires { HasRoom depth next out.old.items }
-    ensures text { OnOk result (Formed IsFine a_bind (bind_tree bind.now) → out.new.items ≡ out.old.items ++ bind_text_of kind (bind_tree bind.now) depth next) }
-    ensures next { IfOk result (λ m. Formed IsFine a_bind (bind_tree bind.now) → m ≡ next + length (bound (bind_tree bind.now))) }
+    ensures text { OnOk result (WritesBind kind (bind_tree bind.now) depth next out.old.items out.new.items) }
+    ensures next { IfOk result (NumbersPast a_bind (bind_tree bind.now) next) }
     ensures room { IfOk result (λ m. HasRoom next m out.new.items) }
     ensures grows { OnOk result (length out.old.items ≤ length out.new.items) }
 {
@@ -71,8 +68,8 @@ fn put_left(
     next: usize,
 ) -> Result<usize, AllocError>
     requires { HasRoom depth next out.old.items }
-    ensures text { OnOk result (Holds IsFine (all name_pat) (trees pats.now) → out.new.items ≡ out.old.items ++ left_text pats.now ending depth next) }
-    ensures next { IfOk result (λ m. Holds IsFine (all name_pat) (trees pats.now) → m ≡ next + length (bound_all (trees pats.now)) + length (bound (leaf (rest ending)))) }
+    ensures text { OnOk result (WritesIfFine name_pat pats.now (left_text pats.now ending depth next) out.old.items out.new.items) }
+    ensures next { IfOk result (NumbersPastRest name_pat pats.now ending next) }
     ensures room { IfOk result (λ m. HasRoom next m out.new.items) }
     ensures grows { OnOk result (length out.old.items ≤ length out.new.items) }
 {

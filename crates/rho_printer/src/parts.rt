@@ -159,7 +159,8 @@ fn put_receive(
     depth: usize,
 ) -> Result<(), AllocError>
     requires { depth ≤ length out.old.items }
-    ensures text { OnOk result (Writes part (two (receive kind) (many row (map bind_tree binds.now)) body.now) depth out.old.items out.new.items) }
+    ensures text { OnOk result (Writes part (two (receive kind) (many row (map bind_tree binds.now)) body.now) depth
+        out.old.items out.new.items) }
     ensures grows { OnOk result (length out.old.items ≤ length out.new.items) }
 {
     put(out, b"for (")?;

@@ -1,14 +1,15 @@
 // The texts of the parts of patterns. Each function gives the number of the next variable.
 ghost use Rattle.std.specs.Prelude.{◌≡◌, ◌++◌, ◌+◌, ◌≤◌, ◌<◌, [], map, length, codes, IfOk, OnOk};
-ghost use Rattle.calculus.specs.Form.{all, pat, name_pat, pair_of, pat_part, name_part};
+ghost use Rattle.calculus.specs.Form.{all, pat, name_pat, pair_of, name_part};
 ghost use Rattle.calculus.specs.Printed.{is_atom, is_bare_name, variable_text};
-ghost use Rattle.calculus.specs.Shape.{label_of, leaf, one, two, many};
+ghost use Rattle.calculus.specs.Shape.{label_of, one, two, many};
 ghost use Rattle.calculus.specs.Tree.{row, rest, tuple, send, bundle, trees};
-ghost use Rattle.calculus.specs.Variables.{bound, bound_all};
+ghost use Rattle.calculus.specs.Variables.{bound};
 ghost use Rattle.calculus.specs.Formed.{IsFine, Formed, Holds};
 ghost use Rattle.rho_term.specs.Normal.{IsOrdered};
 ghost use Rattle.rho_term.specs.Parts.{part_tree, pat_part_tree, pair_tree};
-ghost use Rattle.rho_printer.specs.Texts.{HasRoom, IsClosedForm, text_of, joined_text, members_text};
+ghost use Rattle.rho_printer.specs.Texts.{HasRoom, IsClosedForm, NumbersPast, NumbersPastRest, WritesIfFine, WritesPart};
+ghost use Rattle.rho_printer.specs.Texts.{joined_text, members_text};
 
 use crate::fixed::{rights_word, send_marks, simple_word, tuple_end};
 use crate::parts::{is_atom_part, put_ground, put_part};
@@ -28,8 +29,8 @@ pub(crate) fn put_pat_part(
 ) -> Result<usize, AllocError>
     requires room { HasRoom depth next out.old.items }
     requires ordered { IsOrdered (pat_part_tree p.now) }
-    ensures text { OnOk result (Formed IsFine name_part (pat_part_tree p.now) → out.new.items ≡ out.old.items ++ text_of pat_part (pat_part_tree p.now) depth next) }
-    ensures next { IfOk result (λ m. Formed IsFine name_part (pat_part_tree p.now) → m ≡ next + length (bound (pat_part_tree p.now))) }
+    ensures text { OnOk result (WritesPart (pat_part_tree p.now) depth next out.old.items out.new.items) }
+    ensures next { IfOk result (NumbersPast name_part (pat_part_tree p.now) next) }
     ensures room { IfOk result (λ m. HasRoom next m out.new.items) }
     ensures grows { OnOk result (length out.old.items ≤ length out.new.items) }
 {
@@ -118,8 +119,10 @@ fn put_joined(
     next: usize,
 ) -> Result<usize, AllocError>
     requires { HasRoom depth next out.old.items }
-    ensures text { OnOk result (Formed IsFine pat left.now → Formed IsFine pat right.now → out.new.items ≡ out.old.items ++ joined_text left.now sign.now right.now depth next) }
-    ensures next { IfOk result (λ m. Formed IsFine pat left.now → Formed IsFine pat right.now → m ≡ next + length (bound left.now) + length (bound right.now)) }
+    ensures text { OnOk result (Formed IsFine pat left.now → Formed IsFine pat right.now → out.new.items ≡
+        out.old.items ++ joined_text left.now sign.now right.now depth next) }
+    ensures next { IfOk result (λ m. Formed IsFine pat left.now → Formed IsFine pat right.now → m ≡ next +
+        length (bound left.now) + length (bound right.now)) }
     ensures room { IfOk result (λ m. HasRoom next m out.new.items) }
     ensures grows { OnOk result (length out.old.items ≤ length out.new.items) }
 {
@@ -143,8 +146,9 @@ fn put_pat_list(
     next: usize,
 ) -> Result<usize, AllocError>
     requires { HasRoom depth next out.old.items }
-    ensures text { OnOk result (Holds IsFine (all pat) (trees members.now) → out.new.items ≡ out.old.items ++ (opening.now ++ (members_text pat members.now ending depth next ++ closing.now))) }
-    ensures next { IfOk result (λ m. Holds IsFine (all pat) (trees members.now) → m ≡ next + length (bound_all (trees members.now)) + length (bound (leaf (rest ending)))) }
+    ensures text { OnOk result (WritesIfFine pat members.now
+        (opening.now ++ (members_text pat members.now ending depth next ++ closing.now)) out.old.items out.new.items) }
+    ensures next { IfOk result (NumbersPastRest pat members.now ending next) }
     ensures room { IfOk result (λ m. HasRoom next m out.new.items) }
     ensures grows { OnOk result (length out.old.items ≤ length out.new.items) }
 {
@@ -164,8 +168,10 @@ fn put_pat_map(
     next: usize,
 ) -> Result<usize, AllocError>
     requires { HasRoom depth next out.old.items }
-    ensures text { OnOk result (Holds IsFine (all (pair_of pat)) (trees (map pair_tree pairs.now)) → out.new.items ≡ out.old.items ++ (codes "{" ++ (members_text (pair_of pat) (map pair_tree pairs.now) ending depth next ++ codes "}"))) }
-    ensures next { IfOk result (λ m. Holds IsFine (all (pair_of pat)) (trees (map pair_tree pairs.now)) → m ≡ next + length (bound_all (trees (map pair_tree pairs.now))) + length (bound (leaf (rest ending)))) }
+    ensures text { OnOk result (WritesIfFine (pair_of pat) (map pair_tree pairs.now)
+        (codes "{" ++ (members_text (pair_of pat) (map pair_tree pairs.now) ending depth next ++ codes "}"))
+        out.old.items out.new.items) }
+    ensures next { IfOk result (NumbersPastRest (pair_of pat) (map pair_tree pairs.now) ending next) }
     ensures room { IfOk result (λ m. HasRoom next m out.new.items) }
     ensures grows { OnOk result (length out.old.items ≤ length out.new.items) }
 {
@@ -184,8 +190,8 @@ fn put_pat_tuple(
     next: usize,
 ) -> Result<usize, AllocError>
     requires { HasRoom depth next out.old.items }
-    ensures text { OnOk result (Formed IsFine name_part (many tuple members.now) → out.new.items ≡ out.old.items ++ text_of pat_part (many tuple members.now) depth next) }
-    ensures next { IfOk result (λ m. Formed IsFine name_part (many tuple members.now) → m ≡ next + length (bound (many tuple members.now))) }
+    ensures text { OnOk result (WritesPart (many tuple members.now) depth next out.old.items out.new.items) }
+    ensures next { IfOk result (NumbersPast name_part (many tuple members.now) next) }
     ensures room { IfOk result (λ m. HasRoom next m out.new.items) }
     ensures grows { OnOk result (length out.old.items ≤ length out.new.items) }
 {
@@ -205,8 +211,8 @@ fn put_pat_send(
     next: usize,
 ) -> Result<usize, AllocError>
     requires { HasRoom depth next out.old.items }
-    ensures text { OnOk result (Formed IsFine name_part (two (send persistent) channel.now (many row args.now)) → out.new.items ≡ out.old.items ++ text_of pat_part (two (send persistent) channel.now (many row args.now)) depth next) }
-    ensures next { IfOk result (λ m. Formed IsFine name_part (two (send persistent) channel.now (many row args.now)) → m ≡ next + length (bound (two (send persistent) channel.now (many row args.now)))) }
+    ensures text { OnOk result (WritesPart (two (send persistent) channel.now (many row args.now)) depth next out.old.items out.new.items) }
+    ensures next { IfOk result (NumbersPast name_part (two (send persistent) channel.now (many row args.now)) next) }
     ensures room { IfOk result (λ m. HasRoom next m out.new.items) }
     ensures grows { OnOk result (length out.old.items ≤ length out.new.items) }
 {
@@ -226,8 +232,8 @@ fn put_pat_bundle(
     next: usize,
 ) -> Result<usize, AllocError>
     requires { HasRoom depth next out.old.items }
-    ensures text { OnOk result (Formed IsFine name_part (one (bundle rights) body.now) → out.new.items ≡ out.old.items ++ text_of pat_part (one (bundle rights) body.now) depth next) }
-    ensures next { IfOk result (λ m. Formed IsFine name_part (one (bundle rights) body.now) → m ≡ next + length (bound (one (bundle rights) body.now))) }
+    ensures text { OnOk result (WritesPart (one (bundle rights) body.now) depth next out.old.items out.new.items) }
+    ensures next { IfOk result (NumbersPast name_part (one (bundle rights) body.now) next) }
     ensures room { IfOk result (λ m. HasRoom next m out.new.items) }
     ensures grows { OnOk result (length out.old.items ≤ length out.new.items) }
 {
@@ -248,8 +254,8 @@ fn put_closed(
 ) -> Result<usize, AllocError>
     requires room { HasRoom depth next out.old.items }
     requires ordered { IsOrdered (part_tree part.now) }
-    ensures text { OnOk result (Formed IsFine name_part (part_tree part.now) → out.new.items ≡ out.old.items ++ text_of pat_part (part_tree part.now) depth next) }
-    ensures next { IfOk result (λ m. Formed IsFine name_part (part_tree part.now) → m ≡ next + length (bound (part_tree part.now))) }
+    ensures text { OnOk result (WritesPart (part_tree part.now) depth next out.old.items out.new.items) }
+    ensures next { IfOk result (NumbersPast name_part (part_tree part.now) next) }
     ensures room { IfOk result (λ m. HasRoom next m out.new.items) }
     ensures grows { OnOk result (length out.old.items ≤ length out.new.items) }
 {

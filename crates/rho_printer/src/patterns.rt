@@ -1,14 +1,13 @@
 // The texts of patterns. Each function gives the number of the next variable.
 ghost use Rattle.std.specs.Prelude.{◌≡◌, ◌++◌, ◌+◌, ◌≤◌, ℕ, List, cond, map, length, codes, IfOk, OnOk};
-ghost use Rattle.calculus.specs.Form.{all, name_pat, pat, pair_of, name_part, pat_part};
-ghost use Rattle.calculus.specs.Printed.{operand_text, name_pattern_text, separated};
+ghost use Rattle.calculus.specs.Form.{name_pat, pat, pair_of, name_part};
+ghost use Rattle.calculus.specs.Printed.{operand_text, name_pattern_text};
 ghost use Rattle.calculus.specs.Shape.{held};
 ghost use Rattle.calculus.specs.Tree.{trees};
-ghost use Rattle.calculus.specs.Variables.{bound, bound_all};
-ghost use Rattle.calculus.specs.Formed.{IsFine, Formed, Holds};
+ghost use Rattle.calculus.specs.Formed.{IsFine, Formed};
 ghost use Rattle.rho_term.specs.Normal.{AreNormal};
 ghost use Rattle.rho_term.specs.Parts.{pat_part_tree, pair_tree};
-ghost use Rattle.rho_printer.specs.Texts.{HasRoom, text_of, texts_of};
+ghost use Rattle.rho_printer.specs.Texts.{HasRoom, NumbersPast, NumbersPastAll, WritesFrom, WritesListed, WritesParts, text_of};
 
 use crate::pattern_parts::{is_bare_part, is_pattern_atom_part, put_pat_part};
 use crate::words::{put, separate};
@@ -24,7 +23,7 @@ pub(crate) fn put_pat(
 ) -> Result<usize, AllocError>
     requires { HasRoom depth next out.old.items }
     ensures text { OnOk result (Formed IsFine name_pat t.now → out.new.items ≡ out.old.items ++ text_of pat t.now depth next) }
-    ensures next { IfOk result (λ m. Formed IsFine name_pat t.now → m ≡ next + length (bound t.now)) }
+    ensures next { IfOk result (NumbersPast name_pat t.now next) }
     ensures room { IfOk result (λ m. HasRoom next m out.new.items) }
     ensures grows { OnOk result (length out.old.items ≤ length out.new.items) }
 {
@@ -45,8 +44,8 @@ fn put_pat_parts(
 ) -> Result<usize, AllocError>
     requires room { HasRoom depth next out.old.items }
     requires normal { AreNormal (trees (map pat_part_tree parts.now)) }
-    ensures text { OnOk result (Holds IsFine (all name_part) (trees (map pat_part_tree parts.now)) → out.new.items ≡ out.old.items ++ separated (codes " | ") (texts_of pat_part (map pat_part_tree parts.now) depth next)) }
-    ensures next { IfOk result (λ m. Holds IsFine (all name_part) (trees (map pat_part_tree parts.now)) → m ≡ next + length (bound_all (trees (map pat_part_tree parts.now)))) }
+    ensures text { OnOk result (WritesParts (map pat_part_tree parts.now) depth next out.old.items out.new.items) }
+    ensures next { IfOk result (NumbersPastAll name_part (map pat_part_tree parts.now) next) }
     ensures room { IfOk result (λ m. HasRoom next m out.new.items) }
     ensures grows { OnOk result (length out.old.items ≤ length out.new.items) }
 {
@@ -77,8 +76,9 @@ pub(crate) fn put_pat_operand(
     next: usize,
 ) -> Result<usize, AllocError>
     requires { HasRoom depth next out.old.items }
-    ensures text { OnOk result (Formed IsFine name_pat t.now → out.new.items ≡ out.old.items ++ operand_text (held t.now) (text_of pat t.now depth next)) }
-    ensures next { IfOk result (λ m. Formed IsFine name_pat t.now → m ≡ next + length (bound t.now)) }
+    ensures text { OnOk result (Formed IsFine name_pat t.now → out.new.items ≡ out.old.items ++
+        operand_text (held t.now) (text_of pat t.now depth next)) }
+    ensures next { IfOk result (NumbersPast name_pat t.now next) }
     ensures room { IfOk result (λ m. HasRoom next m out.new.items) }
     ensures grows { OnOk result (length out.old.items ≤ length out.new.items) }
 {
@@ -110,8 +110,8 @@ pub(crate) fn put_name_pat(
     next: usize,
 ) -> Result<usize, AllocError>
     requires { HasRoom depth next out.old.items }
-    ensures text { OnOk result (Formed IsFine name_pat t.now → out.new.items ≡ out.old.items ++ text_of name_pat t.now depth next) }
-    ensures next { IfOk result (λ m. Formed IsFine name_pat t.now → m ≡ next + length (bound t.now)) }
+    ensures text { OnOk result (WritesFrom name_pat t.now depth next out.old.items out.new.items) }
+    ensures next { IfOk result (NumbersPast name_pat t.now next) }
     ensures room { IfOk result (λ m. HasRoom next m out.new.items) }
     ensures grows { OnOk result (length out.old.items ≤ length out.new.items) }
 {
@@ -130,8 +130,8 @@ pub(crate) fn put_name_pats(
     next: usize,
 ) -> Result<usize, AllocError>
     requires { HasRoom depth next out.old.items }
-    ensures text { OnOk result (Holds IsFine (all name_pat) (trees items.now) → out.new.items ≡ out.old.items ++ separated (codes ", ") (texts_of name_pat items.now depth next)) }
-    ensures next { IfOk result (λ m. Holds IsFine (all name_pat) (trees items.now) → m ≡ next + length (bound_all (trees items.now))) }
+    ensures text { OnOk result (WritesListed name_pat items.now depth next out.old.items out.new.items) }
+    ensures next { IfOk result (NumbersPastAll name_pat items.now next) }
     ensures room { IfOk result (λ m. HasRoom next m out.new.items) }
     ensures grows { OnOk result (length out.old.items ≤ length out.new.items) }
 {
@@ -151,8 +151,8 @@ pub(crate) fn put_pats(
     next: usize,
 ) -> Result<usize, AllocError>
     requires { HasRoom depth next out.old.items }
-    ensures text { OnOk result (Holds IsFine (all pat) (trees items.now) → out.new.items ≡ out.old.items ++ separated (codes ", ") (texts_of pat items.now depth next)) }
-    ensures next { IfOk result (λ m. Holds IsFine (all pat) (trees items.now) → m ≡ next + length (bound_all (trees items.now))) }
+    ensures text { OnOk result (WritesListed pat items.now depth next out.old.items out.new.items) }
+    ensures next { IfOk result (NumbersPastAll pat items.now next) }
     ensures room { IfOk result (λ m. HasRoom next m out.new.items) }
     ensures grows { OnOk result (length out.old.items ≤ length out.new.items) }
 {
@@ -172,8 +172,8 @@ pub(crate) fn put_pat_pairs(
     next: usize,
 ) -> Result<usize, AllocError>
     requires { HasRoom depth next out.old.items }
-    ensures text { OnOk result (Holds IsFine (all (pair_of pat)) (trees (map pair_tree items.now)) → out.new.items ≡ out.old.items ++ separated (codes ", ") (texts_of (pair_of pat) (map pair_tree items.now) depth next)) }
-    ensures next { IfOk result (λ m. Holds IsFine (all (pair_of pat)) (trees (map pair_tree items.now)) → m ≡ next + length (bound_all (trees (map pair_tree items.now)))) }
+    ensures text { OnOk result (WritesListed (pair_of pat) (map pair_tree items.now) depth next out.old.items out.new.items) }
+    ensures next { IfOk result (NumbersPastAll (pair_of pat) (map pair_tree items.now) next) }
     ensures room { IfOk result (λ m. HasRoom next m out.new.items) }
     ensures grows { OnOk result (length out.old.items ≤ length out.new.items) }
 {
@@ -193,8 +193,8 @@ fn put_pat_pair(
     next: usize,
 ) -> Result<usize, AllocError>
     requires { HasRoom depth next out.old.items }
-    ensures text { OnOk result (Formed IsFine (pair_of pat) (pair_tree pair.now) → out.new.items ≡ out.old.items ++ text_of (pair_of pat) (pair_tree pair.now) depth next) }
-    ensures next { IfOk result (λ m. Formed IsFine (pair_of pat) (pair_tree pair.now) → m ≡ next + length (bound (pair_tree pair.now))) }
+    ensures text { OnOk result (WritesFrom (pair_of pat) (pair_tree pair.now) depth next out.old.items out.new.items) }
+    ensures next { IfOk result (NumbersPast (pair_of pat) (pair_tree pair.now) next) }
     ensures room { IfOk result (λ m. HasRoom next m out.new.items) }
     ensures grows { OnOk result (length out.old.items ≤ length out.new.items) }
 {

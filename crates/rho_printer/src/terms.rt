@@ -4,10 +4,9 @@ ghost use Rattle.calculus.specs.Form.{term, part, pair_of};
 ghost use Rattle.calculus.specs.Printed.{operand_text, name_text, block};
 ghost use Rattle.calculus.specs.Shape.{held, only};
 ghost use Rattle.calculus.specs.Tree.{trees};
-ghost use Rattle.calculus.specs.Formed.{IsFine, Formed};
 ghost use Rattle.rho_term.specs.Normal.{AreNormal};
 ghost use Rattle.rho_term.specs.Parts.{part_tree, pair_tree};
-ghost use Rattle.rho_printer.specs.Texts.{text_of, Writes, WritesAll};
+ghost use Rattle.rho_printer.specs.Texts.{Writes, WritesAll, WritesAs};
 
 use crate::parts::{is_atom_part, put_part};
 use crate::words::{number_of, put, put_fresh, put_variable, separate};
@@ -55,7 +54,7 @@ fn is_atom(t: &Term) -> bool
 #[cycle(print)]
 pub(crate) fn put_operand(out: &mut Vec<u8>, t: &Term, depth: usize) -> Result<(), AllocError>
     requires { depth ≤ length out.old.items }
-    ensures text { OnOk result (Formed IsFine term t.now → (n : ℕ) → out.new.items ≡ out.old.items ++ operand_text (held t.now) (text_of term t.now depth n)) }
+    ensures text { OnOk result (WritesAs (operand_text (held t.now)) t.now depth out.old.items out.new.items) }
     ensures grows { OnOk result (length out.old.items ≤ length out.new.items) }
 {
     if is_atom(t) {
@@ -67,7 +66,7 @@ pub(crate) fn put_operand(out: &mut Vec<u8>, t: &Term, depth: usize) -> Result<(
 #[cycle(print)]
 pub(crate) fn put_braced(out: &mut Vec<u8>, t: &Term, depth: usize) -> Result<(), AllocError>
     requires { depth ≤ length out.old.items }
-    ensures text { OnOk result (Formed IsFine term t.now → (n : ℕ) → out.new.items ≡ out.old.items ++ (codes "{" ++ (text_of term t.now depth n ++ codes "}"))) }
+    ensures text { OnOk result (WritesAs (λ x. codes "{" ++ (x ++ codes "}")) t.now depth out.old.items out.new.items) }
     ensures grows { OnOk result (length out.old.items ≤ length out.new.items) }
 {
     put(out, b"{")?;
@@ -79,7 +78,7 @@ pub(crate) fn put_braced(out: &mut Vec<u8>, t: &Term, depth: usize) -> Result<()
 #[cycle(print)]
 pub(crate) fn put_block(out: &mut Vec<u8>, t: &Term, depth: usize) -> Result<(), AllocError>
     requires { depth ≤ length out.old.items }
-    ensures text { OnOk result (Formed IsFine term t.now → (n : ℕ) → out.new.items ≡ out.old.items ++ block (text_of term t.now depth n)) }
+    ensures text { OnOk result (WritesAs block t.now depth out.old.items out.new.items) }
     ensures grows { OnOk result (length out.old.items ≤ length out.new.items) }
 {
     put(out, b"{ ")?;
@@ -91,7 +90,7 @@ pub(crate) fn put_block(out: &mut Vec<u8>, t: &Term, depth: usize) -> Result<(),
 #[cycle(print)]
 pub(crate) fn put_name(out: &mut Vec<u8>, t: &Term, depth: usize) -> Result<(), AllocError>
     requires { depth ≤ length out.old.items }
-    ensures text { OnOk result (Formed IsFine term t.now → (n : ℕ) → out.new.items ≡ out.old.items ++ name_text (held t.now) (text_of term t.now depth n)) }
+    ensures text { OnOk result (WritesAs (name_text (held t.now)) t.now depth out.old.items out.new.items) }
     ensures grows { OnOk result (length out.old.items ≤ length out.new.items) }
 {
     match t.parts() {
@@ -106,7 +105,7 @@ pub(crate) fn put_name(out: &mut Vec<u8>, t: &Term, depth: usize) -> Result<(), 
 fn put_name_of(out: &mut Vec<u8>, p: &Part, t: &Term, depth: usize) -> Result<(), AllocError>
     requires room { depth ≤ length out.old.items }
     requires is { t.now ≡ only (part_tree p.now) }
-    ensures text { OnOk result (Formed IsFine term t.now → (n : ℕ) → out.new.items ≡ out.old.items ++ name_text (held t.now) (text_of term t.now depth n)) }
+    ensures text { OnOk result (WritesAs (name_text (held t.now)) t.now depth out.old.items out.new.items) }
     ensures grows { OnOk result (length out.old.items ≤ length out.new.items) }
 {
     match p {
@@ -119,7 +118,7 @@ fn put_name_of(out: &mut Vec<u8>, p: &Part, t: &Term, depth: usize) -> Result<()
 #[cycle(print)]
 fn put_quoted(out: &mut Vec<u8>, t: &Term, depth: usize) -> Result<(), AllocError>
     requires { depth ≤ length out.old.items }
-    ensures text { OnOk result (Formed IsFine term t.now → (n : ℕ) → out.new.items ≡ out.old.items ++ (codes "@" ++ operand_text (held t.now) (text_of term t.now depth n))) }
+    ensures text { OnOk result (WritesAs (λ x. codes "@" ++ operand_text (held t.now) x) t.now depth out.old.items out.new.items) }
     ensures grows { OnOk result (length out.old.items ≤ length out.new.items) }
 {
     put(out, b"@")?;

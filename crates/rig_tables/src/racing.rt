@@ -125,7 +125,7 @@ fn bring_one(
     }
     let coming = jobs.coming.swap_remove(place);
     let row = ShardedRow::from_row(alloc, coming.row)?;
-    let tries = first_tries(alloc, rig, &row)?;
+    let tries = first_tries(alloc, rig, &row, coming.from)?;
     add_tries(&mut jobs.tries, tries)?;
     let shards = row.shards();
     held.arrive(alloc, row, coming.from, shards)?;

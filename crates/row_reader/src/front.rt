@@ -39,8 +39,10 @@ pub fn decode_row(alloc: Global, bytes: &[u8]) -> Result<(Op, usize), RowFault>
     ensures row { IfOk result (λ p. ReadsRow (row_of_op p.0) bytes.now (drop p.1 bytes.now)) }
     ensures length { IfOk result (λ p. p.1 ≡ length (row_code (row_of_op p.0))) }
     ensures cut { result ≡ Err Cut → IsCutRow bytes.now }
-    ensures whole { length bytes.now < 2 ^ 32 → result ≡ Err Cut → (r : Row) (y : List ℕ) → IsRow r → length (row_code r) < 2 ^ 32 → bytes.now ≡ row_code r ++ y → ⊥ }
-    ensures wrong { length bytes.now < 2 ^ 32 → result ≡ Err Wrong → (r : Row) (x y : List ℕ) → IsRow r → length (row_code r) < 2 ^ 32 → bytes.now ++ x ≡ row_code r ++ y → ⊥ }
+    ensures whole { length bytes.now < 2 ^ 32 → result ≡ Err Cut → (r : Row) (y : List ℕ) → IsRow r →
+        length (row_code r) < 2 ^ 32 → bytes.now ≡ row_code r ++ y → ⊥ }
+    ensures wrong { length bytes.now < 2 ^ 32 → result ≡ Err Wrong → (r : Row) (x y : List ℕ) → IsRow r →
+        length (row_code r) < 2 ^ 32 → bytes.now ++ x ≡ row_code r ++ y → ⊥ }
 {
     let mut reader = Reader {
         alloc,
@@ -125,7 +127,8 @@ fn join<'a>(
     found: &mut Vec<Sense>,
     room: u32,
 ) -> Result<Vec<TermBind>, ReadFault>
-    ensures reads { IfOk result (λ bs. Reads (row_of a_bind) (scope_of scope.now.items) room (many row (map bind_tree bs.items)) reader.old.input.now reader.new.input.now) }
+    ensures reads { IfOk result (λ bs. Reads (row_of a_bind) (scope_of scope.now.items) room
+        (many row (map bind_tree bs.items)) reader.old.input.now reader.new.input.now) }
     ensures bound { IfOk result (λ bs. senses_of found.new.items ≡ senses_of found.old.items ++ bound (many row (map bind_tree bs.items))) }
     ensures some { IfOk result (λ bs. 1 ≤ length bs.items) }
     ensures few { IfOk result (λ bs. length bs.items ≤ 16) }

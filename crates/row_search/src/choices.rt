@@ -149,7 +149,8 @@ pub(crate) fn join<S: RowsAtHand>(
     op: &Row,
 ) -> Result<Option<Joined>, AllocError>
     requires { AllBindsReady binds.now }
-    ensures { IfOk result (λ o. MatchOption o (Fails (S.rows store.now) op.now binds.now) (Joins (S.rows store.now) op.now kind binds.now)) }
+    ensures { IfOk result (λ o. MatchOption o (Fails (S.rows store.now) op.now binds.now)
+        (Joins (S.rows store.now) op.now kind binds.now)) }
 {
     let mut joined = Joined {
         taken: Vec::new(alloc),

@@ -76,7 +76,8 @@ fn meet_row<S: RowsAtHand>(
 ) -> Result<Option<Found>, AllocError>
     requires send { IsSendOn channel.now op.now }
     requires channel { Ready term channel.now }
-    ensures { IfOk result (λ o. MatchOption o (All (MeetsNone (S.rows store.now) op.now) (looked_up (S.rows store.now) (id.now.0 ∷ []))) (IsFound (S.rows store.now) op.now)) }
+    ensures { IfOk result (λ o. MatchOption o (All (MeetsNone (S.rows store.now) op.now)
+        (looked_up (S.rows store.now) (id.now.0 ∷ []))) (IsFound (S.rows store.now) op.now)) }
 {
     match store.row(id) {
         None => Ok(None),

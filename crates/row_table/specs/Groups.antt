@@ -1,5 +1,5 @@
 -- Ids in groups, each found by its key.
-use Rattle.std.specs.Prelude.{◌≡◌, ℕ, Bool, true, List, [], map as each, Option, Some, None, is_some}
+use Rattle.std.specs.Prelude.{◌≡◌, ◌≢◌, ℕ, Bool, true, List, [], map as each, Option, Some, None, is_some}
 use Rattle.std.specs.Map.{lookup}
 use Rattle.std.specs.Ordering.{nat_cmp, is_eq}
 use Rattle.std.specs.Cmp.Lexicographic.{slice_cmp}
@@ -9,6 +9,7 @@ use Rattle.std.specs.declared.vec.Vec.{Vec}
 use Rattle.calculus.specs.declared.ids.Digest.{Digest}
 use Rattle.calculus.specs.Rows.{Row}
 use Rattle.calculus.specs.Steps.{as_datum, is_one_of}
+use Rattle.row_search.specs.Rows.{IsIn}
 
 -- whether a row is a send
 abbrev pub is_send : Row → Bool
@@ -34,3 +35,15 @@ group es k = ids_in (lookup (λ (q : Vec ℕ Global). is_key k q.items) es)
 -- the group with this key has an id
 abbrev pub HasId : {S : Type 0} → Index S → List ℕ → List ℕ → Type 0
 HasId es k x = is_one_of x (each (λ d. d.0) (group es k)) ≡ true
+
+-- each group keeps its ids
+abbrev pub KeepIds : {S : Type 0} → Index S → Index S → Type 0
+KeepIds old new = (k : Vec ℕ Global) (x : List ℕ) → HasId old k.items x → HasId new k.items x
+
+-- each group keeps its ids but this one
+abbrev pub KeepIdsBut : {S : Type 0} → List ℕ → Index S → Index S → Type 0
+KeepIdsBut id old new = (k : Vec ℕ Global) (x : List ℕ) → x ≢ id → HasId old k.items x → HasId new k.items x
+
+-- each group with one of these keys has this id
+abbrev pub HaveId : {S : Type 0} → List (Vec ℕ Global) → Index S → List ℕ → Type 0
+HaveId keys es id = (k : Vec ℕ Global) → IsIn k keys → HasId es k.items id

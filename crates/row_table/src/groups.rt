@@ -1,9 +1,7 @@
 // Ids in groups, each found by its key.
-ghost use Rattle.std.specs.Prelude.{◌≡◌, ◌≢◌, ℕ, List, [], true, false, cond, IfOk, OnOk};
+ghost use Rattle.std.specs.Prelude.{◌≡◌, [], true, false, cond, IfOk, OnOk};
 ghost use Rattle.std.specs.declared.alloc.Global.{Global};
-ghost use Rattle.std.specs.declared.vec.Vec.{Vec};
-ghost use Rattle.row_search.specs.Rows.{IsIn};
-ghost use Rattle.row_table.specs.Groups.{group, HasId};
+ghost use Rattle.row_table.specs.Groups.{group, HasId, HaveId, KeepIds, KeepIdsBut};
 
 use calculus::Digest;
 use indexmap::IndexSet;
@@ -28,8 +26,9 @@ pub(crate) fn ids_of<'a>(groups: &'a Groups, key: &Key) -> &'a [Digest]
 // error.
 fn add_to_group(groups: &mut Groups, key: &Key, id: Digest) -> Result<bool, AllocError>
     ensures there { IfOk result (λ there. there ≡ true → HasId groups.new.entries key.now.items id.0) }
-    ensures none { IfOk result (λ there. there ≡ false → (groups.new.entries ≡ groups.old.entries) × (group groups.old.entries key.now.items ≡ [])) }
-    ensures kept { (k : Vec ℕ Global) (x : List ℕ) → HasId groups.old.entries k.items x → HasId groups.new.entries k.items x }
+    ensures none { IfOk result (λ there. there ≡ false → (groups.new.entries ≡ groups.old.entries) ×
+        (group groups.old.entries key.now.items ≡ [])) }
+    ensures kept { KeepIds groups.old.entries groups.new.entries }
 {
     match groups.get_mut(key) {
         Some(ids) => {
@@ -44,7 +43,7 @@ fn add_to_group(groups: &mut Groups, key: &Key, id: Digest) -> Result<bool, Allo
 fn add_group(alloc: Global, groups: &mut Groups, key: Key, id: Digest) -> Result<(), AllocError>
     requires { group groups.old.entries key.items ≡ [] }
     ensures there { OnOk result (HasId groups.new.entries key.items id.0) }
-    ensures kept { (k : Vec ℕ Global) (x : List ℕ) → HasId groups.old.entries k.items x → HasId groups.new.entries k.items x }
+    ensures kept { KeepIds groups.old.entries groups.new.entries }
 {
     let mut ids = IndexSet::new(alloc);
     ids.insert(id)?;
@@ -55,7 +54,7 @@ fn add_group(alloc: Global, groups: &mut Groups, key: Key, id: Digest) -> Result
 // Adds an id to the group with this key. Want of memory is the one error.
 fn add_id(alloc: Global, groups: &mut Groups, key: &Key, id: Digest) -> Result<(), AllocError>
     ensures there { OnOk result (HasId groups.new.entries key.now.items id.0) }
-    ensures kept { (k : Vec ℕ Global) (x : List ℕ) → HasId groups.old.entries k.items x → HasId groups.new.entries k.items x }
+    ensures kept { KeepIds groups.old.entries groups.new.entries }
 {
     if add_to_group(groups, key, id)? {
         return Ok(());
@@ -65,8 +64,8 @@ fn add_id(alloc: Global, groups: &mut Groups, key: &Key, id: Digest) -> Result<(
 
 // Adds an id to the groups with these keys. Want of memory is the one error.
 fn add_ids(alloc: Global, groups: &mut Groups, keys: &[Key], id: Digest) -> Result<(), AllocError>
-    ensures there { OnOk result ((k : Vec ℕ Global) → IsIn k keys.now → HasId groups.new.entries k.items id.0) }
-    ensures kept { (k : Vec ℕ Global) (x : List ℕ) → HasId groups.old.entries k.items x → HasId groups.new.entries k.items x }
+    ensures there { OnOk result (HaveId keys.now groups.new.entries id.0) }
+    ensures kept { KeepIds groups.old.entries groups.new.entries }
 {
     for key in keys {
         add_id(alloc, groups, key, id)?;
@@ -84,9 +83,9 @@ pub(crate) fn file_id(
     keys: &[Key],
     id: Digest,
 ) -> Result<(), AllocError>
-    ensures there { OnOk result ((k : Vec ℕ Global) → IsIn k keys.now → HasId (cond send sends.new.entries receivers.new.entries) k.items id.0) }
-    ensures sends { (k : Vec ℕ Global) (x : List ℕ) → HasId sends.old.entries k.items x → HasId sends.new.entries k.items x }
-    ensures receivers { (k : Vec ℕ Global) (x : List ℕ) → HasId receivers.old.entries k.items x → HasId receivers.new.entries k.items x }
+    ensures there { OnOk result (HaveId keys.now (cond send sends.new.entries receivers.new.entries) id.0) }
+    ensures sends { KeepIds sends.old.entries sends.new.entries }
+    ensures receivers { KeepIds receivers.old.entries receivers.new.entries }
 {
     if send {
         add_ids(alloc, sends, keys, id)
@@ -97,7 +96,7 @@ pub(crate) fn file_id(
 
 // Takes an id out of the group with this key, and answers whether that group is left empty.
 fn drop_id(groups: &mut Groups, key: &Key, id: &Digest) -> bool
-    ensures kept { (k : Vec ℕ Global) (x : List ℕ) → x ≢ id.now.0 → HasId groups.old.entries k.items x → HasId groups.new.entries k.items x }
+    ensures kept { KeepIdsBut id.now.0 groups.old.entries groups.new.entries }
     ensures empty { result ≡ true → group groups.new.entries key.now.items ≡ [] }
 {
     match groups.get_mut(key) {
@@ -111,7 +110,7 @@ fn drop_id(groups: &mut Groups, key: &Key, id: &Digest) -> bool
 
 // Takes an id out of the group with this key, and the group where nothing else is in it.
 fn remove_id(groups: &mut Groups, key: &Key, id: &Digest)
-    ensures { (k : Vec ℕ Global) (x : List ℕ) → x ≢ id.now.0 → HasId groups.old.entries k.items x → HasId groups.new.entries k.items x }
+    ensures { KeepIdsBut id.now.0 groups.old.entries groups.new.entries }
 {
     if drop_id(groups, key, id) {
         groups.remove(key);
@@ -120,7 +119,7 @@ fn remove_id(groups: &mut Groups, key: &Key, id: &Digest)
 
 /// Takes an id out of the groups with these keys.
 pub(crate) fn remove_ids(groups: &mut Groups, keys: &[Key], id: &Digest)
-    ensures { (k : Vec ℕ Global) (x : List ℕ) → x ≢ id.now.0 → HasId groups.old.entries k.items x → HasId groups.new.entries k.items x }
+    ensures { KeepIdsBut id.now.0 groups.old.entries groups.new.entries }
 {
     for key in keys {
         remove_id(groups, key, id);

@@ -1,5 +1,5 @@
 // Rows by their ids, and their ids by channel.
-ghost use Rattle.std.specs.Prelude.{◌≡◌, ◌<◌, ◌+◌, ℕ, [], ◌∷◌, true, false, eqb, map, None, IfOk, OnErr, OnOk, IsPermutation};
+ghost use Rattle.std.specs.Prelude.{◌≡◌, ◌<◌, [], ◌∷◌, true, false, eqb, map, None, IfOk, OnErr, OnOk, IsPermutation};
 ghost use Rattle.std.specs.BTreeMap.{insert_entry};
 ghost use Rattle.std.specs.Cmp.Lexicographic.{slice_cmp};
 ghost use Rattle.std.specs.List.Sorted.{IsStrictlySortedBy};
@@ -14,7 +14,7 @@ ghost use Rattle.calculus.specs.Storing.{shard};
 ghost use Rattle.row_search.specs.Rows.{row_with};
 ghost use Rattle.row_table.specs.Shown.{heard_on};
 ghost use Rattle.shard_counts.specs.Bits.{AreBitsBeside};
-ghost use Rattle.shard_counts.specs.Counts.{added};
+ghost use Rattle.shard_counts.specs.Counts.{added, CountsRiseBy, CountsStay};
 ghost use Rattle.shard_counts.specs.Keyed.{count_of};
 ghost use Rattle.spatial_match.specs.Given.{Ready};
 
@@ -78,9 +78,9 @@ fn file_row(
 ) -> Result<(), AllocError>
     ensures rows { OnOk result (rows.new.entries ≡ insert_entry (slice_cmp nat_cmp) rows.old.entries id filed) }
     ensures ordered { OnOk result (IsStrictlySortedBy (slice_cmp nat_cmp) (keys_of rows.new.entries)) }
-    ensures counted { OnOk result ((k : Vec ℕ Global) (s : ℕ) → s < 64 → count_of shards.new k.items s ≡ count_of shards.old k.items s + added filed.keys.items filed.counted k.items s) }
+    ensures counted { OnOk result (CountsRiseBy (added filed.keys.items filed.counted) (count_of shards.old) (count_of shards.new)) }
     ensures same { OnErr result (rows.new.entries ≡ rows.old.entries) }
-    ensures failed { OnErr result ((k : Vec ℕ Global) (s : ℕ) → s < 64 → count_of shards.new k.items s ≡ count_of shards.old k.items s) }
+    ensures failed { OnErr result (CountsStay (count_of shards.old) (count_of shards.new)) }
 {
     shards.add(alloc, filed.keys.as_slice(), filed.counted)?;
     match rows.insert(id, filed) {

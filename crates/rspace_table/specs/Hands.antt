@@ -1,14 +1,16 @@
 -- Shards in hand, and what an operation may meet there.
-use Rattle.std.specs.Prelude.{◌≡◌, ◌↔◌, ⊤, ℕ, Bool, true, false, List, [], ◌∷◌, ◌++◌, filter, get_or, Option, Some, None, is_some}
+use Rattle.std.specs.Prelude.{◌≡◌, ◌↔◌, ⊤, ℕ, Bool, true, false, List, [], ◌∷◌, ◌++◌, filter, get_or, Option, Some, None, is_some, IfOk, IfSome, Result}
 use Rattle.calculus.specs.Rows.{Row, stdout, stdout_ack}
 use Rattle.calculus.specs.Steps.{as_datum, as_receiver}
 use Rattle.calculus.specs.Tree.{Tree}
 use Rattle.events.specs.Found.{Among, without}
 use Rattle.row_search.specs.declared.found.Found.{Found}
 use Rattle.row_search.specs.Rows.{HasSends}
+use Rattle.row_search.specs.Laws.{MeetsAtHand}
 use Rattle.row_search.specs.Meetings.{IsFound, MeetsNothing}
+use Rattle.run_entries.specs.Allowed.{IdsTell, MeetsNothing as MakesNoStep, rows_at_hand}
 use Rattle.shard_rows.specs.Shards.{stands_in}
-use Rattle.shard_tables.specs.Hands.{GainsRow}
+use Rattle.shard_tables.specs.Hands.{AreInHand, GainsRow}
 use Rattle.rspace_table.specs.Shown.{shown_by}
 
 -- whether a row is a send, and whether it is a receive
@@ -103,3 +105,12 @@ AreBuiltIns rows = (r : Row) → Among r rows ↔ Among r (stdout ∷ stdout_ack
 abbrev pub AreEmpty : List (List Row) → Type 0
 AreEmpty [] = ⊤
 AreEmpty (rows ∷ more) = (rows ≡ []) × AreEmpty more
+
+-- what was found, of all the rows of which these shards are in hand, is what the operation meets there
+abbrev pub FindsAMeeting : {E : Type 0} → InHand → Row → Result (Option Found) E → Type 0
+FindsAMeeting hand o result = (all : List Row) → AreInHand (λ rows. rows) (shard_at hand) all → IfOk result (λ f. IfSome f (MeetsAtHand all o))
+
+-- where nothing was found, and ids tell the rows that are in hand, the operation meets nothing there
+abbrev pub MissesNoMeeting : {E : Type 0} → InHand → Row → Result (Option Found) E → Type 0
+MissesNoMeeting hand o result = (all : List Row) → AreInHand (λ rows. rows) (shard_at hand) all → IdsTell (rows_at_hand all o)
+    → IfOk result (λ f. f ≡ None → MakesNoStep all o)

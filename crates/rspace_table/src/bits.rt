@@ -17,7 +17,8 @@ use std::alloc::{AllocError, Global};
 // these channels.
 fn shown_on_any(alloc: Global, table: &RowTable, binds: &[TermBind]) -> Result<u64, AllocError>
     requires { AllBindsReady binds.now }
-    ensures { IfOk result (AreBitsBeside (λ k. list_any (λ b. eqb k (shard b.channel)) binds.now) (λ k. list_any (λ b. heard_on table.now b.channel k) binds.now)) }
+    ensures { IfOk result (AreBitsBeside (λ k. list_any (λ b. eqb k (shard b.channel)) binds.now)
+        (λ k. list_any (λ b. heard_on table.now b.channel k) binds.now)) }
 {
     let mut bits = 0;
     for bind in binds {

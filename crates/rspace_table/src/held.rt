@@ -1,18 +1,17 @@
 // Shards in hand.
-ghost use Rattle.std.specs.Prelude.{◌≡◌, ◌≢◌, ◌<◌, ◌⊎◌, ℕ, false, List, Option, None, Some, map, true, IfOk, IfSome, OnErr, OnOk, MatchOption, option_copied, option_map};
+ghost use Rattle.std.specs.Prelude.{◌≡◌, ◌≢◌, ◌<◌, ◌⊎◌, ℕ, false, List, Option, None, Some, map, true, IfOk, OnErr, OnOk, MatchOption, option_copied, option_map};
 ghost use Rattle.calculus.specs.Form.{term};
 ghost use Rattle.calculus.specs.Rows.{Row as StoredRow};
 ghost use Rattle.calculus.specs.Storing.{shard};
 ghost use Rattle.events.specs.Found.{without};
-ghost use Rattle.row_search.specs.Laws.{MeetsAtHand};
 ghost use Rattle.row_search.specs.Meetings.{IsFound, MeetsNothing};
 ghost use Rattle.row_search.specs.Rows.{row_with};
-ghost use Rattle.run_entries.specs.Allowed.{IdsTell, MeetsNothing as MakesNoStep, rows_at_hand};
 ghost use Rattle.shard_tables.specs.Hands.{AreInHand, AreMade, AreShown, GainsRow, LosesRows};
 ghost use Rattle.shard_rows.specs.Shards.{stands_in};
 ghost use Rattle.spatial_match.specs.Given.{Ready};
 ghost use Rattle.shard_counts.specs.Bits.{AreBitsBeside};
-ghost use Rattle.rspace_table.specs.Hands.{all_sends, rows_for, shard_at, shown_at, sends_of, AreInPlace, FindsSends, is_receive, IsInPlace, MeetsAReceiver, MeetsAt, MeetsNoneAt, MeetsNoReceiver};
+ghost use Rattle.rspace_table.specs.Hands.{all_sends, rows_for, shard_at, shown_at, sends_of, AreInPlace, FindsAMeeting, FindsSends, is_receive};
+ghost use Rattle.rspace_table.specs.Hands.{IsInPlace, MeetsAReceiver, MeetsAt, MeetsNoneAt, MeetsNoReceiver, MissesNoMeeting};
 
 use crate::bits::shown_bits;
 use crate::hand::{Hand, send_with};
@@ -185,7 +184,8 @@ impl Held {
     // What the operation meets in hand with a receiver of this table.
     fn meet(&self, alloc: Global, heard: &RowTable, op: &Row) -> Result<Option<Found>, AllocError>
         requires { AreInPlace self.now }
-        ensures { IfOk result (λ o. MatchOption o (MeetsNothing (rows_for heard.now self.now) op.now) (IsFound (rows_for heard.now self.now) op.now)) }
+        ensures { IfOk result (λ o. MatchOption o (MeetsNothing (rows_for heard.now self.now) op.now)
+            (IsFound (rows_for heard.now self.now) op.now)) }
     {
         let hand = Hand { held: self, heard };
         row_search::first_step(alloc, &hand, op)
@@ -224,7 +224,8 @@ impl Held {
     // What the operation meets in hand with a receiver of a shard, where it is a send.
     fn meet_heard(&self, alloc: Global, op: &Row) -> Result<Option<Found>, AllocError>
         requires { AreInPlace self.now }
-        ensures { IfOk result (λ o. MatchOption o (MeetsNoReceiver self.now op.now ⊎ (is_receive op.now ≡ true)) (MeetsAReceiver self.now op.now)) }
+        ensures { IfOk result (λ o. MatchOption o (MeetsNoReceiver self.now op.now ⊎ (is_receive op.now ≡ true))
+            (MeetsAReceiver self.now op.now)) }
     {
         match op.op() {
             Op::Produce { .. } => self.meet_stored(alloc, op),
@@ -235,8 +236,8 @@ impl Held {
     // What the operation meets in hand, the built-in receivers among it.
     fn look(&self, alloc: Global, op: &Row) -> Result<Option<Found>, AllocError>
         requires { AreInPlace self.now }
-        ensures found { (all : List StoredRow) → AreInHand (λ rows. rows) (shard_at self.now) all → IfOk result (λ o. IfSome o (MeetsAtHand all op.now)) }
-        ensures none { (all : List StoredRow) → AreInHand (λ rows. rows) (shard_at self.now) all → IdsTell (rows_at_hand all op.now) → IfOk result (λ o. o ≡ None → MakesNoStep all op.now) }
+        ensures found { FindsAMeeting self.now op.now result }
+        ensures none { MissesNoMeeting self.now op.now result }
     {
         match self.meet_heard(alloc, op)? {
             Some(found) => Ok(Some(found)),
@@ -247,8 +248,8 @@ impl Held {
     /// What the operation meets in hand, the built-in receivers among it. Where ids tell the rows in hand, it is None exactly where the
     /// operation meets nothing there. An error is want of memory, or that a shard is in hand at a number that is not its own.
     pub fn first_step(&self, alloc: Global, op: &Row) -> Result<Option<Found>, AllocError>
-        ensures found { (all : List StoredRow) → AreInHand (λ rows. rows) (shard_at self.now) all → IfOk result (λ o. IfSome o (MeetsAtHand all op.now)) }
-        ensures none { (all : List StoredRow) → AreInHand (λ rows. rows) (shard_at self.now) all → IdsTell (rows_at_hand all op.now) → IfOk result (λ o. o ≡ None → MakesNoStep all op.now) }
+        ensures found { FindsAMeeting self.now op.now result }
+        ensures none { MissesNoMeeting self.now op.now result }
     {
         if self.is_in_place() {
             self.look(alloc, op)

@@ -77,7 +77,8 @@ fn lose_at(shard: &mut Option<Shard>, gone: &[Digest])
 /// Takes the rows with these ids out of all shards that are there.
 pub(crate) fn lose_all(shards: &mut Vec<Option<Shard>>, gone: &[Digest])
     ensures length { length shards.new.items ≡ length shards.old.items }
-    ensures lost { (k : ℕ) → get_or shards.new.items k None ≡ option_map (without (map (λ d. d.0) gone.now)) (get_or shards.old.items k None) }
+    ensures lost { (k : ℕ) → get_or shards.new.items k None ≡
+        option_map (without (map (λ d. d.0) gone.now)) (get_or shards.old.items k None) }
 {
     for k in 0..shards.len() {
         lose_at(&mut shards[k], gone);
@@ -88,7 +89,9 @@ pub(crate) fn lose_all(shards: &mut Vec<Option<Shard>>, gone: &[Digest])
 fn take_back(shards: &mut Vec<Option<Shard>>, place: usize, added: bool, op: &Row)
     requires { place < length shards.old.items }
     ensures length { length shards.new.items ≡ length shards.old.items }
-    ensures here { get_or shards.new.items place None ≡ cond added (option_map (without (op.now.id ∷ [])) (get_or shards.old.items place None)) (get_or shards.old.items place None) }
+    ensures here { get_or shards.new.items place None ≡ cond added
+        (option_map (without (op.now.id ∷ [])) (get_or shards.old.items place None))
+        (get_or shards.old.items place None) }
     ensures others { (k : ℕ) → k ≢ place → get_or shards.new.items k None ≡ get_or shards.old.items k None }
 {
     if added {

@@ -62,7 +62,9 @@ impl ShardTables for SpaceTables {
     }
 
     fn rows_of(alloc: Global, shards: Vec<Shard>) -> Result<Vec<Row>, AllocError>
-        ensures { (store : List Stored) → IdsDiffer store → length shards.items ≡ 64 → AreShardsOf (λ rows. rows) store shards.items → ((r : Stored) → Among r store → channels r.part ≢ []) → IfOk result (λ v. IsPermutation v.items store) }
+        ensures { (store : List Stored) → IdsDiffer store → length shards.items ≡ 64 →
+            AreShardsOf (λ rows. rows) store shards.items → ((r : Stored) → Among r store → channels r.part ≢ []) →
+            IfOk result (λ v. IsPermutation v.items store) }
     {
         gather(alloc, shards)
     }

@@ -124,11 +124,16 @@ fn write_plan<S: Shelf, O: Sink>(
     shelf: &mut S,
     out: &mut O,
 ) -> Result<(), Halt>
-    ensures kept { OnOk result (S.files shelf.new ≡ with_files ((string_bytes run.now.log, plan.now.log.items) ∷ (string_bytes run.now.next, plan.now.next.items) ∷ []) (S.files shelf.old)) }
+    ensures kept { OnOk result (S.files shelf.new ≡ with_files
+        ((string_bytes run.now.log, plan.now.log.items) ∷ (string_bytes run.now.next, plan.now.next.items) ∷ [])
+        (S.files shelf.old)) }
     ensures put { OnOk result (GrewBy plan.now.bytes.items (O.written out.old) (O.written out.new)) }
-    ensures part { OnErr result (StopsOnTheWay ((string_bytes run.now.log, plan.now.log.items) ∷ (string_bytes run.now.next, plan.now.next.items) ∷ []) plan.now.bytes.items
-        (S.files shelf.old) (S.files shelf.new) (S.keep_faults shelf.old) (S.keep_faults shelf.new) (O.written out.old) (O.written out.new)) }
-    ensures cause { IsErrOf result Halt.WriteFault → Rose (S.keep_faults shelf.old) (S.keep_faults shelf.new) ⊎ Rose (O.faults out.old) (O.faults out.new) }
+    ensures part { OnErr result (StopsOnTheWay ((string_bytes run.now.log, plan.now.log.items) ∷
+        (string_bytes run.now.next, plan.now.next.items) ∷ []) plan.now.bytes.items (S.files shelf.old)
+        (S.files shelf.new) (S.keep_faults shelf.old) (S.keep_faults shelf.new) (O.written out.old)
+        (O.written out.new)) }
+    ensures cause { IsErrOf result Halt.WriteFault → Rose (S.keep_faults shelf.old) (S.keep_faults shelf.new) ⊎
+        Rose (O.faults out.old) (O.faults out.new) }
     ensures fetch_faults { S.fetch_faults shelf.new ≡ S.fetch_faults shelf.old }
 {
     let log = (run.log.as_str(), plan.log.as_slice());
@@ -158,9 +163,12 @@ fn deploy_run<R: Threads + Wait + Sync, S: Shelf, O: Sink, G: Gate + Sync>(
     requires inputs { AreAccepted (S.files shelf.now) (run_of run.now) limit inputs }
     ensures ends { DeployEnds (S.files shelf.old) (run_of run.now) limit (S.fetch_faults shelf.old) (S.fetch_faults shelf.new) result }
     ensures stays { OnRefusal result ((S.files shelf.new ≡ S.files shelf.old) × (O.written out.new ≡ O.written out.old)) }
-    ensures write_fault { result ≡ Status.WriteFault → Rose (S.keep_faults shelf.old) (S.keep_faults shelf.new) ⊎ Rose (O.faults out.old) (O.faults out.new) }
-    ensures verdict { OnVerdict result (Leaves result (run_of run.now) limit (S.files shelf.old) (S.files shelf.new) (O.written out.old) (O.written out.new)) }
-    ensures part { OnHalt result (LeavesInPart (run_of run.now) limit (S.files shelf.old) (S.files shelf.new) (S.keep_faults shelf.old) (S.keep_faults shelf.new) (O.written out.old) (O.written out.new)) }
+    ensures write_fault { result ≡ Status.WriteFault → Rose (S.keep_faults shelf.old) (S.keep_faults shelf.new) ⊎
+        Rose (O.faults out.old) (O.faults out.new) }
+    ensures verdict { OnVerdict result (Leaves result (run_of run.now) limit (S.files shelf.old) (S.files shelf.new)
+        (O.written out.old) (O.written out.new)) }
+    ensures part { OnHalt result (LeavesInPart (run_of run.now) limit (S.files shelf.old) (S.files shelf.new)
+        (S.keep_faults shelf.old) (S.keep_faults shelf.new) (O.written out.old) (O.written out.new)) }
 {
     let plan = match make_plan(rt, alloc, gate, worker_count(run.workers), inputs, limit) {
         Ok(plan) => plan,

@@ -81,15 +81,13 @@ fn inputs_of(alloc: Global, base: Base, prices: Prices, source: Vec<u8>) -> Resu
     ensures closed { IfOk result (λ i. IsClosed i.term) }
     ensures cause { IfErr result (SourceCause source.items) }
 {
-    match accept_term(alloc, source.as_slice()) {
-        Ok(term) => Ok(Inputs {
-            base,
-            prices,
-            source,
-            term,
-        }),
-        Err(status) => Err(status),
-    }
+    let term = accept_term(alloc, source.as_slice())?;
+    Ok(Inputs {
+        base,
+        prices,
+        source,
+        term,
+    })
 }
 
 /// Fetches and checks what a deploy needs: the state, the prices, the limit and the source.
@@ -103,20 +101,12 @@ pub fn accept<S: Shelf>(
     ensures keep_faults { S.keep_faults shelf.new ≡ S.keep_faults shelf.old }
     ensures fetch_faults { S.fetch_faults shelf.old ≤ S.fetch_faults shelf.new }
     ensures given { IfOk result (AreAccepted (S.files shelf.old) (run_of run.now) limit) }
-    ensures refused { IfErr result (RefusedFor (S.files shelf.old) (run_of run.now) limit (S.fetch_faults shelf.old) (S.fetch_faults shelf.new)) }
+    ensures refused { IfErr result (RefusedFor (S.files shelf.old) (run_of run.now) limit (S.fetch_faults shelf.old)
+        (S.fetch_faults shelf.new)) }
 {
-    let (base, prices) = match accept_limit(alloc, shelf, run, limit) {
-        Ok(given) => given,
-        Err(status) => return Err(status),
-    };
-    let source = match take(alloc, shelf, run.file.as_str(), Input::Source, SOURCE_MAX) {
-        Ok(source) => source,
-        Err(status) => return Err(status),
-    };
-    match inputs_of(alloc, base, prices, source) {
-        Ok(inputs) => Ok(inputs),
-        Err(status) => Err(status),
-    }
+    let (base, prices) = accept_limit(alloc, shelf, run, limit)?;
+    let source = take(alloc, shelf, run.file.as_str(), Input::Source, SOURCE_MAX)?;
+    inputs_of(alloc, base, prices, source)
 }
 
 /// Fetches and checks what a replay needs up to its source.
@@ -130,20 +120,12 @@ fn accept_replay_source<S: Shelf>(alloc: Global, shelf: &mut S, run: &Run) -> Re
     ensures closed { IfOk result (λ i. IsClosed i.term) }
     ensures short { IfOk result (λ i. length i.source.items ≤ 1048576) }
     ensures told { IfOk result (λ _. Told (S.files shelf.old) (HasState (run_of run.now))) }
-    ensures refused { IfErr result (ReplayRefusedFor (S.files shelf.old) (run_of run.now) (S.fetch_faults shelf.old) (S.fetch_faults shelf.new)) }
+    ensures refused { IfErr result (ReplayRefusedFor (S.files shelf.old) (run_of run.now) (S.fetch_faults shelf.old)
+        (S.fetch_faults shelf.new)) }
 {
-    let (base, prices) = match accept_prices(alloc, shelf, run) {
-        Ok(given) => given,
-        Err(status) => return Err(status),
-    };
-    let source = match take(alloc, shelf, run.file.as_str(), Input::Source, SOURCE_MAX) {
-        Ok(source) => source,
-        Err(status) => return Err(status),
-    };
-    match inputs_of(alloc, base, prices, source) {
-        Ok(inputs) => Ok(inputs),
-        Err(status) => Err(status),
-    }
+    let (base, prices) = accept_prices(alloc, shelf, run)?;
+    let source = take(alloc, shelf, run.file.as_str(), Input::Source, SOURCE_MAX)?;
+    inputs_of(alloc, base, prices, source)
 }
 
 /// The log of these bytes. Want of memory has a status of its own.
@@ -170,18 +152,11 @@ pub fn accept_replay<S: Shelf>(
     ensures keep_faults { S.keep_faults shelf.new ≡ S.keep_faults shelf.old }
     ensures fetch_faults { S.fetch_faults shelf.old ≤ S.fetch_faults shelf.new }
     ensures given { IfOk result (AreReplayAccepted (S.files shelf.old) (run_of run.now)) }
-    ensures refused { IfErr result (ReplayRefusedFor (S.files shelf.old) (run_of run.now) (S.fetch_faults shelf.old) (S.fetch_faults shelf.new)) }
+    ensures refused { IfErr result (ReplayRefusedFor (S.files shelf.old) (run_of run.now) (S.fetch_faults shelf.old)
+        (S.fetch_faults shelf.new)) }
 {
-    let inputs = match accept_replay_source(alloc, shelf, run) {
-        Ok(inputs) => inputs,
-        Err(status) => return Err(status),
-    };
-    let bytes = match take(alloc, shelf, run.log.as_str(), Input::Log, LOG_MAX) {
-        Ok(bytes) => bytes,
-        Err(status) => return Err(status),
-    };
-    match log_of_bytes(alloc, bytes.as_slice()) {
-        Ok(log) => Ok(ReplayInputs { inputs, log }),
-        Err(status) => Err(status),
-    }
+    let inputs = accept_replay_source(alloc, shelf, run)?;
+    let bytes = take(alloc, shelf, run.log.as_str(), Input::Log, LOG_MAX)?;
+    let log = log_of_bytes(alloc, bytes.as_slice())?;
+    Ok(ReplayInputs { inputs, log })
 }

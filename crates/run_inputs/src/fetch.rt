@@ -80,18 +80,14 @@ fn accept_state<S: Shelf>(alloc: Global, shelf: &mut S, run: &Run) -> Result<Bas
     ensures files { S.files shelf.new ≡ S.files shelf.old }
     ensures keep_faults { S.keep_faults shelf.new ≡ S.keep_faults shelf.old }
     ensures fetch_faults { S.fetch_faults shelf.old ≤ S.fetch_faults shelf.new }
-    ensures accepted { IfOk result (λ base. Told (S.files shelf.old) (λ files. accepted_state (run_of run.now) files ≡ Ok base.text.items)) }
+    ensures accepted { IfOk result (λ base. Told (S.files shelf.old)
+        (λ files. accepted_state (run_of run.now) files ≡ Ok base.text.items)) }
     ensures state { IfOk result IsBase }
-    ensures refused { IfErr result (PricesRefusedFor (S.files shelf.old) (run_of run.now) (S.fetch_faults shelf.old) (S.fetch_faults shelf.new)) }
+    ensures refused { IfErr result (PricesRefusedFor (S.files shelf.old) (run_of run.now) (S.fetch_faults shelf.old)
+        (S.fetch_faults shelf.new)) }
 {
-    let text = match take(alloc, shelf, run.state.as_str(), Input::State, STATE_MAX) {
-        Ok(text) => text,
-        Err(status) => return Err(status),
-    };
-    match base_of(alloc, text) {
-        Ok(base) => Ok(base),
-        Err(status) => Err(status),
-    }
+    let text = take(alloc, shelf, run.state.as_str(), Input::State, STATE_MAX)?;
+    base_of(alloc, text)
 }
 
 /// The status of what a price text is refused for, or that memory is wanted.
@@ -124,23 +120,17 @@ pub(crate) fn accept_prices<S: Shelf>(
     ensures files { S.files shelf.new ≡ S.files shelf.old }
     ensures keep_faults { S.keep_faults shelf.new ≡ S.keep_faults shelf.old }
     ensures fetch_faults { S.fetch_faults shelf.old ≤ S.fetch_faults shelf.new }
-    ensures accepted { IfOk result (λ p. Told (S.files shelf.old) (λ files. accepted_prices (run_of run.now) files ≡ Ok (p.0.text.items, p.1))) }
+    ensures accepted { IfOk result (λ p. Told (S.files shelf.old)
+        (λ files. accepted_prices (run_of run.now) files ≡ Ok (p.0.text.items, p.1))) }
     ensures state { IfOk result (λ p. IsBase p.0) }
     ensures told { IfOk result (λ _. Told (S.files shelf.old) (HasState (run_of run.now))) }
-    ensures refused { IfErr result (PricesRefusedFor (S.files shelf.old) (run_of run.now) (S.fetch_faults shelf.old) (S.fetch_faults shelf.new)) }
+    ensures refused { IfErr result (PricesRefusedFor (S.files shelf.old) (run_of run.now) (S.fetch_faults shelf.old)
+        (S.fetch_faults shelf.new)) }
 {
-    let base = match accept_state(alloc, shelf, run) {
-        Ok(base) => base,
-        Err(status) => return Err(status),
-    };
-    let text = match take(alloc, shelf, run.prices.as_str(), Input::Prices, PRICES_MAX) {
-        Ok(text) => text,
-        Err(status) => return Err(status),
-    };
-    match prices_in(alloc, text.as_slice()) {
-        Ok(prices) => Ok((base, prices)),
-        Err(status) => Err(status),
-    }
+    let base = accept_state(alloc, shelf, run)?;
+    let text = take(alloc, shelf, run.prices.as_str(), Input::Prices, PRICES_MAX)?;
+    let prices = prices_in(alloc, text.as_slice())?;
+    Ok((base, prices))
 }
 
 /// Checks the limit, after the state and the prices.
@@ -153,16 +143,15 @@ pub(crate) fn accept_limit<S: Shelf>(
     ensures files { S.files shelf.new ≡ S.files shelf.old }
     ensures keep_faults { S.keep_faults shelf.new ≡ S.keep_faults shelf.old }
     ensures fetch_faults { S.fetch_faults shelf.old ≤ S.fetch_faults shelf.new }
-    ensures accepted { IfOk result (λ p. Told (S.files shelf.old) (λ files. accepted_limit (run_of run.now) limit files ≡ Ok (p.0.text.items, p.1))) }
+    ensures accepted { IfOk result (λ p. Told (S.files shelf.old)
+        (λ files. accepted_limit (run_of run.now) limit files ≡ Ok (p.0.text.items, p.1))) }
     ensures state { IfOk result (λ p. IsBase p.0) }
     ensures told { IfOk result (λ _. Told (S.files shelf.old) (HasState (run_of run.now))) }
     ensures in_range { IfOk result (λ p. limit ≤ greatest_limit p.1) }
-    ensures refused { IfErr result (RefusedFor (S.files shelf.old) (run_of run.now) limit (S.fetch_faults shelf.old) (S.fetch_faults shelf.new)) }
+    ensures refused { IfErr result (RefusedFor (S.files shelf.old) (run_of run.now) limit (S.fetch_faults shelf.old)
+        (S.fetch_faults shelf.new)) }
 {
-    let (base, prices) = match accept_prices(alloc, shelf, run) {
-        Ok(given) => given,
-        Err(status) => return Err(status),
-    };
+    let (base, prices) = accept_prices(alloc, shelf, run)?;
     let most = most_limit(&prices);
     if limit == 0 || limit > most {
         return Err(Status::Limit { limit, most });

@@ -53,10 +53,7 @@ pub(crate) fn fetch_state<S: Shelf>(
     ensures rows { IfOk result (λ rows. HasRows (S.files shelf.old) name.now rows) }
     ensures cause { IfErr result (RefusedFor (S.files shelf.old) name.now (S.fetch_faults shelf.old) (S.fetch_faults shelf.new)) }
 {
-    let text = match fetch_text(alloc, shelf, name) {
-        Ok(text) => text,
-        Err(status) => return Err(status),
-    };
+    let text = fetch_text(alloc, shelf, name)?;
     match read_base(alloc, text.as_slice()) {
         Ok(checkpoint) => Ok(checkpoint),
         Err(fault) => Err(status_of(fault)),

@@ -27,8 +27,11 @@ fn show_state<S: Shelf, O: Sink>(alloc: Global, name: &str, shelf: &mut S, out: 
     ensures files { S.files shelf.new ≡ S.files shelf.old }
     ensures keep_faults { S.keep_faults shelf.new ≡ S.keep_faults shelf.old }
     ensures stays { OnRefusal result (O.written out.new ≡ O.written out.old) }
-    ensures all { result ≡ Status.Done → WithRows (S.files shelf.old) name.now (λ rows. GrewBy (listing rows) (O.written out.old) (O.written out.new)) }
-    ensures part { OnHalt result ((O.written out.new ≡ O.written out.old) ⊎ WithRows (S.files shelf.old) name.now (λ rows. GrewByPart (listing rows) (O.written out.old) (O.written out.new))) }
+    ensures all { result ≡ Status.Done → WithRows (S.files shelf.old) name.now
+        (λ rows. GrewBy (listing rows) (O.written out.old) (O.written out.new)) }
+    ensures part { OnHalt result ((O.written out.new ≡ O.written out.old) ⊎
+        WithRows (S.files shelf.old) name.now (λ rows. GrewByPart (listing rows) (O.written out.old)
+        (O.written out.new))) }
     ensures write_fault { result ≡ Status.WriteFault → Rose (O.faults out.old) (O.faults out.new) }
 {
     let checkpoint = match fetch_state(alloc, shelf, name) {

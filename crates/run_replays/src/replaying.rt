@@ -133,11 +133,14 @@ fn write_replay<S: Shelf, O: Sink>(
     shelf: &mut S,
     out: &mut O,
 ) -> Result<(), Halt>
-    ensures kept { OnOk result (S.files shelf.new ≡ with_files ((string_bytes run.now.next, plan.now.next.items) ∷ []) (S.files shelf.old)) }
+    ensures kept { OnOk result (S.files shelf.new ≡ with_files ((string_bytes run.now.next, plan.now.next.items) ∷ [])
+        (S.files shelf.old)) }
     ensures put { OnOk result (GrewBy plan.now.bytes.items (O.written out.old) (O.written out.new)) }
-    ensures part { OnErr result (StopsOnTheWay ((string_bytes run.now.next, plan.now.next.items) ∷ []) plan.now.bytes.items
-        (S.files shelf.old) (S.files shelf.new) (S.keep_faults shelf.old) (S.keep_faults shelf.new) (O.written out.old) (O.written out.new)) }
-    ensures cause { IsErrOf result Halt.WriteFault → Rose (S.keep_faults shelf.old) (S.keep_faults shelf.new) ⊎ Rose (O.faults out.old) (O.faults out.new) }
+    ensures part { OnErr result (StopsOnTheWay ((string_bytes run.now.next, plan.now.next.items) ∷ [])
+        plan.now.bytes.items (S.files shelf.old) (S.files shelf.new) (S.keep_faults shelf.old) (S.keep_faults shelf.new)
+        (O.written out.old) (O.written out.new)) }
+    ensures cause { IsErrOf result Halt.WriteFault → Rose (S.keep_faults shelf.old) (S.keep_faults shelf.new) ⊎
+        Rose (O.faults out.old) (O.faults out.new) }
     ensures fetch_faults { S.fetch_faults shelf.new ≡ S.fetch_faults shelf.old }
 {
     let next = (run.next.as_str(), plan.next.as_slice());
@@ -157,9 +160,12 @@ fn replay_run<R: Threads + Wait + Sync, S: Shelf, O: Sink, G: Gate + Sync>(
     requires inputs { AreReplayAccepted (S.files shelf.now) (run_of run.now) inputs }
     ensures ends { ReplayEnds IsSettled (S.files shelf.old) (run_of run.now) (S.fetch_faults shelf.old) (S.fetch_faults shelf.new) result }
     ensures stays { OnRefusal result ((S.files shelf.new ≡ S.files shelf.old) × (O.written out.new ≡ O.written out.old)) }
-    ensures write_fault { result ≡ Status.WriteFault → Rose (S.keep_faults shelf.old) (S.keep_faults shelf.new) ⊎ Rose (O.faults out.old) (O.faults out.new) }
-    ensures verdict { OnVerdict result (ReplayLeaves result (run_of run.now) (S.files shelf.old) (S.files shelf.new) (O.written out.old) (O.written out.new)) }
-    ensures part { OnHalt result (ReplayLeavesInPart (run_of run.now) (S.files shelf.old) (S.files shelf.new) (S.keep_faults shelf.old) (S.keep_faults shelf.new) (O.written out.old) (O.written out.new)) }
+    ensures write_fault { result ≡ Status.WriteFault → Rose (S.keep_faults shelf.old) (S.keep_faults shelf.new) ⊎
+        Rose (O.faults out.old) (O.faults out.new) }
+    ensures verdict { OnVerdict result (ReplayLeaves result (run_of run.now) (S.files shelf.old) (S.files shelf.new)
+        (O.written out.old) (O.written out.new)) }
+    ensures part { OnHalt result (ReplayLeavesInPart (run_of run.now) (S.files shelf.old) (S.files shelf.new)
+        (S.keep_faults shelf.old) (S.keep_faults shelf.new) (O.written out.old) (O.written out.new)) }
 {
     let plan = match make_replay_plan(rt, alloc, gate, worker_count(run.workers), inputs) {
         Ok(plan) => plan,

@@ -1,8 +1,7 @@
-ghost use Rattle.std.specs.Prelude.{◌≡◌, ◌≤◌, ◌∷◌, ◌⊎◌, [], OnOk, OnErr, IsErrOf};
+ghost use Rattle.std.specs.Prelude.{◌≡◌, ◌≤◌, ◌∷◌, [], OnOk, OnErr, IsErrOf};
 ghost use Rattle.rho_outside.specs.Causes.{Rose};
 ghost use Rattle.rho_outside.specs.Put.{GrewBy, GrewByPart};
-ghost use Rattle.rho_outside.specs.Kept.{with_files};
-ghost use Rattle.run_reports.specs.Stops.{AreSetInPart, StopsOnTheWay};
+ghost use Rattle.run_reports.specs.Stops.{file_of, SetsAll, SetsInPart, StopsOnTheWay, WriteFailed};
 ghost use Rattle.run_reports.specs.Halts.{halt_of};
 
 use rho_outside::{KeepFault, Shelf, Sink};
@@ -26,8 +25,8 @@ fn halt_of(fault: KeepFault) -> Halt
 
 /// Keeps one file.
 fn keep_file<S: Shelf>(alloc: Global, shelf: &mut S, name: &str, bytes: &[u8]) -> Result<(), Halt>
-    ensures kept { OnOk result (S.files shelf.new ≡ with_files ((name.now, bytes.now) ∷ []) (S.files shelf.old)) }
-    ensures part { OnErr result (AreSetInPart ((name.now, bytes.now) ∷ []) (S.files shelf.old) (S.files shelf.new) (S.keep_faults shelf.old) (S.keep_faults shelf.new)) }
+    ensures kept { OnOk result (SetsAll ((name.now, bytes.now) ∷ []) S.files shelf.old shelf.new) }
+    ensures part { OnErr result (SetsInPart ((name.now, bytes.now) ∷ []) S.files S.keep_faults shelf.old shelf.new) }
     ensures cause { IsErrOf result Halt.WriteFault → Rose (S.keep_faults shelf.old) (S.keep_faults shelf.new) }
     ensures fetch_faults { S.fetch_faults shelf.new ≡ S.fetch_faults shelf.old }
     ensures keep_faults { S.keep_faults shelf.old ≤ S.keep_faults shelf.new }
@@ -42,8 +41,8 @@ fn keep_both<S: Shelf>(
     first: (&str, &[u8]),
     second: (&str, &[u8]),
 ) -> Result<(), Halt>
-    ensures kept { OnOk result (S.files shelf.new ≡ with_files ((first.entry.0.now, first.entry.1.now) ∷ (second.entry.0.now, second.entry.1.now) ∷ []) (S.files shelf.old)) }
-    ensures part { OnErr result (AreSetInPart ((first.entry.0.now, first.entry.1.now) ∷ (second.entry.0.now, second.entry.1.now) ∷ []) (S.files shelf.old) (S.files shelf.new) (S.keep_faults shelf.old) (S.keep_faults shelf.new)) }
+    ensures kept { OnOk result (SetsAll (file_of first.entry ∷ file_of second.entry ∷ []) S.files shelf.old shelf.new) }
+    ensures part { OnErr result (SetsInPart (file_of first.entry ∷ file_of second.entry ∷ []) S.files S.keep_faults shelf.old shelf.new) }
     ensures cause { IsErrOf result Halt.WriteFault → Rose (S.keep_faults shelf.old) (S.keep_faults shelf.new) }
     ensures fetch_faults { S.fetch_faults shelf.new ≡ S.fetch_faults shelf.old }
     ensures keep_faults { S.keep_faults shelf.old ≤ S.keep_faults shelf.new }
@@ -70,11 +69,12 @@ pub fn keep_and_put<S: Shelf, O: Sink>(
     file: (&str, &[u8]),
     bytes: &[u8],
 ) -> Result<(), Halt>
-    ensures kept { OnOk result (S.files shelf.new ≡ with_files ((file.entry.0.now, file.entry.1.now) ∷ []) (S.files shelf.old)) }
+    ensures kept { OnOk result (SetsAll (file_of file.entry ∷ []) S.files shelf.old shelf.new) }
     ensures put { OnOk result (GrewBy bytes.now (O.written out.old) (O.written out.new)) }
-    ensures part { OnErr result (StopsOnTheWay ((file.entry.0.now, file.entry.1.now) ∷ []) bytes.now
-        (S.files shelf.old) (S.files shelf.new) (S.keep_faults shelf.old) (S.keep_faults shelf.new) (O.written out.old) (O.written out.new)) }
-    ensures cause { IsErrOf result Halt.WriteFault → Rose (S.keep_faults shelf.old) (S.keep_faults shelf.new) ⊎ Rose (O.faults out.old) (O.faults out.new) }
+    ensures part { OnErr result (StopsOnTheWay (file_of file.entry ∷ []) bytes.now (S.files shelf.old)
+        (S.files shelf.new) (S.keep_faults shelf.old) (S.keep_faults shelf.new) (O.written out.old)
+        (O.written out.new)) }
+    ensures cause { IsErrOf result Halt.WriteFault → WriteFailed S.keep_faults shelf.old shelf.new O.faults out.old out.new }
     ensures fetch_faults { S.fetch_faults shelf.new ≡ S.fetch_faults shelf.old }
 {
     keep_file(alloc, shelf, file.0, file.1)?;
@@ -90,11 +90,12 @@ pub fn keep_both_and_put<S: Shelf, O: Sink>(
     second: (&str, &[u8]),
     bytes: &[u8],
 ) -> Result<(), Halt>
-    ensures kept { OnOk result (S.files shelf.new ≡ with_files ((first.entry.0.now, first.entry.1.now) ∷ (second.entry.0.now, second.entry.1.now) ∷ []) (S.files shelf.old)) }
+    ensures kept { OnOk result (SetsAll (file_of first.entry ∷ file_of second.entry ∷ []) S.files shelf.old shelf.new) }
     ensures put { OnOk result (GrewBy bytes.now (O.written out.old) (O.written out.new)) }
-    ensures part { OnErr result (StopsOnTheWay ((first.entry.0.now, first.entry.1.now) ∷ (second.entry.0.now, second.entry.1.now) ∷ []) bytes.now
-        (S.files shelf.old) (S.files shelf.new) (S.keep_faults shelf.old) (S.keep_faults shelf.new) (O.written out.old) (O.written out.new)) }
-    ensures cause { IsErrOf result Halt.WriteFault → Rose (S.keep_faults shelf.old) (S.keep_faults shelf.new) ⊎ Rose (O.faults out.old) (O.faults out.new) }
+    ensures part { OnErr result (StopsOnTheWay (file_of first.entry ∷ file_of second.entry ∷ []) bytes.now
+        (S.files shelf.old) (S.files shelf.new) (S.keep_faults shelf.old) (S.keep_faults shelf.new) (O.written out.old)
+        (O.written out.new)) }
+    ensures cause { IsErrOf result Halt.WriteFault → WriteFailed S.keep_faults shelf.old shelf.new O.faults out.old out.new }
     ensures fetch_faults { S.fetch_faults shelf.new ≡ S.fetch_faults shelf.old }
 {
     keep_both(alloc, shelf, first, second)?;

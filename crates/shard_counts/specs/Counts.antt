@@ -1,5 +1,5 @@
 -- Counts of shards, by key.
-use Rattle.std.specs.Prelude.{ℕ, ◌+◌, Bool, cond, List, [], ◌∷◌, Option, None, Some, slice_index}
+use Rattle.std.specs.Prelude.{◌≡◌, ℕ, ◌+◌, ◌-◌, ◌<◌, Bool, cond, List, [], ◌∷◌, Option, None, Some, slice_index}
 use Rattle.std.specs.Int.{bit_at}
 use Rattle.std.specs.Map.{lookup}
 use Rattle.std.specs.Ordering.{nat_cmp, is_eq}
@@ -32,3 +32,15 @@ adds q bits k s = cond (is_key k q) (bit_at bits s) 0
 abbrev pub added : List (Vec ℕ Global) → ℕ → List ℕ → ℕ → ℕ
 added [] bits k s = 0
 added (q ∷ qs) bits k s = adds q.items bits k s + added qs bits k s
+
+-- under each key the count of each of the 64 shards rose by so many
+abbrev pub CountsRiseBy : (List ℕ → ℕ → ℕ) → (List ℕ → ℕ → ℕ) → (List ℕ → ℕ → ℕ) → Type 0
+CountsRiseBy more old new = (k : Vec ℕ Global) (s : ℕ) → s < 64 → new k.items s ≡ old k.items s + more k.items s
+
+-- under each key the count of each of the 64 shards fell by so many, or to none
+abbrev pub CountsFallBy : (List ℕ → ℕ → ℕ) → (List ℕ → ℕ → ℕ) → (List ℕ → ℕ → ℕ) → Type 0
+CountsFallBy less old new = (k : Vec ℕ Global) (s : ℕ) → s < 64 → new k.items s ≡ old k.items s - less k.items s
+
+-- under each key the count of each of the 64 shards is what it was
+abbrev pub CountsStay : (List ℕ → ℕ → ℕ) → (List ℕ → ℕ → ℕ) → Type 0
+CountsStay old new = (k : Vec ℕ Global) (s : ℕ) → s < 64 → new k.items s ≡ old k.items s

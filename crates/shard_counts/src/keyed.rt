@@ -1,9 +1,9 @@
 //! Counts by key.
-ghost use Rattle.std.specs.Prelude.{◌≡◌, ◌+◌, ◌-◌, ◌<◌, ℕ, true, false, eqb, not, IfOk, OnErr, OnOk};
+ghost use Rattle.std.specs.Prelude.{◌≡◌, ◌-◌, ◌<◌, ℕ, true, false, eqb, not, IfOk, OnErr, OnOk};
 ghost use Rattle.std.specs.declared.alloc.Global.{Global};
 ghost use Rattle.std.specs.declared.vec.Vec.{Vec};
 ghost use Rattle.shard_counts.specs.Bits.{AreBits};
-ghost use Rattle.shard_counts.specs.Counts.{count, adds, added};
+ghost use Rattle.shard_counts.specs.Counts.{count, adds, added, CountsRiseBy, CountsFallBy, CountsStay};
 ghost use Rattle.shard_counts.specs.Keyed.{count_of};
 
 use crate::counts::Counts;
@@ -25,9 +25,11 @@ pub struct ShardCounts {
 // Counts these shards under a key that has counts, and answers whether it has. Want of memory is the one error, and all is then as it
 // was.
 fn add_there(entries: &mut Entries, key: &Key, bits: u64) -> Result<bool, AllocError>
-    ensures there { IfOk result (λ there. there ≡ true → (k : Vec ℕ Global) (s : ℕ) → s < 64 → count entries.new.entries k.items s ≡ count entries.old.entries k.items s + adds key.now.items bits k.items s) }
-    ensures none { IfOk result (λ there. there ≡ false → (entries.new.entries ≡ entries.old.entries) × ((s : ℕ) → count entries.old.entries key.now.items s ≡ 0)) }
-    ensures failed { OnErr result ((k : Vec ℕ Global) (s : ℕ) → s < 64 → count entries.new.entries k.items s ≡ count entries.old.entries k.items s) }
+    ensures there { IfOk result (λ there. there ≡ true → CountsRiseBy (adds key.now.items bits)
+        (count entries.old.entries) (count entries.new.entries)) }
+    ensures none { IfOk result (λ there. there ≡ false → (entries.new.entries ≡ entries.old.entries) ×
+        ((s : ℕ) → count entries.old.entries key.now.items s ≡ 0)) }
+    ensures failed { OnErr result (CountsStay (count entries.old.entries) (count entries.new.entries)) }
 {
     match entries.get_mut(key) {
         Some(counts) => {
@@ -44,7 +46,7 @@ fn add_there(entries: &mut Entries, key: &Key, bits: u64) -> Result<bool, AllocE
 // Counts these shards under a key that has no counts. Want of memory is the one error, and all is then as it was.
 fn add_new(alloc: Global, entries: &mut Entries, key: Key, bits: u64) -> Result<(), AllocError>
     requires { (s : ℕ) → count entries.old.entries key.items s ≡ 0 }
-    ensures counted { OnOk result ((k : Vec ℕ Global) (s : ℕ) → s < 64 → count entries.new.entries k.items s ≡ count entries.old.entries k.items s + adds key.items bits k.items s) }
+    ensures counted { OnOk result (CountsRiseBy (adds key.items bits) (count entries.old.entries) (count entries.new.entries)) }
     ensures failed { OnErr result ((k : Vec ℕ Global) (s : ℕ) → count entries.new.entries k.items s ≡ count entries.old.entries k.items s) }
 {
     let mut counts = Counts::new(alloc)?;
@@ -55,8 +57,8 @@ fn add_new(alloc: Global, entries: &mut Entries, key: Key, bits: u64) -> Result<
 
 // Counts these shards under a key. Want of memory is the one error, and all is then as it was.
 fn add_one(alloc: Global, entries: &mut Entries, key: &Key, bits: u64) -> Result<(), AllocError>
-    ensures counted { OnOk result ((k : Vec ℕ Global) (s : ℕ) → s < 64 → count entries.new.entries k.items s ≡ count entries.old.entries k.items s + adds key.now.items bits k.items s) }
-    ensures failed { OnErr result ((k : Vec ℕ Global) (s : ℕ) → s < 64 → count entries.new.entries k.items s ≡ count entries.old.entries k.items s) }
+    ensures counted { OnOk result (CountsRiseBy (adds key.now.items bits) (count entries.old.entries) (count entries.new.entries)) }
+    ensures failed { OnErr result (CountsStay (count entries.old.entries) (count entries.new.entries)) }
 {
     if add_there(entries, key, bits)? {
         return Ok(());
@@ -66,7 +68,7 @@ fn add_one(alloc: Global, entries: &mut Entries, key: &Key, bits: u64) -> Result
 
 // Takes back these shards under a key, and answers whether none is left there.
 fn drop_there(entries: &mut Entries, key: &Key, bits: u64) -> bool
-    ensures taken { (k : Vec ℕ Global) (s : ℕ) → s < 64 → count entries.new.entries k.items s ≡ count entries.old.entries k.items s - adds key.now.items bits k.items s }
+    ensures taken { CountsFallBy (adds key.now.items bits) (count entries.old.entries) (count entries.new.entries) }
     ensures none { result ≡ true → (s : ℕ) → s < 64 → count entries.new.entries key.now.items s ≡ 0 }
 {
     match entries.get_mut(key) {
@@ -80,7 +82,7 @@ fn drop_there(entries: &mut Entries, key: &Key, bits: u64) -> bool
 
 // Takes back these shards under a key, and the key where none is left.
 fn remove_one(entries: &mut Entries, key: &Key, bits: u64)
-    ensures { (k : Vec ℕ Global) (s : ℕ) → s < 64 → count entries.new.entries k.items s ≡ count entries.old.entries k.items s - adds key.now.items bits k.items s }
+    ensures { CountsFallBy (adds key.now.items bits) (count entries.old.entries) (count entries.new.entries) }
 {
     if drop_there(entries, key, bits) {
         entries.remove(key);
@@ -99,8 +101,8 @@ impl ShardCounts {
 
     /// Counts the shards of these bits under each of these keys. Want of memory is the one error, and all is then as it was.
     pub fn add(&mut self, alloc: Global, keys: &[Key], bits: u64) -> Result<(), AllocError>
-        ensures counted { OnOk result ((k : Vec ℕ Global) (s : ℕ) → s < 64 → count_of self.new k.items s ≡ count_of self.old k.items s + added keys.now bits k.items s) }
-        ensures failed { OnErr result ((k : Vec ℕ Global) (s : ℕ) → s < 64 → count_of self.new k.items s ≡ count_of self.old k.items s) }
+        ensures counted { OnOk result (CountsRiseBy (added keys.now bits) (count_of self.old) (count_of self.new)) }
+        ensures failed { OnErr result (CountsStay (count_of self.old) (count_of self.new)) }
     {
         if bits == 0 {
             return Ok(());
@@ -117,7 +119,7 @@ impl ShardCounts {
 
     /// Takes back what was counted of the shards of these bits under each of these keys. It takes no memory.
     pub fn remove(&mut self, keys: &[Key], bits: u64)
-        ensures { (k : Vec ℕ Global) (s : ℕ) → s < 64 → count_of self.new k.items s ≡ count_of self.old k.items s - added keys.now bits k.items s }
+        ensures { CountsFallBy (added keys.now bits) (count_of self.old) (count_of self.new) }
     {
         if bits == 0 {
             return;

@@ -59,7 +59,8 @@ pub trait ShardTables {
     /// the operation meets nothing there. Want of memory is the one error.
     fn first_step(alloc: Global, held: &Self::Held, op: &Row) -> Result<Option<Found>, AllocError>
         ensures found { (all : List Stored) → AreInHand rows (in_hand held.now) all → IfOk result (λ o. IfSome o (MeetsAtHand all op.now)) }
-        ensures none { (all : List Stored) → AreInHand rows (in_hand held.now) all → IdsTell (rows_at_hand all op.now) → IfOk result (λ o. o ≡ None → MeetsNothing all op.now) };
+        ensures none { (all : List Stored) → AreInHand rows (in_hand held.now) all → IdsTell (rows_at_hand all op.now) →
+            IfOk result (λ o. o ≡ None → MeetsNothing all op.now) };
 
     /// Takes the rows with these ids out of the shards in hand. It takes no memory.
     fn take_out(held: &mut Self::Held, gone: &[Digest])
@@ -72,5 +73,7 @@ pub trait ShardTables {
 
     /// The rows of the store of these 64 shards, each once. Want of memory is the one error.
     fn rows_of(alloc: Global, shards: Vec<Self::Shard>) -> Result<Vec<Row>, AllocError>
-        ensures { (store : List Stored) → IdsDiffer store → length shards.items ≡ 64 → AreShardsOf rows store shards.items → ((r : Stored) → Among r store → channels r.part ≢ []) → IfOk result (λ v. IsPermutation v.items store) };
+        ensures { (store : List Stored) → IdsDiffer store → length shards.items ≡ 64 →
+            AreShardsOf rows store shards.items → ((r : Stored) → Among r store → channels r.part ≢ []) →
+            IfOk result (λ v. IsPermutation v.items store) };
 }

@@ -34,7 +34,8 @@ fn read_process(alloc: Global, text: &[u8]) -> Result<Proc, SourceFault>
 /// The normal term of a process that a text spells.
 fn read_term(alloc: Global, process: &Proc) -> Result<Term, SourceFault>
     ensures term { (text : List ℕ) → IsSpelt text (proc_written process.now) → IfOk result (IsSourceOf text) }
-    ensures refused { (text : List ℕ) → IsSpelt text (proc_written process.now) → IfErr result (λ e. IfSome (refusal_of e) (IsRefused text)) }
+    ensures refused { (text : List ℕ) → IsSpelt text (proc_written process.now) →
+        IfErr result (λ e. IfSome (refusal_of e) (IsRefused text)) }
 {
     match normalize(alloc, process) {
         Ok(term) => Ok(term),

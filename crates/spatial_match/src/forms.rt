@@ -153,7 +153,8 @@ fn find_map(
     requires tries { AllTries (map pair_tree pats.now) }
     requires ready { Ready term (only (part_tree target.now)) }
     requires order { IsOrdered (part_tree target.now) }
-    ensures { IfOk result (λ o. IsFirst (found (two map_pattern (many row (map pair_tree pats.now)) (leaf (rest remainder))) (part_tree target.now)) o) }
+    ensures { IfOk result (λ o. IsFirst (found (two map_pattern (many row (map pair_tree pats.now))
+        (leaf (rest remainder))) (part_tree target.now)) o) }
 {
     let none: [usize; 0] = [];
     match target {

@@ -32,7 +32,8 @@ pub(crate) fn find_members(
     requires tries { AllTries pats.now }
     requires ready { AllReady term terms.now }
     requires ordered { IsAscending (codes (trees terms.now)) }
-    ensures { IfOk result (λ o. IsFirstMembers rest (λ vs. only (many set vs)) (ways (drop i (tried_pats pats.now)) (left_from 0 used.now terms.now)) o) }
+    ensures { IfOk result (λ o. IsFirstMembers rest (λ vs. only (many set vs))
+        (ways (drop i (tried_pats pats.now)) (left_from 0 used.now terms.now)) o) }
 {
     if i >= pats.len() {
         return rest_members(alloc, rest, terms, used);
@@ -61,11 +62,13 @@ fn try_member(
 ) -> Result<Option<Vec<Term>>, AllocError>
     requires within { i < length pats.now }
     requires target_within { j < length terms.now }
-    requires failed { FailedBefore (may_rest rest) (member_at i (tried_pats pats.now)) (drop (i + 1) (tried_pats pats.now)) used.now terms.now j }
+    requires failed { FailedBefore (may_rest rest) (member_at i (tried_pats pats.now))
+        (drop (i + 1) (tried_pats pats.now)) used.now terms.now j }
     requires tries { AllTries pats.now }
     requires ready { AllReady term terms.now }
     requires ordered { IsAscending (codes (trees terms.now)) }
-    ensures { IfOk result (λ o. IsFirstMembers rest (λ vs. only (many set vs)) (at_place (member_at i (tried_pats pats.now)) (drop (i + 1) (tried_pats pats.now)) used.now terms.now j) o) }
+    ensures { IfOk result (λ o. IsFirstMembers rest (λ vs. only (many set vs))
+        (at_place (member_at i (tried_pats pats.now)) (drop (i + 1) (tried_pats pats.now)) used.now terms.now j) o) }
 {
     if !is_free(used, j) {
         return Ok(None);

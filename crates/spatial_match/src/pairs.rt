@@ -33,7 +33,8 @@ pub(crate) fn find_pairs(
     requires tries { AllTries (map pair_tree pats.now) }
     requires ready { AllReady (pair_of term) (map pair_tree pairs.now) }
     requires ordered { IsAscending (codes (trees (map pair_tree pairs.now))) }
-    ensures { IfOk result (λ o. IsFirstMembers rest (λ vs. only (many dict vs)) (ways (drop i (tried_pairs pats.now)) (left_from 0 used.now (map pair_tree pairs.now))) o) }
+    ensures { IfOk result (λ o. IsFirstMembers rest (λ vs. only (many dict vs))
+        (ways (drop i (tried_pairs pats.now)) (left_from 0 used.now (map pair_tree pairs.now))) o) }
 {
     if i >= pats.len() {
         return rest_pairs(alloc, rest, pairs, used);
@@ -61,11 +62,14 @@ fn try_pair(
 ) -> Result<Option<Vec<Term>>, AllocError>
     requires within { i < length pats.now }
     requires target_within { j < length pairs.now }
-    requires failed { FailedBefore (may_rest rest) (member_at i (tried_pairs pats.now)) (drop (i + 1) (tried_pairs pats.now)) used.now (map pair_tree pairs.now) j }
+    requires failed { FailedBefore (may_rest rest) (member_at i (tried_pairs pats.now))
+        (drop (i + 1) (tried_pairs pats.now)) used.now (map pair_tree pairs.now) j }
     requires tries { AllTries (map pair_tree pats.now) }
     requires ready { AllReady (pair_of term) (map pair_tree pairs.now) }
     requires ordered { IsAscending (codes (trees (map pair_tree pairs.now))) }
-    ensures { IfOk result (λ o. IsFirstMembers rest (λ vs. only (many dict vs)) (at_place (member_at i (tried_pairs pats.now)) (drop (i + 1) (tried_pairs pats.now)) used.now (map pair_tree pairs.now) j) o) }
+    ensures { IfOk result (λ o. IsFirstMembers rest (λ vs. only (many dict vs))
+        (at_place (member_at i (tried_pairs pats.now)) (drop (i + 1) (tried_pairs pats.now)) used.now
+        (map pair_tree pairs.now) j) o) }
 {
     if !is_free(used, j) {
         return Ok(None);
@@ -94,7 +98,8 @@ fn rest_pairs(
 ) -> Result<Option<Vec<Term>>, AllocError>
     requires ready { AllReady (pair_of term) (map pair_tree pairs.now) }
     requires ordered { IsAscending (codes (trees (map pair_tree pairs.now))) }
-    ensures { IfOk result (λ o. IsFirstMembers rest (λ vs. only (many dict vs)) (ways [] (left_from 0 used.now (map pair_tree pairs.now))) o) }
+    ensures { IfOk result (λ o. IsFirstMembers rest (λ vs. only (many dict vs))
+        (ways [] (left_from 0 used.now (map pair_tree pairs.now))) o) }
 {
     match rest {
         TermRest::No => Ok(found_if(alloc, is_spent(pairs.len(), used))),

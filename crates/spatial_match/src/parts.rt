@@ -71,7 +71,8 @@ fn find_parts(
     requires normal { AreNormal (trees (map pat_part_tree pats.now)) }
     requires one_wide { AtMostOne (tried pats.now) }
     requires ready { Ready term target.now }
-    ensures { IfOk result (λ o. IsFirstWay (tried pats.now) (drop i (tried pats.now)) (ways (drop i (tried pats.now)) (left_from 0 used.now (held target.now))) o) }
+    ensures { IfOk result (λ o. IsFirstWay (tried pats.now) (drop i (tried pats.now))
+        (ways (drop i (tried pats.now)) (left_from 0 used.now (held target.now))) o) }
 {
     if i >= pats.len() {
         return find_end(alloc, pats, target, used);
@@ -103,7 +104,8 @@ fn find_around(
     requires normal { AreNormal (trees (map pat_part_tree pats.now)) }
     requires one_wide { AtMostOne (tried pats.now) }
     requires ready { Ready term target.now }
-    ensures { IfOk result (λ o. IsFirstWay (tried pats.now) (drop i (tried pats.now)) (ways (drop i (tried pats.now)) (left_from 0 used.now (held target.now))) o) }
+    ensures { IfOk result (λ o. IsFirstWay (tried pats.now) (drop i (tried pats.now))
+        (ways (drop i (tried pats.now)) (left_from 0 used.now (held target.now))) o) }
 {
     match find_parts(alloc, pats, i + 1, target, used)? {
         None => Ok(None),
@@ -125,12 +127,14 @@ fn try_part(
     requires within { i < length pats.now }
     requires thin { (member_at i (tried pats.now)).wide ≡ false }
     requires target_within { j < length (held target.now) }
-    requires failed { FailedBefore (may_leave (tried pats.now)) (member_at i (tried pats.now)) (drop (i + 1) (tried pats.now)) used.now (held target.now) j }
+    requires failed { FailedBefore (may_leave (tried pats.now)) (member_at i (tried pats.now))
+        (drop (i + 1) (tried pats.now)) used.now (held target.now) j }
     requires tries { PartsTry pats.now }
     requires normal { AreNormal (trees (map pat_part_tree pats.now)) }
     requires one_wide { AtMostOne (tried pats.now) }
     requires ready { Ready term target.now }
-    ensures { IfOk result (λ o. IsFirstWay (tried pats.now) (drop i (tried pats.now)) (at_place (member_at i (tried pats.now)) (drop (i + 1) (tried pats.now)) used.now (held target.now) j) o) }
+    ensures { IfOk result (λ o. IsFirstWay (tried pats.now) (drop i (tried pats.now))
+        (at_place (member_at i (tried pats.now)) (drop (i + 1) (tried pats.now)) used.now (held target.now) j) o) }
 {
     if !is_free(used, j) {
         return Ok(None);
@@ -212,7 +216,8 @@ fn find_both(
     requires left { Tries left.now }
     requires right { Tries right.now }
     requires ready { Ready term target.now }
-    ensures { IfOk result (λ o. IsFirst (both_of (found left.now (remaining used.now target.now)) (found right.now (remaining used.now target.now))) o) }
+    ensures { IfOk result (λ o. IsFirst (both_of (found left.now (remaining used.now target.now))
+        (found right.now (remaining used.now target.now))) o) }
 {
     match find_pat(alloc, left, target, used)? {
         None => Ok(None),
@@ -234,7 +239,8 @@ fn find_either(
     requires left { Tries left.now }
     requires right { Tries right.now }
     requires ready { Ready term target.now }
-    ensures { IfOk result (λ o. IsFirst (one_if (some_match (found left.now (remaining used.now target.now)) || some_match (found right.now (remaining used.now target.now)))) o) }
+    ensures { IfOk result (λ o. IsFirst (one_if (some_match (found left.now (remaining used.now target.now)) ||
+        some_match (found right.now (remaining used.now target.now)))) o) }
 {
     if find_pat(alloc, left, target, used)?.is_some() {
         return Ok(found_if(alloc, true));

@@ -65,7 +65,8 @@ impl<'a> RowsRead<'a> {
         ensures adds { IfOk result (λ others. Adds self.old.rows.items self.new.rows.items left.now others.now) }
         ensures tells { IfErr result (λ e. IsOfRows e) }
         ensures cut { (at : ℕ) → result ≡ Err (Short at) → (at ≡ whole) × IsCutThere left.now }
-        ensures wrong { (at : ℕ) → result ≡ Err (NotCanonical at) → length left.now < 2 ^ 32 → length left.now ≤ whole → (at + length left.now ≡ whole) × IsNoNextRow self.old.rows.items left.now }
+        ensures wrong { (at : ℕ) → result ≡ Err (NotCanonical at) → length left.now < 2 ^ 32 → length left.now ≤ whole →
+            (at + length left.now ≡ whole) × IsNoNextRow self.old.rows.items left.now }
     {
         let at = whole.saturating_sub(left.len());
         match read_front(alloc, left) {
@@ -154,7 +155,8 @@ pub(crate) fn take_rows<'a>(
     ensures is { IfOk result (λ p. bytes.now ≡ joined (map code_of_row p.0.items) ++ p.2.now) }
     ensures tells { IfErr result (λ e. IsOfRows e) }
     ensures cut { (at : ℕ) → result ≡ Err (Short at) → (at ≡ whole) × AreCut number bytes.now }
-    ensures wrong { (at : ℕ) → result ≡ Err (NotCanonical at) → length bytes.now < 2 ^ 32 → length bytes.now ≤ whole → AreWrong whole at number bytes.now }
+    ensures wrong { (at : ℕ) → result ≡ Err (NotCanonical at) → length bytes.now < 2 ^ 32 → length bytes.now ≤ whole →
+        AreWrong whole at number bytes.now }
 {
     let mut read = RowsRead {
         rows: list_for_rows(alloc, number, bytes),

@@ -22,7 +22,8 @@ use std::alloc::{AllocError, Global};
 
 // The least step that these rows and the built-in receivers allow, and None where they allow none.
 fn least_step(alloc: Global, rows: &[Row]) -> Result<Option<LeastStep>, AllocError>
-    ensures { differ (first_ids rows.now) ≡ true → IfOk result (λ o. MatchOption o (AllowNoStep rows.now) (λ s. IsLeastOf rows.now s.cont.0 (map (λ d. d.0) s.taken.items))) }
+    ensures { differ (first_ids rows.now) ≡ true → IfOk result
+        (λ o. MatchOption o (AllowNoStep rows.now) (λ s. IsLeastOf rows.now s.cont.0 (map (λ d. d.0) s.taken.items))) }
 {
     first_reducible(alloc, rows)
 }

@@ -47,7 +47,9 @@ fn settle(
 ) -> Result<Worked, AllocError>
     requires cap { cap < 2 ^ 64 - 1 }
     requires storable { MatchResult unfolded (λ p. All (λ o. IsStorable (row_of_op o)) p.value.items) (λ _. ⊤) }
-    ensures { MatchResult unfolded (λ p. IfOk result (λ w. (w.price ≡ p.price) × (w.offers.items ≡ map row_of_op p.value.items) × (w.fault ≡ None))) (λ stop. IfOk result (HasStopped cap stop)) }
+    ensures { MatchResult unfolded (λ p. IfOk result (λ w. (w.price ≡ p.price) ×
+        (w.offers.items ≡ map row_of_op p.value.items) × (w.fault ≡ None)))
+        (λ stop. IfOk result (HasStopped cap stop)) }
 {
     match unfolded {
         Ok(priced) => Ok(Worked {

@@ -1,9 +1,8 @@
 //! The patterns of processes and of names that the productions make of their constituents.
-ghost use Rattle.calculus.specs.Meaning.{ground_label, name_pat_written, pat_written, proc_written, rest_written, row_of};
-ghost use Rattle.grammar.specs.Values.{any_of, binder_of, type_of, both_of, bound_of, bundle_of, closed_of, either_of, ground_of, left_of, list_pattern_of, map_pattern_of, no_parts, not_of, par_of, patterns, quoted_of, same_of, send_of, seq_of, set_pattern_of, spelt, tuple_of};
-ghost use Rattle.grammar.specs.declared.fault.Fault.TheVariants.{NoMemory};
-ghost use Rattle.syntax_forms.specs.Forms.{left_written, pat_pairs_written, sequence_written};
-ghost use Rattle.std.specs.Prelude.{◌≡◌, ◌+◌, ◌<◌, ◌-◌, ◌^◌, [], IfOk, MatchResult, map, max, string_bytes};
+ghost use Rattle.calculus.specs.Meaning.{ground_label, name_pat_written, pat_written, proc_written, rest_written};
+ghost use Rattle.grammar.specs.Values.{any_of, binder_of, type_of, both_of, bound_of, bundle_of, closed_of, either_of, ground_of, left_of, list_pattern_of, map_pattern_of, no_parts, not_of, par_of, patterns, quoted_of, same_of, send_of, seq_of, set_pattern_of, tuple_of};
+ghost use Rattle.syntax_forms.specs.Forms.{HasTree, left_written, of_proc, pat_pairs_written, pat_row_written, sequence_written};
+ghost use Rattle.std.specs.Prelude.{◌≡◌, ◌+◌, ◌<◌, ◌-◌, ◌^◌, [], IfOk, map, max, string_bytes};
 
 use crate::part::{Left, Part, Sequence};
 use crate::parts;
@@ -35,7 +34,7 @@ pub fn composed_pat(mut parts: Part<Vec<Pat>>) -> Part<Pat>
 pub fn tuple_pat(first: Part<Pat>, row: Part<Vec<Pat>>) -> Result<Part<Pat>, Fault>
     requires first { first.height + 1 < 2 ^ 32 }
     requires row { row.height + 1 < 2 ^ 32 }
-    ensures tree { MatchResult result (λ p. pat_written p.value ≡ tuple_of patterns (pat_written first.value) (row_of (map pat_written row.value.items))) (λ e. e ≡ NoMemory) }
+    ensures tree { HasTree pat_written result (tuple_of patterns (pat_written first.value) (pat_row_written row.value)) }
     ensures height { IfOk result (λ p. p.height ≡ max first.height row.height + 1) }
 {
     let height = first.height.max(row.height) + 1;
@@ -50,7 +49,7 @@ pub fn tuple_pat(first: Part<Pat>, row: Part<Vec<Pat>>) -> Result<Part<Pat>, Fau
 /// A bundle in a pattern.
 pub fn bundle_pat(alloc: Global, rights: Rights, body: Part<Pat>) -> Result<Part<Pat>, Fault>
     requires body { body.height + 1 < 2 ^ 32 }
-    ensures tree { MatchResult result (λ p. pat_written p.value ≡ bundle_of patterns rights (pat_written body.value)) (λ e. e ≡ NoMemory) }
+    ensures tree { HasTree pat_written result (bundle_of patterns rights (pat_written body.value)) }
     ensures height { IfOk result (λ p. p.height ≡ body.height + 1) }
 {
     let height = body.height + 1;
@@ -64,7 +63,7 @@ pub fn bundle_pat(alloc: Global, rights: Rights, body: Part<Pat>) -> Result<Part
 /// `={P}`
 pub fn same(alloc: Global, body: Part<Proc>) -> Result<Part<Pat>, Fault>
     requires body { body.height + 1 < 2 ^ 32 }
-    ensures tree { MatchResult result (λ p. pat_written p.value ≡ same_of (proc_written body.value)) (λ e. e ≡ NoMemory) }
+    ensures tree { HasTree pat_written result (same_of (proc_written body.value)) }
     ensures height { IfOk result (λ p. p.height ≡ body.height + 1) }
 {
     let height = body.height + 1;
@@ -78,7 +77,7 @@ pub fn same(alloc: Global, body: Part<Proc>) -> Result<Part<Pat>, Fault>
 /// A negated pattern.
 pub fn not_pat(alloc: Global, arg: Part<Pat>) -> Result<Part<Pat>, Fault>
     requires arg { arg.height + 1 < 2 ^ 32 }
-    ensures tree { MatchResult result (λ p. pat_written p.value ≡ not_of (pat_written arg.value)) (λ e. e ≡ NoMemory) }
+    ensures tree { HasTree pat_written result (not_of (pat_written arg.value)) }
     ensures height { IfOk result (λ p. p.height ≡ arg.height + 1) }
 {
     let height = arg.height + 1;
@@ -93,7 +92,7 @@ pub fn not_pat(alloc: Global, arg: Part<Pat>) -> Result<Part<Pat>, Fault>
 pub fn either(alloc: Global, left: Part<Pat>, right: Part<Pat>) -> Result<Part<Pat>, Fault>
     requires left { left.height + 1 < 2 ^ 32 }
     requires right { right.height + 1 < 2 ^ 32 }
-    ensures tree { MatchResult result (λ p. pat_written p.value ≡ either_of (pat_written left.value) (pat_written right.value)) (λ e. e ≡ NoMemory) }
+    ensures tree { HasTree pat_written result (either_of (pat_written left.value) (pat_written right.value)) }
     ensures height { IfOk result (λ p. p.height ≡ max left.height right.height + 1) }
 {
     let height = left.height.max(right.height) + 1;
@@ -108,7 +107,7 @@ pub fn either(alloc: Global, left: Part<Pat>, right: Part<Pat>) -> Result<Part<P
 pub fn both(alloc: Global, left: Part<Pat>, right: Part<Pat>) -> Result<Part<Pat>, Fault>
     requires left { left.height + 1 < 2 ^ 32 }
     requires right { right.height + 1 < 2 ^ 32 }
-    ensures tree { MatchResult result (λ p. pat_written p.value ≡ both_of (pat_written left.value) (pat_written right.value)) (λ e. e ≡ NoMemory) }
+    ensures tree { HasTree pat_written result (both_of (pat_written left.value) (pat_written right.value)) }
     ensures height { IfOk result (λ p. p.height ≡ max left.height right.height + 1) }
 {
     let height = left.height.max(right.height) + 1;
@@ -134,7 +133,7 @@ pub fn ground_pat(value: Ground) -> Part<Pat>
 pub fn send_pat(channel: Part<NamePat>, args: Part<Vec<Pat>>, persistent: bool) -> Part<Pat>
     requires channel { channel.height + 1 < 2 ^ 32 }
     requires args { args.height + 1 < 2 ^ 32 }
-    ensures tree { pat_written result.value ≡ send_of patterns persistent (name_pat_written channel.value) (row_of (map pat_written args.value.items)) }
+    ensures tree { pat_written result.value ≡ send_of patterns persistent (name_pat_written channel.value) (pat_row_written args.value) }
     ensures height { result.height ≡ max channel.height args.height + 1 }
 {
     Part {
@@ -208,7 +207,7 @@ pub fn no_pats(alloc: Global) -> Part<Vec<Pat>>
 
 /// A quoted pattern.
 pub fn quote_pat(alloc: Global, quoted: Part<Pat>) -> Result<Part<NamePat>, Fault>
-    ensures tree { MatchResult result (λ p. name_pat_written p.value ≡ quoted_of (pat_written quoted.value)) (λ e. e ≡ NoMemory) }
+    ensures tree { HasTree name_pat_written result (quoted_of (pat_written quoted.value)) }
     ensures height { IfOk result (λ p. p.height ≡ quoted.height) }
 {
     let value = Box::new(alloc, quoted.value)?;
@@ -220,7 +219,7 @@ pub fn quote_pat(alloc: Global, quoted: Part<Pat>) -> Result<Part<NamePat>, Faul
 
 /// A closed form in a pattern.
 pub fn closed(alloc: Global, form: Part<Proc>) -> Result<Part<Pat>, Fault>
-    ensures tree { MatchResult result (λ p. pat_written p.value ≡ (closed_of (spelt (proc_written form.value) form.height)).tree) (λ e. e ≡ NoMemory) }
+    ensures tree { HasTree pat_written result (closed_of (of_proc form)).tree }
     ensures height { IfOk result (λ p. p.height ≡ form.height) }
 {
     let value = Box::new(alloc, form.value)?;

@@ -1,9 +1,9 @@
 //! The processes, names, binds, cases and declarations that the productions make of their constituents.
-ghost use Rattle.calculus.specs.Meaning.{bind_written, case_written, declared, ground_label, name_written, pat_written, proc_written, row_of};
+ghost use Rattle.calculus.specs.Meaning.{bind_written, case_written, declared, ground_label, name_written, pat_written, proc_written};
 ghost use Rattle.calculus.specs.Tree.{int};
-ghost use Rattle.grammar.specs.Values.{name_of, bind_of, bundle_of, case_of, contract_of, drop_of, ground_of, if_of, list_of, map_of, match_of, method_of, new_of, nil, operation, par_of, processes, quote_of, receive_of, send_of, set_of, spelt, tuple_of, unary_of, variable_of};
+ghost use Rattle.grammar.specs.Values.{name_of, bind_of, bundle_of, case_of, contract_of, drop_of, ground_of, if_of, list_of, map_of, match_of, method_of, new_of, nil, operation, par_of, processes, quote_of, receive_of, send_of, set_of, tuple_of, unary_of, variable_of};
 ghost use Rattle.grammar.specs.declared.fault.Fault.TheVariants.{NoMemory};
-ghost use Rattle.syntax_forms.specs.Forms.{left_written, pairs_written};
+ghost use Rattle.syntax_forms.specs.Forms.{HasTree, left_written, of_left, of_name, of_proc, pairs_written, row_written};
 ghost use Rattle.std.specs.Prelude.{◌≡◌, ◌+◌, ◌<◌, ◌≤◌, ◌-◌, ◌^◌, pos, neg_ℤ, ◌∷◌, ◌++◌, [], IfOk, MatchResult, map, max, string_bytes, true, false};
 
 use crate::part::{Left, Part};
@@ -36,7 +36,7 @@ pub fn composed(mut parts: Part<Vec<Proc>>) -> Part<Proc>
 pub fn tuple(first: Part<Proc>, row: Part<Vec<Proc>>) -> Result<Part<Proc>, Fault>
     requires first { first.height + 1 < 2 ^ 32 }
     requires row { row.height + 1 < 2 ^ 32 }
-    ensures tree { MatchResult result (λ p. proc_written p.value ≡ tuple_of processes (proc_written first.value) (row_of (map proc_written row.value.items))) (λ e. e ≡ NoMemory) }
+    ensures tree { HasTree proc_written result (tuple_of processes (proc_written first.value) (row_written row.value)) }
     ensures height { IfOk result (λ p. p.height ≡ max first.height row.height + 1) }
 {
     let height = first.height.max(row.height) + 1;
@@ -51,7 +51,7 @@ pub fn tuple(first: Part<Proc>, row: Part<Vec<Proc>>) -> Result<Part<Proc>, Faul
 /// `new` of these names.
 pub fn new_process(alloc: Global, names: Vec<Decl>, body: Part<Proc>) -> Result<Part<Proc>, Fault>
     requires body { body.height + 1 < 2 ^ 32 }
-    ensures tree { MatchResult result (λ p. proc_written p.value ≡ new_of (map declared names.items) (proc_written body.value)) (λ e. e ≡ NoMemory) }
+    ensures tree { HasTree proc_written result (new_of (map declared names.items) (proc_written body.value)) }
     ensures height { IfOk result (λ p. p.height ≡ body.height + 1) }
 {
     let height = body.height + 1;
@@ -71,7 +71,7 @@ pub fn receive(
 ) -> Result<Part<Proc>, Fault>
     requires binds { binds.height + 1 < 2 ^ 32 }
     requires body { body.height + 1 < 2 ^ 32 }
-    ensures tree { MatchResult result (λ p. proc_written p.value ≡ receive_of kind (map bind_written binds.value.items) (proc_written body.value)) (λ e. e ≡ NoMemory) }
+    ensures tree { HasTree proc_written result (receive_of kind (map bind_written binds.value.items) (proc_written body.value)) }
     ensures height { IfOk result (λ p. p.height ≡ max binds.height body.height + 1) }
 {
     let height = binds.height.max(body.height) + 1;
@@ -96,7 +96,7 @@ pub fn contract(
     requires name { name.height + 1 < 2 ^ 32 }
     requires left { left.height + 1 < 2 ^ 32 }
     requires body { body.height + 1 < 2 ^ 32 }
-    ensures tree { MatchResult result (λ p. proc_written p.value ≡ contract_of (name_written name.value) (left_written left.value) (proc_written body.value)) (λ e. e ≡ NoMemory) }
+    ensures tree { HasTree proc_written result (contract_of (name_written name.value) (left_written left.value) (proc_written body.value)) }
     ensures height { IfOk result (λ p. p.height ≡ max (max name.height left.height) body.height + 1) }
 {
     let height = name.height.max(left.height).max(body.height) + 1;
@@ -123,7 +123,7 @@ pub fn contract(
 /// A bundle.
 pub fn bundle(alloc: Global, rights: Rights, body: Part<Proc>) -> Result<Part<Proc>, Fault>
     requires body { body.height + 1 < 2 ^ 32 }
-    ensures tree { MatchResult result (λ p. proc_written p.value ≡ bundle_of processes rights (proc_written body.value)) (λ e. e ≡ NoMemory) }
+    ensures tree { HasTree proc_written result (bundle_of processes rights (proc_written body.value)) }
     ensures height { IfOk result (λ p. p.height ≡ body.height + 1) }
 {
     let height = body.height + 1;
@@ -137,7 +137,7 @@ pub fn bundle(alloc: Global, rights: Rights, body: Part<Proc>) -> Result<Part<Pr
 /// A `match`, where this is the greatest height of its constituents.
 pub fn matches(alloc: Global, target: Proc, cases: Part<Vec<Case>>) -> Result<Part<Proc>, Fault>
     requires { cases.height + 1 < 2 ^ 32 }
-    ensures tree { MatchResult result (λ p. proc_written p.value ≡ match_of (proc_written target) (map case_written cases.value.items)) (λ e. e ≡ NoMemory) }
+    ensures tree { HasTree proc_written result (match_of (proc_written target) (map case_written cases.value.items)) }
     ensures height { IfOk result (λ p. p.height ≡ cases.height + 1) }
 {
     let target = Box::new(alloc, target)?;
@@ -160,7 +160,7 @@ pub fn choice(
     requires condition { condition.height + 1 < 2 ^ 32 }
     requires yes { yes.height + 1 < 2 ^ 32 }
     requires no { no.height + 1 < 2 ^ 32 }
-    ensures tree { MatchResult result (λ p. proc_written p.value ≡ if_of (proc_written condition.value) (proc_written yes.value) (proc_written no.value)) (λ e. e ≡ NoMemory) }
+    ensures tree { HasTree proc_written result (if_of (proc_written condition.value) (proc_written yes.value) (proc_written no.value)) }
     ensures height { IfOk result (λ p. p.height ≡ max (max condition.height yes.height) no.height + 1) }
 {
     let height = condition.height.max(yes.height).max(no.height) + 1;
@@ -192,7 +192,7 @@ pub fn operation(
 ) -> Result<Part<Proc>, Fault>
     requires left { left.height + 1 < 2 ^ 32 }
     requires right { right.height + 1 < 2 ^ 32 }
-    ensures tree { MatchResult result (λ p. proc_written p.value ≡ (operation op (spelt (proc_written left.value) left.height) (spelt (proc_written right.value) right.height)).tree) (λ e. e ≡ NoMemory) }
+    ensures tree { HasTree proc_written result (operation op (of_proc left) (of_proc right)).tree }
     ensures height { IfOk result (λ p. p.height ≡ max left.height right.height + 1) }
 {
     let height = left.height.max(right.height) + 1;
@@ -206,7 +206,7 @@ pub fn operation(
 /// An operator before its operand.
 pub fn unary(alloc: Global, op: UnaryOp, arg: Part<Proc>) -> Result<Part<Proc>, Fault>
     requires arg { arg.height + 1 < 2 ^ 32 }
-    ensures tree { MatchResult result (λ p. proc_written p.value ≡ unary_of op (proc_written arg.value)) (λ e. e ≡ NoMemory) }
+    ensures tree { HasTree proc_written result (unary_of op (proc_written arg.value)) }
     ensures height { IfOk result (λ p. p.height ≡ arg.height + 1) }
 {
     let height = arg.height + 1;
@@ -226,7 +226,7 @@ pub fn method(
 ) -> Result<Part<Proc>, Fault>
     requires target { target.height + 1 < 2 ^ 32 }
     requires args { args.height + 1 < 2 ^ 32 }
-    ensures tree { MatchResult result (λ p. proc_written p.value ≡ method_of (string_bytes name) (proc_written target.value) (row_of (map proc_written args.value.items))) (λ e. e ≡ NoMemory) }
+    ensures tree { HasTree proc_written result (method_of (string_bytes name) (proc_written target.value) (row_written args.value)) }
     ensures height { IfOk result (λ p. p.height ≡ max target.height args.height + 1) }
 {
     let height = target.height.max(args.height) + 1;
@@ -267,7 +267,7 @@ pub fn ground(value: Ground) -> Part<Proc>
 pub fn send(channel: Part<Name>, args: Part<Vec<Proc>>, persistent: bool) -> Part<Proc>
     requires channel { channel.height + 1 < 2 ^ 32 }
     requires args { args.height + 1 < 2 ^ 32 }
-    ensures tree { proc_written result.value ≡ send_of processes persistent (name_written channel.value) (row_of (map proc_written args.value.items)) }
+    ensures tree { proc_written result.value ≡ send_of processes persistent (name_written channel.value) (row_written args.value) }
     ensures height { result.height ≡ max channel.height args.height + 1 }
 {
     Part {
@@ -283,7 +283,7 @@ pub fn send(channel: Part<Name>, args: Part<Vec<Proc>>, persistent: bool) -> Par
 /// A list.
 pub fn list(row: Part<Vec<Proc>>) -> Part<Proc>
     requires row { row.height + 1 < 2 ^ 32 }
-    ensures tree { proc_written result.value ≡ list_of (row_of (map proc_written row.value.items)) }
+    ensures tree { proc_written result.value ≡ list_of (row_written row.value) }
     ensures height { result.height ≡ row.height + 1 }
 {
     Part {
@@ -295,7 +295,7 @@ pub fn list(row: Part<Vec<Proc>>) -> Part<Proc>
 /// A set.
 pub fn set(row: Part<Vec<Proc>>) -> Part<Proc>
     requires row { row.height + 1 < 2 ^ 32 }
-    ensures tree { proc_written result.value ≡ set_of (row_of (map proc_written row.value.items)) }
+    ensures tree { proc_written result.value ≡ set_of (row_written row.value) }
     ensures height { result.height ≡ row.height + 1 }
 {
     Part {
@@ -329,7 +329,7 @@ pub fn dropped(name: Part<Name>) -> Part<Proc>
 
 /// A bind.
 pub fn bind(left: Part<Left>, channel: Part<Name>) -> Part<Bind>
-    ensures tree { bind_written result.value ≡ (bind_of (spelt (left_written left.value) left.height) (spelt (name_written channel.value) channel.height)).tree }
+    ensures tree { bind_written result.value ≡ (bind_of (of_left left) (of_name channel)).tree }
     ensures height { result.height ≡ max left.height channel.height }
 {
     Part {
@@ -367,7 +367,7 @@ pub fn no_members(alloc: Global) -> Part<Vec<Proc>>
 
 /// A quoted process.
 pub fn quote(alloc: Global, quoted: Part<Proc>) -> Result<Part<Name>, Fault>
-    ensures tree { MatchResult result (λ p. name_written p.value ≡ quote_of (proc_written quoted.value)) (λ e. e ≡ NoMemory) }
+    ensures tree { HasTree name_written result (quote_of (proc_written quoted.value)) }
     ensures height { IfOk result (λ p. p.height ≡ quoted.height) }
 {
     let value = Box::new(alloc, quoted.value)?;
@@ -467,7 +467,7 @@ pub fn no_names(alloc: Global) -> Vec<Decl>
 pub fn if_only(alloc: Global, condition: Part<Proc>, yes: Part<Proc>) -> Result<Part<Proc>, Fault>
     requires condition { condition.height + 1 < 2 ^ 32 }
     requires yes { yes.height + 1 < 2 ^ 32 }
-    ensures tree { MatchResult result (λ p. proc_written p.value ≡ if_of (proc_written condition.value) (proc_written yes.value) nil) (λ e. e ≡ NoMemory) }
+    ensures tree { HasTree proc_written result (if_of (proc_written condition.value) (proc_written yes.value) nil) }
     ensures height { IfOk result (λ p. p.height ≡ max condition.height yes.height + 1) }
 {
     let no = nil(alloc);

@@ -60,7 +60,9 @@ fn receiver(
     pats: Vec<TermPat>,
     body: Term,
 ) -> Result<Op, AllocError>
-    ensures { IfOk result (λ receiver. row_of_op receiver ≡ built_in (digest_of (System number)) (three bind channel (many row pats.items) (leaf (rest TermRest.No))) body) }
+    ensures { IfOk result (λ receiver. row_of_op receiver ≡
+        built_in (digest_of (System number)) (three bind channel (many row pats.items) (leaf (rest TermRest.No)))
+        body) }
 {
     let mut binds = Vec::new(alloc);
     binds.push(TermBind {

@@ -1,5 +1,5 @@
-//! Answers the lines of tables. Each line of the input is a kind and its fields, and the output is the same line with the answer behind
-//! it.
+//! Answers the lines of tables, and then tells what two workers at a gate and the examples came to. Each line of the input is a kind
+//! and its fields, and the output is the same line with the answer behind it.
 #![tactic(auto)]
 
 mod kinds;
@@ -28,5 +28,10 @@ fn main(rt: HostRuntime) -> anyhow::Result<()> {
     answer_lines(
         &rt,
         &|word: &str, fields: &str| answer(&rt, rt.alloc(), word, fields),
-    )
+    )?;
+    let workers = gate_runs::told(&rt, rt.alloc())?;
+    print!(rt; "{workers}")?;
+    let examples = example_runs::told(&rt, rt.alloc())?;
+    print!(rt; "{examples}")?;
+    Ok(())
 }

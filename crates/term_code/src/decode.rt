@@ -105,11 +105,13 @@ pub fn read_terms(
     scope: &Vec<Sense>,
     room: u32,
 ) -> Result<Vec<Term>, ReadFault>
-    ensures reads { IfOk result (λ ts. Reads (row_of term) (scope_of scope.now.items) room (many row ts.items) reader.old.input.now reader.new.input.now) }
+    ensures reads { IfOk result (λ ts. Reads (row_of term) (scope_of scope.now.items) room (many row ts.items)
+        reader.old.input.now reader.new.input.now) }
     ensures least { IfOk result (λ ts. least ≤ length ts.items) }
     ensures wrong { IfErr result (λ e. Wrong (InRow true term (scope_of scope.now.items) room least 0xFFFFFFFF) e reader.old.input.now) }
     ensures refuses { IfErr result (λ e. RefusesRow true term (scope_of scope.now.items) room least 0xFFFFFFFF e reader.old.input.now) }
-    ensures begun { IfErr result (λ e. HasPlace e → Goes e (BegunRow true term (scope_of scope.now.items) room least 0xFFFFFFFF reader.old.input.now)) }
+    ensures begun { IfErr result (λ e. HasPlace e → Goes e
+        (BegunRow true term (scope_of scope.now.items) room least 0xFFFFFFFF reader.old.input.now)) }
 {
     terms::read_terms(reader, least, scope, room)
 }
@@ -121,11 +123,13 @@ pub fn read_name_pats(
     found: &mut Vec<Sense>,
     room: u32,
 ) -> Result<Vec<TermPat>, ReadFault>
-    ensures reads { IfOk result (λ ts. Reads (row_of name_pat) (scope_of scope.now.items) room (many row ts.items) reader.old.input.now reader.new.input.now) }
+    ensures reads { IfOk result (λ ts. Reads (row_of name_pat) (scope_of scope.now.items) room (many row ts.items)
+        reader.old.input.now reader.new.input.now) }
     ensures bound { IfOk result (λ ts. senses_of found.new.items ≡ senses_of found.old.items ++ bound (many row ts.items)) }
     ensures wrong { IfErr result (λ e. Wrong (InRow true name_pat (scope_of scope.now.items) room 0 0xFFFFFFFF) e reader.old.input.now) }
     ensures refuses { IfErr result (λ e. RefusesRow true name_pat (scope_of scope.now.items) room 0 0xFFFFFFFF e reader.old.input.now) }
-    ensures begun { IfErr result (λ e. HasPlace e → Goes e (BegunRow true name_pat (scope_of scope.now.items) room 0 0xFFFFFFFF reader.old.input.now)) }
+    ensures begun { IfErr result (λ e. HasPlace e → Goes e
+        (BegunRow true name_pat (scope_of scope.now.items) room 0 0xFFFFFFFF reader.old.input.now)) }
 {
     patterns::read_name_pats(reader, scope, found, room)
 }

@@ -74,7 +74,9 @@ pub(crate) fn read_pat(
     found: &mut Vec<Sense>,
     room: u32,
 ) -> Result<TermPat, ReadFault>
-    ensures { Comes result (λ t. ReadsPat binds pat (scope_of scope.now.items) room (senses_of found.old.items) (senses_of found.new.items) reader.old.input.now reader.new.input.now t) (Fails binds pat (scope_of scope.now.items) room reader.old.input.now) }
+    ensures { Comes result (λ t. ReadsPat binds pat (scope_of scope.now.items) room (senses_of found.old.items)
+        (senses_of found.new.items) reader.old.input.now reader.new.input.now t)
+        (Fails binds pat (scope_of scope.now.items) room reader.old.input.now) }
 {
     let count = reader.number(0, 9)?;
     let mut parts = reader.list(count);
@@ -101,7 +103,9 @@ pub(crate) fn read_name_pat(
     found: &mut Vec<Sense>,
     room: u32,
 ) -> Result<TermPat, ReadFault>
-    ensures { Comes result (λ t. ReadsPat binds name_pat (scope_of scope.now.items) room (senses_of found.old.items) (senses_of found.new.items) reader.old.input.now reader.new.input.now t) (Fails binds name_pat (scope_of scope.now.items) room reader.old.input.now) }
+    ensures { Comes result (λ t. ReadsPat binds name_pat (scope_of scope.now.items) room (senses_of found.old.items)
+        (senses_of found.new.items) reader.old.input.now reader.new.input.now t)
+        (Fails binds name_pat (scope_of scope.now.items) room reader.old.input.now) }
 {
     match after_name_variable(binds, reader.input) {
         Some(others) => {
@@ -126,7 +130,9 @@ fn read_pat_part(
     room: u32,
 ) -> Result<PatPart, ReadFault>
     requires { room ≡ 0 → is_pat_form_tag tag ≡ false }
-    ensures { Comes result (λ p. ReadsPatPart binds pat_part (scope_of scope.now.items) room (senses_of found.old.items) (senses_of found.new.items) (tag ∷ reader.old.input.now) reader.new.input.now (pat_part_tree p)) (Fails binds pat_part (scope_of scope.now.items) room (tag ∷ reader.old.input.now)) }
+    ensures { Comes result (λ p. ReadsPatPart binds pat_part (scope_of scope.now.items) room (senses_of found.old.items)
+        (senses_of found.new.items) (tag ∷ reader.old.input.now) reader.new.input.now (pat_part_tree p))
+        (Fails binds pat_part (scope_of scope.now.items) room (tag ∷ reader.old.input.now)) }
 {
     match tag {
         0x50 => {
@@ -165,7 +171,9 @@ fn read_pat_form(
 ) -> Result<PatPart, ReadFault>
     requires form { is_pat_form_tag tag ≡ true }
     requires not_closed { (0x31 ≤ tag) → (tag ≤ 0x33) → ⊥ }
-    ensures { Comes result (λ p. ReadsPatPart binds pat_part (scope_of scope.now.items) (room + 1) (senses_of found.old.items) (senses_of found.new.items) (tag ∷ reader.old.input.now) reader.new.input.now (pat_part_tree p)) (Fails binds pat_part (scope_of scope.now.items) (room + 1) (tag ∷ reader.old.input.now)) }
+    ensures { Comes result (λ p. ReadsPatPart binds pat_part (scope_of scope.now.items) (room + 1)
+        (senses_of found.old.items) (senses_of found.new.items) (tag ∷ reader.old.input.now) reader.new.input.now
+        (pat_part_tree p)) (Fails binds pat_part (scope_of scope.now.items) (room + 1) (tag ∷ reader.old.input.now)) }
 {
     match tag {
         0x20 => {
@@ -224,7 +232,8 @@ fn read_free_pat(
     scope: &Vec<Sense>,
     room: u32,
 ) -> Result<TermPat, ReadFault>
-    ensures { Comes result (λ t. ReadsPat false pat (scope_of scope.now.items) room [] [] reader.old.input.now reader.new.input.now t) (Fails false pat (scope_of scope.now.items) room reader.old.input.now) }
+    ensures { Comes result (λ t. ReadsPat false pat (scope_of scope.now.items) room [] [] reader.old.input.now
+        reader.new.input.now t) (Fails false pat (scope_of scope.now.items) room reader.old.input.now) }
 {
     let mut found = Vec::new(reader.alloc);
     read_pat(reader, false, scope, &mut found, room)
@@ -242,7 +251,9 @@ fn read_pats(
     room: u32,
 ) -> Result<Vec<TermPat>, ReadFault>
     requires { least ≤ most }
-    ensures { Comes result (λ ts. ReadsPats binds pat (scope_of scope.now.items) room least most (senses_of found.old.items) (senses_of found.new.items) reader.old.input.now reader.new.input.now ts.items) (FailsRow binds pat (scope_of scope.now.items) room least most reader.old.input.now) }
+    ensures { Comes result (λ ts. ReadsPats binds pat (scope_of scope.now.items) room least most
+        (senses_of found.old.items) (senses_of found.new.items) reader.old.input.now reader.new.input.now ts.items)
+        (FailsRow binds pat (scope_of scope.now.items) room least most reader.old.input.now) }
 {
     let count = reader.number(least, most)?;
     let mut pats = reader.list(count);
@@ -261,7 +272,9 @@ pub(crate) fn read_name_pats(
     found: &mut Vec<Sense>,
     room: u32,
 ) -> Result<Vec<TermPat>, ReadFault>
-    ensures { Comes result (λ ts. ReadsPats true name_pat (scope_of scope.now.items) room 0 0xFFFFFFFF (senses_of found.old.items) (senses_of found.new.items) reader.old.input.now reader.new.input.now ts.items) (FailsRow true name_pat (scope_of scope.now.items) room 0 0xFFFFFFFF reader.old.input.now) }
+    ensures { Comes result (λ ts. ReadsPats true name_pat (scope_of scope.now.items) room 0 0xFFFFFFFF
+        (senses_of found.old.items) (senses_of found.new.items) reader.old.input.now reader.new.input.now ts.items)
+        (FailsRow true name_pat (scope_of scope.now.items) room 0 0xFFFFFFFF reader.old.input.now) }
 {
     let count = reader.number(0, u32::MAX)?;
     let mut pats = reader.list(count);
@@ -281,7 +294,10 @@ fn read_pat_pairs(
     found: &mut Vec<Sense>,
     room: u32,
 ) -> Result<Vec<(TermPat, TermPat)>, ReadFault>
-    ensures { Comes result (λ ps. ReadsPats binds (pair_of pat) (scope_of scope.now.items) room 0 8 (senses_of found.old.items) (senses_of found.new.items) reader.old.input.now reader.new.input.now (map pair_tree ps.items)) (FailsRow binds (pair_of pat) (scope_of scope.now.items) room 0 8 reader.old.input.now) }
+    ensures { Comes result (λ ps. ReadsPats binds (pair_of pat) (scope_of scope.now.items) room 0 8
+        (senses_of found.old.items) (senses_of found.new.items) reader.old.input.now reader.new.input.now
+        (map pair_tree ps.items)) (FailsRow binds (pair_of pat) (scope_of scope.now.items) room 0 8
+        reader.old.input.now) }
 {
     let count = reader.number(0, 8)?;
     let mut pairs = reader.list(count);

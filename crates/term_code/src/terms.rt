@@ -22,7 +22,8 @@ pub(crate) fn read_term<'a>(
     scope: &Vec<Sense>,
     room: u32,
 ) -> Result<Term, ReadFault>
-    ensures { Comes result (λ t. Reads term (scope_of scope.now.items) room t reader.old.input.now reader.new.input.now) (Fails true term (scope_of scope.now.items) room reader.old.input.now) }
+    ensures { Comes result (λ t. Reads term (scope_of scope.now.items) room t reader.old.input.now reader.new.input.now)
+        (Fails true term (scope_of scope.now.items) room reader.old.input.now) }
 {
     let count = reader.number(0, u32::MAX)?;
     let mut parts = reader.list(count);
@@ -50,7 +51,9 @@ pub(crate) fn read_part(
     room: u32,
 ) -> Result<Part, ReadFault>
     requires { room ≡ 0 → is_form_tag tag ≡ false }
-    ensures { Comes result (λ p. ReadsPart part (scope_of scope.now.items) room (tag ∷ reader.old.input.now) reader.new.input.now (part_tree p)) (Fails true part (scope_of scope.now.items) room (tag ∷ reader.old.input.now)) }
+    ensures { Comes result (λ p. ReadsPart part (scope_of scope.now.items) room (tag ∷ reader.old.input.now)
+        reader.new.input.now (part_tree p)) (Fails true part (scope_of scope.now.items) room
+        (tag ∷ reader.old.input.now)) }
 {
     match tag {
         0x15 => Ok(Part::Fresh(reader.digest()?)),
@@ -74,7 +77,9 @@ fn read_form(
     room: u32,
 ) -> Result<Part, ReadFault>
     requires { is_form_tag tag ≡ true }
-    ensures { Comes result (λ p. ReadsPart part (scope_of scope.now.items) (room + 1) (tag ∷ reader.old.input.now) reader.new.input.now (part_tree p)) (Fails true part (scope_of scope.now.items) (room + 1) (tag ∷ reader.old.input.now)) }
+    ensures { Comes result (λ p. ReadsPart part (scope_of scope.now.items) (room + 1) (tag ∷ reader.old.input.now)
+        reader.new.input.now (part_tree p)) (Fails true part (scope_of scope.now.items) (room + 1)
+        (tag ∷ reader.old.input.now)) }
 {
     match tag {
         0x20 => Ok(Part::List(read_terms(reader, 0, scope, room)?)),
@@ -145,7 +150,9 @@ pub(crate) fn read_terms(
     scope: &Vec<Sense>,
     room: u32,
 ) -> Result<Vec<Term>, ReadFault>
-    ensures { Comes result (λ ts. ReadsRow term (scope_of scope.now.items) room least 0xFFFFFFFF reader.old.input.now reader.new.input.now ts.items) (FailsRow true term (scope_of scope.now.items) room least 0xFFFFFFFF reader.old.input.now) }
+    ensures { Comes result (λ ts. ReadsRow term (scope_of scope.now.items) room least 0xFFFFFFFF reader.old.input.now
+        reader.new.input.now ts.items) (FailsRow true term (scope_of scope.now.items) room least 0xFFFFFFFF
+        reader.old.input.now) }
 {
     let count = reader.number(least, u32::MAX)?;
     let mut terms = reader.list(count);
@@ -163,7 +170,8 @@ fn read_members<'a>(
     scope: &Vec<Sense>,
     room: u32,
 ) -> Result<Vec<Term>, ReadFault>
-    ensures { Comes result (λ ts. ReadsBag term (scope_of scope.now.items) room ts.items reader.old.input.now reader.new.input.now) (FailsBag term (scope_of scope.now.items) room reader.old.input.now) }
+    ensures { Comes result (λ ts. ReadsBag term (scope_of scope.now.items) room ts.items reader.old.input.now
+        reader.new.input.now) (FailsBag term (scope_of scope.now.items) room reader.old.input.now) }
 {
     let count = reader.number(0, u32::MAX)?;
     let mut terms = reader.list(count);
@@ -185,7 +193,9 @@ fn read_pairs<'a>(
     scope: &Vec<Sense>,
     room: u32,
 ) -> Result<Vec<(Term, Term)>, ReadFault>
-    ensures { Comes result (λ ps. ReadsBag (pair_of term) (scope_of scope.now.items) room (map pair_tree ps.items) reader.old.input.now reader.new.input.now) (FailsBag (pair_of term) (scope_of scope.now.items) room reader.old.input.now) }
+    ensures { Comes result (λ ps. ReadsBag (pair_of term) (scope_of scope.now.items) room (map pair_tree ps.items)
+        reader.old.input.now reader.new.input.now) (FailsBag (pair_of term) (scope_of scope.now.items) room
+        reader.old.input.now) }
 {
     let count = reader.number(0, u32::MAX)?;
     let mut pairs = reader.list(count);
@@ -209,7 +219,9 @@ fn read_binds(
     found: &mut Vec<Sense>,
     room: u32,
 ) -> Result<Vec<TermBind>, ReadFault>
-    ensures { Comes result (λ bs. ReadsPats true a_bind (scope_of scope.now.items) room 1 16 (senses_of found.old.items) (senses_of found.new.items) reader.old.input.now reader.new.input.now (map bind_tree bs.items)) (FailsRow true a_bind (scope_of scope.now.items) room 1 16 reader.old.input.now) }
+    ensures { Comes result (λ bs. ReadsPats true a_bind (scope_of scope.now.items) room 1 16 (senses_of found.old.items)
+        (senses_of found.new.items) reader.old.input.now reader.new.input.now (map bind_tree bs.items))
+        (FailsRow true a_bind (scope_of scope.now.items) room 1 16 reader.old.input.now) }
 {
     let count = reader.number(1, 16)?;
     let mut binds = reader.list(count);
@@ -233,7 +245,9 @@ fn read_cases(
     scope: &Vec<Sense>,
     room: u32,
 ) -> Result<Vec<TermCase>, ReadFault>
-    ensures { Comes result (λ cs. ReadsRow a_case (scope_of scope.now.items) room 1 0xFFFFFFFF reader.old.input.now reader.new.input.now (map case_tree cs.items)) (FailsRow true a_case (scope_of scope.now.items) room 1 0xFFFFFFFF reader.old.input.now) }
+    ensures { Comes result (λ cs. ReadsRow a_case (scope_of scope.now.items) room 1 0xFFFFFFFF reader.old.input.now
+        reader.new.input.now (map case_tree cs.items)) (FailsRow true a_case (scope_of scope.now.items) room 1
+        0xFFFFFFFF reader.old.input.now) }
 {
     let count = reader.number(1, u32::MAX)?;
     let mut cases = reader.list(count);

@@ -145,7 +145,8 @@ fn put_terms(out: &mut Vec<u8>, items: &Vec<Term>) -> Result<(), AllocError>
 
 #[cycle(put)]
 fn put_pairs(out: &mut Vec<u8>, items: &Vec<(Term, Term)>) -> Result<(), AllocError>
-    ensures { OnOk result (out.new.items ≡ out.old.items ++ be32 (length items.now.items) ++ joined (map (λ p. code (pair_tree p)) items.now.items)) }
+    ensures { OnOk result (out.new.items ≡ out.old.items ++ be32 (length items.now.items) ++
+        joined (map (λ p. code (pair_tree p)) items.now.items)) }
 {
     put_be32(out, items.len())?;
     for pair in items {
@@ -157,7 +158,8 @@ fn put_pairs(out: &mut Vec<u8>, items: &Vec<(Term, Term)>) -> Result<(), AllocEr
 
 #[cycle(put)]
 fn put_binds(out: &mut Vec<u8>, items: &Vec<TermBind>) -> Result<(), AllocError>
-    ensures { OnOk result (out.new.items ≡ out.old.items ++ be32 (length items.now.items) ++ joined (map (λ b. code (bind_tree b)) items.now.items)) }
+    ensures { OnOk result (out.new.items ≡ out.old.items ++ be32 (length items.now.items) ++
+        joined (map (λ b. code (bind_tree b)) items.now.items)) }
 {
     put_be32(out, items.len())?;
     for bind in items {
@@ -170,7 +172,8 @@ fn put_binds(out: &mut Vec<u8>, items: &Vec<TermBind>) -> Result<(), AllocError>
 
 #[cycle(put)]
 fn put_cases(out: &mut Vec<u8>, items: &Vec<TermCase>) -> Result<(), AllocError>
-    ensures { OnOk result (out.new.items ≡ out.old.items ++ be32 (length items.now.items) ++ joined (map (λ c. code (case_tree c)) items.now.items)) }
+    ensures { OnOk result (out.new.items ≡ out.old.items ++ be32 (length items.now.items) ++
+        joined (map (λ c. code (case_tree c)) items.now.items)) }
 {
     put_be32(out, items.len())?;
     for case in items {
@@ -284,7 +287,8 @@ fn put_pats(out: &mut Vec<u8>, items: &Vec<TermPat>) -> Result<(), AllocError>
 
 #[cycle(put)]
 fn put_pat_pairs(out: &mut Vec<u8>, items: &Vec<(TermPat, TermPat)>) -> Result<(), AllocError>
-    ensures { OnOk result (out.new.items ≡ out.old.items ++ be32 (length items.now.items) ++ joined (map (λ p. code (pair_tree p)) items.now.items)) }
+    ensures { OnOk result (out.new.items ≡ out.old.items ++ be32 (length items.now.items) ++
+        joined (map (λ p. code (pair_tree p)) items.now.items)) }
 {
     put_be32(out, items.len())?;
     for pair in items {

@@ -164,7 +164,8 @@ fn origin_order(x: Origin, y: Origin) -> Ordering
 
 // As a text whose bytes are the numbers of the origins.
 pub(crate) fn origins_order(xs: &[Origin], ys: &[Origin]) -> Ordering
-    ensures { length xs.now < 2 ^ 32 → length ys.now < 2 ^ 32 → result ≡ byte_cmp (text (map origin_number xs.now)) (text (map origin_number ys.now)) }
+    ensures { length xs.now < 2 ^ 32 → length ys.now < 2 ^ 32 → result ≡
+        byte_cmp (text (map origin_number xs.now)) (text (map origin_number ys.now)) }
 {
     let by_length = xs.len().cmp(&ys.len());
     if by_length.is_ne() {

@@ -280,7 +280,8 @@ fn set_pat_order(members: &[TermPat], remainder: TermRest, b: &PatPart) -> Order
 
 #[cycle(order)]
 fn map_pat_order(pairs: &[(TermPat, TermPat)], remainder: TermRest, b: &PatPart) -> Ordering
-    ensures { ComparesAs name_part (two map_pattern (many row (map pair_tree pairs.now)) (leaf (rest remainder))) (pat_part_tree b.now) result }
+    ensures { ComparesAs name_part (two map_pattern (many row (map pair_tree pairs.now)) (leaf (rest remainder)))
+        (pat_part_tree b.now) result }
 {
     match b {
         PatPart::Map(other_pairs, other_rest) => {

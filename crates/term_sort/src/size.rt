@@ -97,7 +97,8 @@ fn term_extent(term: &Term, values: &[Term], depth: u64) -> Extent
 #[cycle(extent)]
 fn add_part(total: Extent, part: &Part, values: &[Term], depth: u64) -> Extent
     requires { 4 ≤ total.length }
-    ensures height { (d : ℕ) → in_u64 d ≡ depth → result.height ≡ max total.height (in_u32 (filled_height values.now d (part_tree part.now))) }
+    ensures height { (d : ℕ) → in_u64 d ≡ depth → result.height ≡
+        max total.height (in_u32 (filled_height values.now d (part_tree part.now))) }
     ensures length { (d : ℕ) → in_u64 d ≡ depth → result.length ≡ in_u64 (total.length + filled_size values.now d (part_tree part.now)) }
 {
     match part {
@@ -112,8 +113,10 @@ fn add_variable(total: Extent, index: u32, values: &[Term], depth: u64) -> Exten
     requires { 4 ≤ total.length }
     ensures inner_height { index < depth → result.height ≡ total.height }
     ensures inner_length { index < depth → result.length ≡ in_u64 (total.length + 5) }
-    ensures outer_height { depth ≤ index → result.height ≡ max total.height (in_u32 (heights (trees (held (at (index - depth) (reverse values.now)))))) }
-    ensures outer_length { depth ≤ index → result.length ≡ in_u64 (total.length + sizes (trees (held (at (index - depth) (reverse values.now))))) }
+    ensures outer_height { depth ≤ index → result.height ≡
+        max total.height (in_u32 (heights (trees (held (at (index - depth) (reverse values.now)))))) }
+    ensures outer_length { depth ≤ index → result.length ≡
+        in_u64 (total.length + sizes (trees (held (at (index - depth) (reverse values.now))))) }
 {
     let index = index as u64;
     if index < depth {
@@ -205,8 +208,10 @@ fn pat_extent(pat: &TermPat, values: &[Term], depth: u64) -> Extent
 #[cycle(extent)]
 fn add_pat_part(total: Extent, part: &PatPart, values: &[Term], depth: u64) -> Extent
     requires { 4 ≤ total.length }
-    ensures height { (d : ℕ) → in_u64 d ≡ depth → result.height ≡ max total.height (in_u32 (filled_height values.now d (pat_part_tree part.now))) }
-    ensures length { (d : ℕ) → in_u64 d ≡ depth → result.length ≡ in_u64 (total.length + filled_size values.now d (pat_part_tree part.now)) }
+    ensures height { (d : ℕ) → in_u64 d ≡ depth → result.height ≡
+        max total.height (in_u32 (filled_height values.now d (pat_part_tree part.now))) }
+    ensures length { (d : ℕ) → in_u64 d ≡ depth → result.length ≡
+        in_u64 (total.length + filled_size values.now d (pat_part_tree part.now)) }
 {
     match part {
         PatPart::Closed(closed) => add_part(total, closed, values, depth),

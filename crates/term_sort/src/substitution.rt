@@ -54,7 +54,8 @@ fn put_part(
     replacement: &Replacement,
     depth: u64,
 ) -> Result<(), AllocError>
-    ensures parts { OnOk result (Adds (change_of replacement.now) depth (part_tree part.now) (map part_tree out.old.items) (map part_tree out.new.items)) }
+    ensures parts { OnOk result (Adds (change_of replacement.now) depth (part_tree part.now)
+        (map part_tree out.old.items) (map part_tree out.new.items)) }
     ensures members { OnOk result (All (λ p. IsOrdered (part_tree p)) out.old.items → All (λ p. IsOrdered (part_tree p)) out.new.items) }
 {
     match part {
@@ -82,7 +83,8 @@ fn put_form(
     replacement: &Replacement,
     depth: u64,
 ) -> Result<Part, AllocError>
-    ensures { IfOk result (λ p. IsForm (part_tree part.now) → Becomes (change_of replacement.now) depth (part_tree part.now) (part_tree p)) }
+    ensures { IfOk result (λ p. IsForm (part_tree part.now) →
+        Becomes (change_of replacement.now) depth (part_tree part.now) (part_tree p)) }
 {
     match part {
         Part::Ground(_) => Ok(part.copy(alloc)?),
@@ -264,8 +266,10 @@ fn put_pat_part(
     replacement: &Replacement,
     depth: u64,
 ) -> Result<(), AllocError>
-    ensures parts { OnOk result (Adds (change_of replacement.now) depth (pat_part_tree part.now) (map pat_part_tree out.old.items) (map pat_part_tree out.new.items)) }
-    ensures members { OnOk result (All (λ p. IsOrdered (pat_part_tree p)) out.old.items → All (λ p. IsOrdered (pat_part_tree p)) out.new.items) }
+    ensures parts { OnOk result (Adds (change_of replacement.now) depth (pat_part_tree part.now)
+        (map pat_part_tree out.old.items) (map pat_part_tree out.new.items)) }
+    ensures members { OnOk result (All (λ p. IsOrdered (pat_part_tree p)) out.old.items →
+        All (λ p. IsOrdered (pat_part_tree p)) out.new.items) }
 {
     match part {
         PatPart::Closed(closed) => {
@@ -285,7 +289,8 @@ fn put_pat_part(
 // These parts as closed forms, at the end of those.
 fn put_closed(out: &mut Vec<PatPart>, parts: Vec<Part>) -> Result<(), AllocError>
     ensures parts { OnOk result (map pat_part_tree out.new.items ≡ map pat_part_tree out.old.items ++ map part_tree parts.items) }
-    ensures members { OnOk result (All (λ p. IsOrdered (part_tree p)) parts.items → All (λ p. IsOrdered (pat_part_tree p)) out.old.items → All (λ p. IsOrdered (pat_part_tree p)) out.new.items) }
+    ensures members { OnOk result (All (λ p. IsOrdered (part_tree p)) parts.items →
+        All (λ p. IsOrdered (pat_part_tree p)) out.old.items → All (λ p. IsOrdered (pat_part_tree p)) out.new.items) }
 {
     for part in parts {
         out.push(PatPart::Closed(part))?;
@@ -301,7 +306,8 @@ fn put_pat_form(
     replacement: &Replacement,
     depth: u64,
 ) -> Result<PatPart, AllocError>
-    ensures { IfOk result (λ p. IsForm (pat_part_tree part.now) → Becomes (change_of replacement.now) depth (pat_part_tree part.now) (pat_part_tree p)) }
+    ensures { IfOk result (λ p. IsForm (pat_part_tree part.now) →
+        Becomes (change_of replacement.now) depth (pat_part_tree part.now) (pat_part_tree p)) }
 {
     match part {
         PatPart::Wild => Ok(PatPart::Wild),

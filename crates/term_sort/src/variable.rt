@@ -35,7 +35,8 @@ pub(crate) fn put_variable(
     replacement: &Replacement,
     depth: u64,
 ) -> Result<(), AllocError>
-    ensures parts { OnOk result (Adds (change_of replacement.now) depth (leaf (use_of sense index)) (map part_tree out.old.items) (map part_tree out.new.items)) }
+    ensures parts { OnOk result (Adds (change_of replacement.now) depth (leaf (use_of sense index))
+        (map part_tree out.old.items) (map part_tree out.new.items)) }
     ensures members { OnOk result (All (λ p. IsOrdered (part_tree p)) out.old.items → All (λ p. IsOrdered (part_tree p)) out.new.items) }
 {
     if (index as u64) < depth {

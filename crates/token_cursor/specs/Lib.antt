@@ -1,3 +1,4 @@
+pub mod Cursors
 pub mod Levels
 pub mod Meaning
 pub mod Reading

@@ -1,11 +1,9 @@
 //! The ends of forms whose constituents were read, and rows that have no members.
-ghost use Rattle.grammar.specs.Grammar.{rule};
 ghost use Rattle.grammar.specs.Productions.{Prod};
 ghost use Rattle.grammar.specs.Values.{patterns, processes};
-ghost use Rattle.grammar.specs.declared.dialect.Dialect.TheVariants.{Tutorial};
-ghost use Rattle.token_cursor.specs.Meaning.{view};
-ghost use Rattle.token_cursor.specs.Reading.{Makes, bracket_of, of_pat, of_pat_row, of_proc, of_row, of_sequence, pairs_written};
-ghost use Rattle.std.specs.Prelude.{◌≡◌, ◌+◌, ◌<◌, ◌≤◌, ◌^◌, IfOk, ℕ, length, map};
+ghost use Rattle.token_cursor.specs.Cursors.{Reads};
+ghost use Rattle.token_cursor.specs.Reading.{bracket_of, of_pat, of_pat_row, of_proc, of_row, of_sequence, pairs_written};
+ghost use Rattle.std.specs.Prelude.{◌≡◌, ◌+◌, ◌<◌, ◌≤◌, ◌^◌, IfOk, length, map};
 
 use crate::cursor::Cursor;
 use calculus::{Pat, Proc};
@@ -17,7 +15,7 @@ impl<'a> Cursor<'a> {
     /// The end of parentheses.
     pub fn group_close(&mut self, inner: Part<Proc>) -> Result<Part<Proc>, Fault>
         requires { inner.height + 1 < 2 ^ 32 }
-        ensures reads { (free : ℕ) → Makes free (rule Tutorial (Prod.group_close processes (of_proc inner))) of_proc (view self.old.rest.now) result (view self.new.rest.now) }
+        ensures reads { Reads self.old (Prod.group_close processes (of_proc inner)) of_proc result self.new }
         ensures height { IfOk result (λ p. p.height ≡ inner.height + 1) }
         ensures shorter { length self.new.rest.now ≤ length self.old.rest.now }
     {
@@ -30,7 +28,7 @@ impl<'a> Cursor<'a> {
     /// The end of a block.
     pub fn brace_close(&mut self, inner: Part<Proc>) -> Result<Part<Proc>, Fault>
         requires { inner.height + 1 < 2 ^ 32 }
-        ensures reads { (free : ℕ) → Makes free (rule Tutorial (Prod.brace_close (of_proc inner))) of_proc (view self.old.rest.now) result (view self.new.rest.now) }
+        ensures reads { Reads self.old (Prod.brace_close (of_proc inner)) of_proc result self.new }
         ensures height { IfOk result (λ p. p.height ≡ inner.height + 1) }
         ensures shorter { length self.new.rest.now ≤ length self.old.rest.now }
     {
@@ -43,7 +41,7 @@ impl<'a> Cursor<'a> {
     /// The end of a map.
     pub fn map_close(&mut self, pairs: Part<Vec<(Proc, Proc)>>) -> Result<Part<Proc>, Fault>
         requires { pairs.height + 1 < 2 ^ 32 }
-        ensures reads { (free : ℕ) → Makes free (rule Tutorial (Prod.pairs_end (pairs_written pairs.value.items) pairs.height)) of_proc (view self.old.rest.now) result (view self.new.rest.now) }
+        ensures reads { Reads self.old (Prod.pairs_end (pairs_written pairs.value.items) pairs.height) of_proc result self.new }
         ensures height { IfOk result (λ p. p.height ≡ pairs.height + 1) }
         ensures shorter { length self.new.rest.now ≤ length self.old.rest.now }
     {
@@ -53,7 +51,7 @@ impl<'a> Cursor<'a> {
 
     /// No members.
     pub fn row_none(&mut self, bracket: Bracket) -> Result<Part<Vec<Proc>>, Fault>
-        ensures reads { (free : ℕ) → Makes free (rule Tutorial (Prod.row_none processes (bracket_of bracket))) of_row (view self.old.rest.now) result (view self.new.rest.now) }
+        ensures reads { Reads self.old (Prod.row_none processes (bracket_of bracket)) of_row result self.new }
         ensures height { IfOk result (λ p. p.height ≡ 0) }
         ensures shorter { length self.new.rest.now ≤ length self.old.rest.now }
     {
@@ -64,7 +62,7 @@ impl<'a> Cursor<'a> {
     /// The parenthesis that closes a pattern.
     pub fn pattern_close(&mut self, first: Part<Pat>) -> Result<Part<Pat>, Fault>
         requires { first.height + 1 < 2 ^ 32 }
-        ensures reads { (free : ℕ) → Makes free (rule Tutorial (Prod.group_close patterns (of_pat first))) of_pat (view self.old.rest.now) result (view self.new.rest.now) }
+        ensures reads { Reads self.old (Prod.group_close patterns (of_pat first)) of_pat result self.new }
         ensures height { IfOk result (λ p. p.height ≡ first.height + 1) }
         ensures shorter { length self.new.rest.now ≤ length self.old.rest.now }
     {
@@ -76,7 +74,7 @@ impl<'a> Cursor<'a> {
 
     /// No members.
     pub fn pattern_row_none(&mut self, bracket: Bracket) -> Result<Part<Vec<Pat>>, Fault>
-        ensures reads { (free : ℕ) → Makes free (rule Tutorial (Prod.row_none patterns (bracket_of bracket))) of_pat_row (view self.old.rest.now) result (view self.new.rest.now) }
+        ensures reads { Reads self.old (Prod.row_none patterns (bracket_of bracket)) of_pat_row result self.new }
         ensures height { IfOk result (λ p. p.height ≡ 0) }
         ensures shorter { length self.new.rest.now ≤ length self.old.rest.now }
     {
@@ -86,7 +84,7 @@ impl<'a> Cursor<'a> {
 
     /// A remainder without members.
     pub fn sequence_only_rest(&mut self, bracket: Bracket) -> Result<Part<Sequence>, Fault>
-        ensures reads { (free : ℕ) → Makes free (rule Tutorial (Prod.seq_rest (bracket_of bracket))) of_sequence (view self.old.rest.now) result (view self.new.rest.now) }
+        ensures reads { Reads self.old (Prod.seq_rest (bracket_of bracket)) of_sequence result self.new }
         ensures height { IfOk result (λ p. p.height ≡ 0) }
         ensures shorter { length self.new.rest.now ≤ length self.old.rest.now }
     {
@@ -97,7 +95,7 @@ impl<'a> Cursor<'a> {
     /// The brace that closes a pattern.
     pub fn pattern_brace_close(&mut self, first: Part<Pat>) -> Result<Part<Pat>, Fault>
         requires { first.height + 1 < 2 ^ 32 }
-        ensures reads { (free : ℕ) → Makes free (rule Tutorial (Prod.pbrace_close (of_pat first))) of_pat (view self.old.rest.now) result (view self.new.rest.now) }
+        ensures reads { Reads self.old (Prod.pbrace_close (of_pat first)) of_pat result self.new }
         ensures height { IfOk result (λ p. p.height ≡ first.height + 1) }
         ensures shorter { length self.new.rest.now ≤ length self.old.rest.now }
     {

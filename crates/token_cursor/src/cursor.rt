@@ -1,15 +1,16 @@
 //! The tokens that are left, and the steps that take one of them.
 ghost use Rattle.grammar.specs.Choice.{after, choose, sees_any_send, sees_bang, sees_bundle, sees_name_pattern, sees_number, sees_prefix, sees_send, sees_text};
-ghost use Rattle.grammar.specs.Descent.{Stuck, Takes, TakesInteger, TakesOpening, TakesText, sees_integer, shows};
+ghost use Rattle.grammar.specs.Descent.{shows};
 ghost use Rattle.grammar.specs.Grammar.{arrow_mark, bang, begins_operand, bundle_mark, is_no_minus, type_mark};
 ghost use Rattle.grammar.specs.Productions.{Prod};
 ghost use Rattle.grammar.specs.declared.mark.Mark.TheVariants as marks;
 ghost use Rattle.grammar.specs.Rules.{Sort, closing, separator_mark};
 ghost use Rattle.grammar.specs.Values.{Side, Spelt};
 ghost use Rattle.grammar.specs.Terminals.{a_string, a_uri, a_word, sees};
-ghost use Rattle.token_cursor.specs.Meaning.{Missing, Refused, most_height, sees_key_operand, sees_sign_operand, sees_text_operand, view};
+ghost use Rattle.token_cursor.specs.Cursors.{OpensBefore, ReadsInteger, ReadsMark, ReadsOpening, ReadsText, Shortens, StaysBefore};
+ghost use Rattle.token_cursor.specs.Meaning.{most_height, sees_key_operand, sees_sign_operand, sees_text_operand, view};
 ghost use Rattle.token_cursor.specs.Reading.{bracket_of, sees_bind, sees_member, separator_of};
-ghost use Rattle.std.specs.Prelude.{◌≡◌, ◌<◌, ◌≤◌, IfOk, MatchResult, length, string_bytes, true};
+ghost use Rattle.std.specs.Prelude.{◌≡◌, ◌<◌, ◌≤◌, IfOk, length, true};
 
 use crate::mark::is_mark;
 use calculus::{Kind, Rights, Simple};
@@ -157,8 +158,8 @@ impl<'a> Cursor<'a> {
 
     /// Takes this mark.
     pub fn expect(&mut self, mark: Mark) -> Result<(), Fault>
-        ensures reads { MatchResult result (λ _. Takes mark (view self.old.rest.now) (view self.new.rest.now)) (λ e. Stuck (sees mark (view self.old.rest.now)) (view self.old.rest.now) e (view self.new.rest.now)) }
-        ensures shorter { MatchResult result (λ _. length self.new.rest.now < length self.old.rest.now) (λ _. length self.new.rest.now ≤ length self.old.rest.now) }
+        ensures reads { ReadsMark self.old mark result self.new }
+        ensures shorter { Shortens self.old result self.new }
     {
         match self.rest.split_first() {
             Some((token, rest)) if is_mark(&token.kind, mark) => {
@@ -171,8 +172,8 @@ impl<'a> Cursor<'a> {
 
     /// Takes the mark that opens a form, to whose left a part of this height stands.
     pub fn opens(&mut self, mark: Mark, height: u32, free: u32) -> Result<(), Fault>
-        ensures reads { MatchResult result (λ _. TakesOpening mark height free (view self.old.rest.now) (view self.new.rest.now)) (λ e. Refused (sees mark (view self.old.rest.now)) height free (view self.old.rest.now) e (view self.new.rest.now)) }
-        ensures shorter { MatchResult result (λ _. length self.new.rest.now < length self.old.rest.now) (λ _. length self.new.rest.now ≤ length self.old.rest.now) }
+        ensures reads { ReadsOpening self.old mark height free result self.new }
+        ensures shorter { Shortens self.old result self.new }
         ensures room { IfOk result (λ _. height < free) }
     {
         if self.sees(mark) && free <= height {
@@ -215,7 +216,7 @@ impl<'a> Cursor<'a> {
 
     /// Opens the form of a prefix `-` at the token after it, which stays.
     pub fn opens_operand(&mut self, free: u32) -> Result<(), Fault>
-        ensures reads { MatchResult result (λ _. (shows begins_operand (view self.old.rest.now) ≡ true) × (0 < free) × (self.new.rest.now ≡ self.old.rest.now)) (λ e. Refused (shows begins_operand (view self.old.rest.now)) 0 free (view self.old.rest.now) e (view self.new.rest.now)) }
+        ensures reads { OpensBefore self.old begins_operand free result self.new }
         ensures shorter { length self.new.rest.now ≤ length self.old.rest.now }
     {
         if !self.sees_operand() {
@@ -229,7 +230,7 @@ impl<'a> Cursor<'a> {
 
     /// The next token is there, and is no `-`.
     pub fn refuse_minus(&mut self) -> Result<(), Fault>
-        ensures reads { MatchResult result (λ _. (shows is_no_minus (view self.old.rest.now) ≡ true) × (self.new.rest.now ≡ self.old.rest.now)) (λ e. Stuck (shows is_no_minus (view self.old.rest.now)) (view self.old.rest.now) e (view self.new.rest.now)) }
+        ensures reads { StaysBefore self.old is_no_minus result self.new }
         ensures shorter { length self.new.rest.now ≤ length self.old.rest.now }
     {
         if self.rest.is_empty() || self.sees(Mark::Minus) {
@@ -240,8 +241,8 @@ impl<'a> Cursor<'a> {
 
     /// Takes an integer of at most this value.
     pub fn integer(&mut self, most: u64) -> Result<u64, Fault>
-        ensures reads { MatchResult result (λ n. TakesInteger most n (view self.old.rest.now) (view self.new.rest.now)) (λ e. Stuck (sees_integer most (view self.old.rest.now)) (view self.old.rest.now) e (view self.new.rest.now)) }
-        ensures shorter { MatchResult result (λ _. length self.new.rest.now < length self.old.rest.now) (λ _. length self.new.rest.now ≤ length self.old.rest.now) }
+        ensures reads { ReadsInteger self.old most result self.new }
+        ensures shorter { Shortens self.old result self.new }
         ensures fits { IfOk result (λ n. n ≤ most) }
     {
         if let Some((token, rest)) = self.rest.split_first() {
@@ -258,8 +259,8 @@ impl<'a> Cursor<'a> {
 
     /// Takes a word.
     pub fn word(&mut self) -> Result<String, Fault>
-        ensures reads { MatchResult result (λ w. TakesText a_word (string_bytes w) (view self.old.rest.now) (view self.new.rest.now)) (λ e. Missing (sees_text a_word (view self.old.rest.now)) (view self.old.rest.now) e (view self.new.rest.now)) }
-        ensures shorter { MatchResult result (λ _. length self.new.rest.now < length self.old.rest.now) (λ _. length self.new.rest.now ≤ length self.old.rest.now) }
+        ensures reads { ReadsText self.old a_word result self.new }
+        ensures shorter { Shortens self.old result self.new }
     {
         let Some((token, rest)) = self.rest.split_first() else {
             return Err(Fault::Syntax);
@@ -274,8 +275,8 @@ impl<'a> Cursor<'a> {
 
     /// Takes a string.
     pub fn string(&mut self) -> Result<String, Fault>
-        ensures reads { MatchResult result (λ w. TakesText a_string (string_bytes w) (view self.old.rest.now) (view self.new.rest.now)) (λ e. Missing (sees_text a_string (view self.old.rest.now)) (view self.old.rest.now) e (view self.new.rest.now)) }
-        ensures shorter { MatchResult result (λ _. length self.new.rest.now < length self.old.rest.now) (λ _. length self.new.rest.now ≤ length self.old.rest.now) }
+        ensures reads { ReadsText self.old a_string result self.new }
+        ensures shorter { Shortens self.old result self.new }
     {
         let Some((token, rest)) = self.rest.split_first() else {
             return Err(Fault::Syntax);
@@ -290,8 +291,8 @@ impl<'a> Cursor<'a> {
 
     /// Takes a URI.
     pub fn uri(&mut self) -> Result<String, Fault>
-        ensures reads { MatchResult result (λ w. TakesText a_uri (string_bytes w) (view self.old.rest.now) (view self.new.rest.now)) (λ e. Missing (sees_text a_uri (view self.old.rest.now)) (view self.old.rest.now) e (view self.new.rest.now)) }
-        ensures shorter { MatchResult result (λ _. length self.new.rest.now < length self.old.rest.now) (λ _. length self.new.rest.now ≤ length self.old.rest.now) }
+        ensures reads { ReadsText self.old a_uri result self.new }
+        ensures shorter { Shortens self.old result self.new }
     {
         let Some((token, rest)) = self.rest.split_first() else {
             return Err(Fault::Syntax);
@@ -370,8 +371,8 @@ impl<'a> Cursor<'a> {
 
     /// Takes the sign that closes this bracket.
     pub fn expect_closing(&mut self, bracket: Bracket) -> Result<(), Fault>
-        ensures reads { MatchResult result (λ _. Takes (closing (bracket_of bracket)) (view self.old.rest.now) (view self.new.rest.now)) (λ e. Stuck (sees (closing (bracket_of bracket)) (view self.old.rest.now)) (view self.old.rest.now) e (view self.new.rest.now)) }
-        ensures shorter { MatchResult result (λ _. length self.new.rest.now < length self.old.rest.now) (λ _. length self.new.rest.now ≤ length self.old.rest.now) }
+        ensures reads { ReadsMark self.old (closing (bracket_of bracket)) result self.new }
+        ensures shorter { Shortens self.old result self.new }
     {
         match bracket {
             Bracket::Round => self.expect(Mark::Close),
@@ -381,8 +382,8 @@ impl<'a> Cursor<'a> {
 
     /// Takes this separator of binds.
     pub fn expect_separator(&mut self, separator: Separator) -> Result<(), Fault>
-        ensures reads { MatchResult result (λ _. Takes (separator_mark (separator_of separator)) (view self.old.rest.now) (view self.new.rest.now)) (λ e. Stuck (sees (separator_mark (separator_of separator)) (view self.old.rest.now)) (view self.old.rest.now) e (view self.new.rest.now)) }
-        ensures shorter { MatchResult result (λ _. length self.new.rest.now < length self.old.rest.now) (λ _. length self.new.rest.now ≤ length self.old.rest.now) }
+        ensures reads { ReadsMark self.old (separator_mark (separator_of separator)) result self.new }
+        ensures shorter { Shortens self.old result self.new }
     {
         match separator {
             Separator::Semicolon => self.expect(Mark::Semicolon),
@@ -392,8 +393,8 @@ impl<'a> Cursor<'a> {
 
     /// Takes the arrow of this kind.
     pub fn expect_arrow(&mut self, kind: Kind) -> Result<(), Fault>
-        ensures reads { MatchResult result (λ _. Takes (arrow_mark kind) (view self.old.rest.now) (view self.new.rest.now)) (λ e. Stuck (sees (arrow_mark kind) (view self.old.rest.now)) (view self.old.rest.now) e (view self.new.rest.now)) }
-        ensures shorter { MatchResult result (λ _. length self.new.rest.now < length self.old.rest.now) (λ _. length self.new.rest.now ≤ length self.old.rest.now) }
+        ensures reads { ReadsMark self.old (arrow_mark kind) result self.new }
+        ensures shorter { Shortens self.old result self.new }
     {
         match kind {
             Kind::Linear => self.expect(Mark::Arrow),
@@ -404,8 +405,8 @@ impl<'a> Cursor<'a> {
 
     /// Takes the key of this simple type.
     pub fn expect_type(&mut self, simple: Simple) -> Result<(), Fault>
-        ensures reads { MatchResult result (λ _. Takes (type_mark simple) (view self.old.rest.now) (view self.new.rest.now)) (λ e. Stuck (sees (type_mark simple) (view self.old.rest.now)) (view self.old.rest.now) e (view self.new.rest.now)) }
-        ensures shorter { MatchResult result (λ _. length self.new.rest.now < length self.old.rest.now) (λ _. length self.new.rest.now ≤ length self.old.rest.now) }
+        ensures reads { ReadsMark self.old (type_mark simple) result self.new }
+        ensures shorter { Shortens self.old result self.new }
     {
         match simple {
             Simple::Bool => self.expect(Mark::Bool),
@@ -418,8 +419,8 @@ impl<'a> Cursor<'a> {
 
     /// Takes the mark of a send.
     pub fn expect_bang(&mut self, persistent: bool) -> Result<(), Fault>
-        ensures reads { MatchResult result (λ _. Takes (bang persistent) (view self.old.rest.now) (view self.new.rest.now)) (λ e. Stuck (sees (bang persistent) (view self.old.rest.now)) (view self.old.rest.now) e (view self.new.rest.now)) }
-        ensures shorter { MatchResult result (λ _. length self.new.rest.now < length self.old.rest.now) (λ _. length self.new.rest.now ≤ length self.old.rest.now) }
+        ensures reads { ReadsMark self.old (bang persistent) result self.new }
+        ensures shorter { Shortens self.old result self.new }
     {
         if persistent {
             self.expect(Mark::DoubleBang)
@@ -430,8 +431,8 @@ impl<'a> Cursor<'a> {
 
     /// Takes the mark of a send, which opens it.
     pub fn opens_bang(&mut self, persistent: bool, free: u32) -> Result<(), Fault>
-        ensures reads { MatchResult result (λ _. TakesOpening (bang persistent) 0 free (view self.old.rest.now) (view self.new.rest.now)) (λ e. Refused (sees (bang persistent) (view self.old.rest.now)) 0 free (view self.old.rest.now) e (view self.new.rest.now)) }
-        ensures shorter { MatchResult result (λ _. length self.new.rest.now < length self.old.rest.now) (λ _. length self.new.rest.now ≤ length self.old.rest.now) }
+        ensures reads { ReadsOpening self.old (bang persistent) 0 free result self.new }
+        ensures shorter { Shortens self.old result self.new }
         ensures room { IfOk result (λ _. 0 < free) }
     {
         if persistent {
@@ -443,8 +444,8 @@ impl<'a> Cursor<'a> {
 
     /// Takes the key of a bundle of these rights, which opens it.
     pub fn opens_bundle(&mut self, rights: Rights, free: u32) -> Result<(), Fault>
-        ensures reads { MatchResult result (λ _. TakesOpening (bundle_mark rights) 0 free (view self.old.rest.now) (view self.new.rest.now)) (λ e. Refused (sees (bundle_mark rights) (view self.old.rest.now)) 0 free (view self.old.rest.now) e (view self.new.rest.now)) }
-        ensures shorter { MatchResult result (λ _. length self.new.rest.now < length self.old.rest.now) (λ _. length self.new.rest.now ≤ length self.old.rest.now) }
+        ensures reads { ReadsOpening self.old (bundle_mark rights) 0 free result self.new }
+        ensures shorter { Shortens self.old result self.new }
         ensures room { IfOk result (λ _. 0 < free) }
     {
         match rights {

@@ -1,14 +1,14 @@
 //! The forms that hold no process: names, ground values, remainders and declarations.
 ghost use Rattle.calculus.specs.Meaning.{declared, name_pat_written, pat_written};
-ghost use Rattle.grammar.specs.Choice.{choose};
 ghost use Rattle.grammar.specs.Grammar.{rule};
 ghost use Rattle.grammar.specs.Productions.{Prod};
 ghost use Rattle.grammar.specs.Rules.{Sort, last};
 ghost use Rattle.grammar.specs.Values.{Side};
 ghost use Rattle.grammar.specs.declared.dialect.Dialect.TheVariants.{Tutorial};
+ghost use Rattle.token_cursor.specs.Cursors.{Continues, Reads, ReadsDeclaredUri, ReadsSort, Shortens};
 ghost use Rattle.token_cursor.specs.Meaning.{view};
-ghost use Rattle.token_cursor.specs.Reading.{Gives, Makes, Turns, bracket_of, of_ground, of_left, of_name, of_name_pat, of_pat, of_proc, of_rest, of_sequence, pat_pairs_written, sees_member};
-ghost use Rattle.std.specs.Prelude.{◌≡◌, ◌+◌, ◌<◌, ◌≤◌, ◌^◌, ◌++◌, ◌∷◌, [], IfOk, List, MatchResult, Option, ℕ, false, length, map, option_map, string_bytes};
+ghost use Rattle.token_cursor.specs.Reading.{after_names, body_after, bracket_of, of_ground, of_left, of_name, of_name_pat, of_pat, of_proc, of_rest, of_sequence, pat_pairs_written, sees_member};
+ghost use Rattle.std.specs.Prelude.{◌≡◌, ◌+◌, ◌<◌, ◌≤◌, ◌^◌, [], IfOk, false, length, map};
 
 use crate::cursor::Cursor;
 use calculus::{Decl, Ground, Name, NamePat, Pat, Proc, Rest, Simple};
@@ -22,7 +22,7 @@ const GREATEST: u64 = 9_223_372_036_854_775_807;
 impl<'a> Cursor<'a> {
     /// A variable.
     pub fn atom_word(&mut self) -> Result<Part<Proc>, Fault>
-        ensures reads { (free : ℕ) → Makes free (rule Tutorial Prod.atom_word) of_proc (view self.old.rest.now) result (view self.new.rest.now) }
+        ensures reads { Reads self.old Prod.atom_word of_proc result self.new }
         ensures height { IfOk result (λ p. p.height ≡ 0) }
         ensures shorter { length self.new.rest.now ≤ length self.old.rest.now }
     {
@@ -32,7 +32,7 @@ impl<'a> Cursor<'a> {
 
     /// `Nil`
     pub fn atom_nil(&mut self) -> Result<Part<Proc>, Fault>
-        ensures reads { (free : ℕ) → Makes free (rule Tutorial Prod.atom_nil) of_proc (view self.old.rest.now) result (view self.new.rest.now) }
+        ensures reads { Reads self.old Prod.atom_nil of_proc result self.new }
         ensures height { IfOk result (λ p. p.height ≡ 0) }
         ensures shorter { length self.new.rest.now ≤ length self.old.rest.now }
     {
@@ -42,7 +42,7 @@ impl<'a> Cursor<'a> {
 
     /// A ground value.
     pub fn atom_ground(&mut self) -> Result<Part<Proc>, Fault>
-        ensures reads { (free : ℕ) → Makes free (rule Tutorial Prod.atom_ground) of_proc (view self.old.rest.now) result (view self.new.rest.now) }
+        ensures reads { Reads self.old Prod.atom_ground of_proc result self.new }
         ensures height { IfOk result (λ p. p.height ≡ 0) }
         ensures shorter { length self.new.rest.now ≤ length self.old.rest.now }
     {
@@ -52,7 +52,7 @@ impl<'a> Cursor<'a> {
 
     /// A variable as a name.
     pub fn name_word(&mut self) -> Result<Part<Name>, Fault>
-        ensures reads { (free : ℕ) → Makes free (rule Tutorial Prod.name_word) of_name (view self.old.rest.now) result (view self.new.rest.now) }
+        ensures reads { Reads self.old Prod.name_word of_name result self.new }
         ensures height { IfOk result (λ p. p.height ≡ 0) }
         ensures shorter { length self.new.rest.now ≤ length self.old.rest.now }
     {
@@ -62,7 +62,7 @@ impl<'a> Cursor<'a> {
 
     /// The process that a variable quotes.
     pub fn dropped_word(&mut self) -> Result<Part<Proc>, Fault>
-        ensures reads { (free : ℕ) → Makes free (rule Tutorial Prod.dropped_word) of_proc (view self.old.rest.now) result (view self.new.rest.now) }
+        ensures reads { Reads self.old Prod.dropped_word of_proc result self.new }
         ensures height { IfOk result (λ p. p.height ≡ 0) }
         ensures shorter { length self.new.rest.now ≤ length self.old.rest.now }
     {
@@ -72,7 +72,7 @@ impl<'a> Cursor<'a> {
 
     /// The empty map.
     pub fn empty_map(&mut self) -> Result<Part<Proc>, Fault>
-        ensures reads { (free : ℕ) → Makes free (rule Tutorial Prod.brace_empty) of_proc (view self.old.rest.now) result (view self.new.rest.now) }
+        ensures reads { Reads self.old Prod.brace_empty of_proc result self.new }
         ensures height { IfOk result (λ p. p.height ≡ 1) }
         ensures shorter { length self.new.rest.now ≤ length self.old.rest.now }
     {
@@ -82,7 +82,7 @@ impl<'a> Cursor<'a> {
 
     /// A variable that is bound here.
     pub fn pat_word(&mut self) -> Result<Part<Pat>, Fault>
-        ensures reads { (free : ℕ) → Makes free (rule Tutorial Prod.patom_word) of_pat (view self.old.rest.now) result (view self.new.rest.now) }
+        ensures reads { Reads self.old Prod.patom_word of_pat result self.new }
         ensures height { IfOk result (λ p. p.height ≡ 0) }
         ensures shorter { length self.new.rest.now ≤ length self.old.rest.now }
     {
@@ -92,7 +92,7 @@ impl<'a> Cursor<'a> {
 
     /// `_`
     pub fn pat_any(&mut self) -> Result<Part<Pat>, Fault>
-        ensures reads { (free : ℕ) → Makes free (rule Tutorial Prod.patom_any) of_pat (view self.old.rest.now) result (view self.new.rest.now) }
+        ensures reads { Reads self.old Prod.patom_any of_pat result self.new }
         ensures height { IfOk result (λ p. p.height ≡ 0) }
         ensures shorter { length self.new.rest.now ≤ length self.old.rest.now }
     {
@@ -102,7 +102,7 @@ impl<'a> Cursor<'a> {
 
     /// The pattern `Nil`.
     pub fn pat_nil(&mut self) -> Result<Part<Pat>, Fault>
-        ensures reads { (free : ℕ) → Makes free (rule Tutorial Prod.patom_nil) of_pat (view self.old.rest.now) result (view self.new.rest.now) }
+        ensures reads { Reads self.old Prod.patom_nil of_pat result self.new }
         ensures height { IfOk result (λ p. p.height ≡ 0) }
         ensures shorter { length self.new.rest.now ≤ length self.old.rest.now }
     {
@@ -112,7 +112,7 @@ impl<'a> Cursor<'a> {
 
     /// A ground value as a pattern.
     pub fn pat_ground(&mut self) -> Result<Part<Pat>, Fault>
-        ensures reads { (free : ℕ) → Makes free (rule Tutorial Prod.patom_ground) of_pat (view self.old.rest.now) result (view self.new.rest.now) }
+        ensures reads { Reads self.old Prod.patom_ground of_pat result self.new }
         ensures height { IfOk result (λ p. p.height ≡ 0) }
         ensures shorter { length self.new.rest.now ≤ length self.old.rest.now }
     {
@@ -122,7 +122,7 @@ impl<'a> Cursor<'a> {
 
     /// A simple type.
     pub fn pat_type(&mut self, simple: Simple) -> Result<Part<Pat>, Fault>
-        ensures reads { (free : ℕ) → Makes free (rule Tutorial (Prod.patom_type simple)) of_pat (view self.old.rest.now) result (view self.new.rest.now) }
+        ensures reads { Reads self.old (Prod.patom_type simple) of_pat result self.new }
         ensures height { IfOk result (λ p. p.height ≡ 0) }
         ensures shorter { length self.new.rest.now ≤ length self.old.rest.now }
     {
@@ -132,7 +132,7 @@ impl<'a> Cursor<'a> {
 
     /// Any name.
     pub fn name_any(&mut self) -> Result<Part<NamePat>, Fault>
-        ensures reads { (free : ℕ) → Makes free (rule Tutorial Prod.pname_any) of_name_pat (view self.old.rest.now) result (view self.new.rest.now) }
+        ensures reads { Reads self.old Prod.pname_any of_name_pat result self.new }
         ensures height { IfOk result (λ p. p.height ≡ 0) }
         ensures shorter { length self.new.rest.now ≤ length self.old.rest.now }
     {
@@ -142,7 +142,7 @@ impl<'a> Cursor<'a> {
 
     /// A name that is bound here.
     pub fn name_bound(&mut self) -> Result<Part<NamePat>, Fault>
-        ensures reads { (free : ℕ) → Makes free (rule Tutorial Prod.pname_word) of_name_pat (view self.old.rest.now) result (view self.new.rest.now) }
+        ensures reads { Reads self.old Prod.pname_word of_name_pat result self.new }
         ensures height { IfOk result (λ p. p.height ≡ 0) }
         ensures shorter { length self.new.rest.now ≤ length self.old.rest.now }
     {
@@ -152,7 +152,7 @@ impl<'a> Cursor<'a> {
 
     /// `=x`
     pub fn same_word(&mut self) -> Result<Part<Pat>, Fault>
-        ensures reads { (free : ℕ) → Makes free (rule Tutorial Prod.same_word) of_pat (view self.old.rest.now) result (view self.new.rest.now) }
+        ensures reads { Reads self.old Prod.same_word of_pat result self.new }
         ensures height { IfOk result (λ p. p.height ≡ 1) }
         ensures shorter { length self.new.rest.now ≤ length self.old.rest.now }
     {
@@ -163,7 +163,7 @@ impl<'a> Cursor<'a> {
 
     /// `=*x`
     pub fn same_drop(&mut self) -> Result<Part<Pat>, Fault>
-        ensures reads { (free : ℕ) → Makes free (rule Tutorial Prod.same_drop) of_pat (view self.old.rest.now) result (view self.new.rest.now) }
+        ensures reads { Reads self.old Prod.same_drop of_pat result self.new }
         ensures height { IfOk result (λ p. p.height ≡ 1) }
         ensures shorter { length self.new.rest.now ≤ length self.old.rest.now }
     {
@@ -175,7 +175,7 @@ impl<'a> Cursor<'a> {
 
     /// "..." "@" and a remainder, after these patterns.
     pub fn left_rest(&mut self, pats: Part<Vec<NamePat>>) -> Result<Part<Left>, Fault>
-        ensures reads { (free : ℕ) → Makes free (rule Tutorial (Prod.left_end_rest (map name_pat_written pats.value.items) pats.height)) of_left (view self.old.rest.now) result (view self.new.rest.now) }
+        ensures reads { Reads self.old (Prod.left_end_rest (map name_pat_written pats.value.items) pats.height) of_left result self.new }
         ensures height { IfOk result (λ p. p.height ≡ pats.height) }
         ensures shorter { length self.new.rest.now ≤ length self.old.rest.now }
     {
@@ -187,7 +187,7 @@ impl<'a> Cursor<'a> {
 
     /// No pattern and no remainder.
     pub fn sequence_none(&mut self, bracket: Bracket) -> Result<Part<Sequence>, Fault>
-        ensures reads { (free : ℕ) → Makes free (rule Tutorial (Prod.seq_none (bracket_of bracket))) of_sequence (view self.old.rest.now) result (view self.new.rest.now) }
+        ensures reads { Reads self.old (Prod.seq_none (bracket_of bracket)) of_sequence result self.new }
         ensures height { IfOk result (λ p. p.height ≡ 0) }
         ensures shorter { length self.new.rest.now ≤ length self.old.rest.now }
     {
@@ -202,7 +202,8 @@ impl<'a> Cursor<'a> {
         bracket: Bracket,
         pats: Part<Vec<Pat>>,
     ) -> Result<Part<Sequence>, Fault>
-        ensures reads { (free : ℕ) → Makes free (rule Tutorial (Prod.seq_end_rest (bracket_of bracket) (map pat_written pats.value.items) pats.height)) of_sequence (view self.old.rest.now) result (view self.new.rest.now) }
+        ensures reads { Reads self.old (Prod.seq_end_rest (bracket_of bracket) (map pat_written pats.value.items)
+            pats.height) of_sequence result self.new }
         ensures height { IfOk result (λ p. p.height ≡ pats.height) }
         ensures shorter { length self.new.rest.now ≤ length self.old.rest.now }
     {
@@ -218,7 +219,8 @@ impl<'a> Cursor<'a> {
         bracket: Bracket,
         pats: Part<Vec<Pat>>,
     ) -> Result<Part<Sequence>, Fault>
-        ensures reads { (free : ℕ) → Makes free (rule Tutorial (Prod.seq_end (bracket_of bracket) (map pat_written pats.value.items) pats.height)) of_sequence (view self.old.rest.now) result (view self.new.rest.now) }
+        ensures reads { Reads self.old (Prod.seq_end (bracket_of bracket) (map pat_written pats.value.items)
+            pats.height) of_sequence result self.new }
         ensures height { IfOk result (λ p. p.height ≡ pats.height) }
         ensures shorter { length self.new.rest.now ≤ length self.old.rest.now }
     {
@@ -229,7 +231,7 @@ impl<'a> Cursor<'a> {
     /// "..." and a remainder, after these pairs.
     pub fn pairs_rest(&mut self, pairs: Part<Vec<(Pat, Pat)>>) -> Result<Part<Pat>, Fault>
         requires { pairs.height + 1 < 2 ^ 32 }
-        ensures reads { (free : ℕ) → Makes free (rule Tutorial (Prod.ppairs_rest (pat_pairs_written pairs.value.items) pairs.height)) of_pat (view self.old.rest.now) result (view self.new.rest.now) }
+        ensures reads { Reads self.old (Prod.ppairs_rest (pat_pairs_written pairs.value.items) pairs.height) of_pat result self.new }
         ensures height { IfOk result (λ p. p.height ≡ pairs.height + 1) }
         ensures shorter { length self.new.rest.now ≤ length self.old.rest.now }
     {
@@ -242,7 +244,7 @@ impl<'a> Cursor<'a> {
     /// No remainder, after these pairs.
     pub fn pairs_close(&mut self, pairs: Part<Vec<(Pat, Pat)>>) -> Result<Part<Pat>, Fault>
         requires { pairs.height + 1 < 2 ^ 32 }
-        ensures reads { (free : ℕ) → Makes free (rule Tutorial (Prod.ppairs_end (pat_pairs_written pairs.value.items) pairs.height)) of_pat (view self.old.rest.now) result (view self.new.rest.now) }
+        ensures reads { Reads self.old (Prod.ppairs_end (pat_pairs_written pairs.value.items) pairs.height) of_pat result self.new }
         ensures height { IfOk result (λ p. p.height ≡ pairs.height + 1) }
         ensures shorter { length self.new.rest.now ≤ length self.old.rest.now }
     {
@@ -253,7 +255,7 @@ impl<'a> Cursor<'a> {
     /// The remainder that may follow these patterns.
     pub fn left_end(&mut self, pats: Part<Vec<NamePat>>) -> Result<Part<Left>, Fault>
         requires member { sees_member (view self.old.rest.now) ≡ false }
-        ensures reads { (free : ℕ) → Gives free (Sort.LeftTail (map name_pat_written pats.value.items) pats.height) of_left (view self.old.rest.now) result (view self.new.rest.now) }
+        ensures reads { ReadsSort self.old (Sort.LeftTail (map name_pat_written pats.value.items) pats.height) of_left result self.new }
         ensures height { IfOk result (λ p. p.height ≡ pats.height) }
         ensures shorter { length self.new.rest.now ≤ length self.old.rest.now }
     {
@@ -274,7 +276,8 @@ impl<'a> Cursor<'a> {
         pats: Part<Vec<Pat>>,
     ) -> Result<Part<Sequence>, Fault>
         requires member { sees_member (view self.old.rest.now) ≡ false }
-        ensures reads { (free : ℕ) → Gives free (Sort.SeqTail (bracket_of bracket) (map pat_written pats.value.items) pats.height) of_sequence (view self.old.rest.now) result (view self.new.rest.now) }
+        ensures reads { ReadsSort self.old (Sort.SeqTail (bracket_of bracket) (map pat_written pats.value.items)
+            pats.height) of_sequence result self.new }
         ensures height { IfOk result (λ p. p.height ≡ pats.height) }
         ensures shorter { length self.new.rest.now ≤ length self.old.rest.now }
     {
@@ -292,7 +295,7 @@ impl<'a> Cursor<'a> {
     pub fn pairs_end(&mut self, pairs: Part<Vec<(Pat, Pat)>>) -> Result<Part<Pat>, Fault>
         requires member { sees_member (view self.old.rest.now) ≡ false }
         requires room { pairs.height + 1 < 2 ^ 32 }
-        ensures reads { (free : ℕ) → Gives free (Sort.PPairs (pat_pairs_written pairs.value.items) pairs.height) of_pat (view self.old.rest.now) result (view self.new.rest.now) }
+        ensures reads { ReadsSort self.old (Sort.PPairs (pat_pairs_written pairs.value.items) pairs.height) of_pat result self.new }
         ensures height { IfOk result (λ p. p.height ≡ pairs.height + 1) }
         ensures shorter { length self.new.rest.now ≤ length self.old.rest.now }
     {
@@ -308,7 +311,7 @@ impl<'a> Cursor<'a> {
 
     /// The empty map of patterns.
     pub fn empty_map_pat(&mut self) -> Result<Part<Pat>, Fault>
-        ensures reads { (free : ℕ) → Makes free (rule Tutorial Prod.pbrace_empty) of_pat (view self.old.rest.now) result (view self.new.rest.now) }
+        ensures reads { Reads self.old Prod.pbrace_empty of_pat result self.new }
         ensures height { IfOk result (λ p. p.height ≡ 1) }
         ensures shorter { length self.new.rest.now ≤ length self.old.rest.now }
     {
@@ -317,7 +320,7 @@ impl<'a> Cursor<'a> {
 
     /// A map of patterns that is a remainder.
     pub fn rest_map_pat(&mut self) -> Result<Part<Pat>, Fault>
-        ensures reads { (free : ℕ) → Makes free (rule Tutorial Prod.pbrace_rest) of_pat (view self.old.rest.now) result (view self.new.rest.now) }
+        ensures reads { Reads self.old Prod.pbrace_rest of_pat result self.new }
         ensures height { IfOk result (λ p. p.height ≡ 1) }
         ensures shorter { length self.new.rest.now ≤ length self.old.rest.now }
     {
@@ -326,7 +329,7 @@ impl<'a> Cursor<'a> {
 
     /// Remainder ::= Word | "_"
     pub fn remainder(&mut self) -> Result<Rest, Fault>
-        ensures reads { (free : ℕ) → Gives free Sort.Remainder of_rest (view self.old.rest.now) result (view self.new.rest.now) }
+        ensures reads { ReadsSort self.old Sort.Remainder of_rest result self.new }
         ensures shorter { length self.new.rest.now ≤ length self.old.rest.now }
     {
         if self.sees(Mark::Underscore) {
@@ -339,7 +342,7 @@ impl<'a> Cursor<'a> {
 
     /// `true`
     fn truth(&mut self) -> Result<Ground, Fault>
-        ensures reads { (side : Side) (free : ℕ) → Makes free (rule Tutorial (Prod.ground_true side)) (of_ground side) (view self.old.rest.now) result (view self.new.rest.now) }
+        ensures reads { (side : Side) → Reads self.old (Prod.ground_true side) (of_ground side) result self.new }
         ensures shorter { length self.new.rest.now ≤ length self.old.rest.now }
     {
         self.expect(Mark::True)?;
@@ -348,7 +351,7 @@ impl<'a> Cursor<'a> {
 
     /// `false`
     fn falsity(&mut self) -> Result<Ground, Fault>
-        ensures reads { (side : Side) (free : ℕ) → Makes free (rule Tutorial (Prod.ground_false side)) (of_ground side) (view self.old.rest.now) result (view self.new.rest.now) }
+        ensures reads { (side : Side) → Reads self.old (Prod.ground_false side) (of_ground side) result self.new }
         ensures shorter { length self.new.rest.now ≤ length self.old.rest.now }
     {
         self.expect(Mark::False)?;
@@ -357,7 +360,7 @@ impl<'a> Cursor<'a> {
 
     /// An integer of at most 2^63 - 1.
     fn positive(&mut self) -> Result<Ground, Fault>
-        ensures reads { (side : Side) (free : ℕ) → Makes free (rule Tutorial (Prod.ground_int side)) (of_ground side) (view self.old.rest.now) result (view self.new.rest.now) }
+        ensures reads { (side : Side) → Reads self.old (Prod.ground_int side) (of_ground side) result self.new }
         ensures shorter { length self.new.rest.now ≤ length self.old.rest.now }
     {
         let value = self.integer(GREATEST)?;
@@ -366,7 +369,7 @@ impl<'a> Cursor<'a> {
 
     /// A `-` and an integer of at most 2^63.
     fn negative(&mut self) -> Result<Ground, Fault>
-        ensures reads { (side : Side) (free : ℕ) → Makes free (rule Tutorial (Prod.ground_minus side)) (of_ground side) (view self.old.rest.now) result (view self.new.rest.now) }
+        ensures reads { (side : Side) → Reads self.old (Prod.ground_minus side) (of_ground side) result self.new }
         ensures shorter { length self.new.rest.now ≤ length self.old.rest.now }
     {
         self.expect(Mark::Minus)?;
@@ -376,7 +379,7 @@ impl<'a> Cursor<'a> {
 
     /// A string.
     fn string_value(&mut self) -> Result<Ground, Fault>
-        ensures reads { (side : Side) (free : ℕ) → Makes free (rule Tutorial (Prod.ground_string side)) (of_ground side) (view self.old.rest.now) result (view self.new.rest.now) }
+        ensures reads { (side : Side) → Reads self.old (Prod.ground_string side) (of_ground side) result self.new }
         ensures shorter { length self.new.rest.now ≤ length self.old.rest.now }
     {
         let value = self.string()?;
@@ -385,7 +388,7 @@ impl<'a> Cursor<'a> {
 
     /// A URI.
     fn uri_value(&mut self) -> Result<Ground, Fault>
-        ensures reads { (side : Side) (free : ℕ) → Makes free (rule Tutorial (Prod.ground_uri side)) (of_ground side) (view self.old.rest.now) result (view self.new.rest.now) }
+        ensures reads { (side : Side) → Reads self.old (Prod.ground_uri side) (of_ground side) result self.new }
         ensures shorter { length self.new.rest.now ≤ length self.old.rest.now }
     {
         let value = self.uri()?;
@@ -394,7 +397,7 @@ impl<'a> Cursor<'a> {
 
     /// Ground ::= "true" | "false" | Int | "-" Int | Str | Uri, where 2^63 stands only after "-"
     pub fn ground(&mut self) -> Result<Ground, Fault>
-        ensures reads { (side : Side) (free : ℕ) → Gives free (Sort.Ground side) (of_ground side) (view self.old.rest.now) result (view self.new.rest.now) }
+        ensures reads { (side : Side) → ReadsSort self.old (Sort.Ground side) (of_ground side) result self.new }
         ensures shorter { length self.new.rest.now ≤ length self.old.rest.now }
     {
         if self.sees(Mark::True) {
@@ -414,7 +417,7 @@ impl<'a> Cursor<'a> {
 
     /// The URI that may follow a declared name.
     fn declared_uri(&mut self) -> Result<Option<String>, Fault>
-        ensures reads { (free : ℕ) (ds : List (List ℕ × Option (List ℕ))) (w : List ℕ) → Turns free (rule Tutorial (choose (Sort.DeclUri ds w) (view self.old.rest.now))) (λ u. last (Sort.DeclTail (ds ++ ((w, option_map string_bytes u) ∷ [])))) (view self.old.rest.now) result (view self.new.rest.now) }
+        ensures reads { ReadsDeclaredUri self.old result self.new }
         ensures shorter { length self.new.rest.now ≤ length self.old.rest.now }
     {
         if !self.sees(Mark::Open) {
@@ -428,8 +431,8 @@ impl<'a> Cursor<'a> {
 
     /// Decl ::= Word [ "(" Uri ")" ], after these names
     fn declaration(&mut self, names: Vec<Decl>) -> Result<Vec<Decl>, Fault>
-        ensures reads { (free : ℕ) → Turns free (rule Tutorial (Prod.decl (map declared names.items))) (λ ds. last (Sort.DeclTail (map declared ds.items))) (view self.old.rest.now) result (view self.new.rest.now) }
-        ensures shorter { MatchResult result (λ _. length self.new.rest.now < length self.old.rest.now) (λ _. length self.new.rest.now ≤ length self.old.rest.now) }
+        ensures reads { Continues self.old (rule Tutorial (Prod.decl (map declared names.items))) after_names result self.new }
+        ensures shorter { Shortens self.old result self.new }
     {
         let name = self.word()?;
         let uri = self.declared_uri()?;
@@ -438,7 +441,7 @@ impl<'a> Cursor<'a> {
 
     /// The names of a `new`.
     pub fn declarations(&mut self) -> Result<Vec<Decl>, Fault>
-        ensures reads { (free : ℕ) → Turns free (last (Sort.Decl [])) (λ ds. rule Tutorial (Prod.decl_body (map declared ds.items))) (view self.old.rest.now) result (view self.new.rest.now) }
+        ensures reads { Continues self.old (last (Sort.Decl [])) body_after result self.new }
         ensures shorter { length self.new.rest.now ≤ length self.old.rest.now }
     {
         let none = process_forms::no_names(self.alloc);
@@ -451,8 +454,8 @@ impl<'a> Cursor<'a> {
 
     /// A comma and one more name.
     fn next_declaration(&mut self, names: Vec<Decl>) -> Result<Vec<Decl>, Fault>
-        ensures reads { (free : ℕ) → Turns free (rule Tutorial (Prod.decl_more (map declared names.items))) (λ ds. last (Sort.DeclTail (map declared ds.items))) (view self.old.rest.now) result (view self.new.rest.now) }
-        ensures shorter { MatchResult result (λ _. length self.new.rest.now < length self.old.rest.now) (λ _. length self.new.rest.now ≤ length self.old.rest.now) }
+        ensures reads { Continues self.old (rule Tutorial (Prod.decl_more (map declared names.items))) after_names result self.new }
+        ensures shorter { Shortens self.old result self.new }
     {
         self.expect(Mark::Comma)?;
         self.declaration(names)

@@ -1,12 +1,11 @@
 //! The left side of a bind that has no patterns.
 ghost use Rattle.grammar.specs.Choice.{sees_name_pattern};
-ghost use Rattle.grammar.specs.Grammar.{rule};
 ghost use Rattle.grammar.specs.Productions.{Prod};
 ghost use Rattle.grammar.specs.Rules.{Sort};
-ghost use Rattle.grammar.specs.declared.dialect.Dialect.TheVariants.{Tutorial};
+ghost use Rattle.token_cursor.specs.Cursors.{Reads, ReadsSort};
 ghost use Rattle.token_cursor.specs.Meaning.{view};
-ghost use Rattle.token_cursor.specs.Reading.{Gives, Makes, of_left};
-ghost use Rattle.std.specs.Prelude.{◌≡◌, ◌<◌, ◌≤◌, IfOk, ℕ, false, length};
+ghost use Rattle.token_cursor.specs.Reading.{of_left};
+ghost use Rattle.std.specs.Prelude.{◌≡◌, ◌<◌, ◌≤◌, IfOk, false, length};
 
 use crate::cursor::Cursor;
 use calculus::Rest;
@@ -18,7 +17,7 @@ impl<'a> Cursor<'a> {
     /// A remainder or nothing, where no pattern stands.
     pub fn left_alone(&mut self) -> Result<Part<Left>, Fault>
         requires { sees_name_pattern (view self.old.rest.now) ≡ false }
-        ensures reads { (free : ℕ) → Gives free Sort.Left of_left (view self.old.rest.now) result (view self.new.rest.now) }
+        ensures reads { ReadsSort self.old Sort.Left of_left result self.new }
         ensures height { IfOk result (λ p. p.height ≡ 0) }
         ensures shorter { length self.new.rest.now ≤ length self.old.rest.now }
     {
@@ -31,7 +30,7 @@ impl<'a> Cursor<'a> {
 
     /// No pattern and no remainder.
     fn left_none(&mut self) -> Result<Part<Left>, Fault>
-        ensures reads { (free : ℕ) → Makes free (rule Tutorial Prod.left_none) of_left (view self.old.rest.now) result (view self.new.rest.now) }
+        ensures reads { Reads self.old Prod.left_none of_left result self.new }
         ensures height { IfOk result (λ p. p.height ≡ 0) }
         ensures shorter { length self.new.rest.now ≤ length self.old.rest.now }
     {
@@ -41,7 +40,7 @@ impl<'a> Cursor<'a> {
 
     /// A remainder without patterns.
     fn left_only_rest(&mut self) -> Result<Part<Left>, Fault>
-        ensures reads { (free : ℕ) → Makes free (rule Tutorial Prod.left_rest) of_left (view self.old.rest.now) result (view self.new.rest.now) }
+        ensures reads { Reads self.old Prod.left_rest of_left result self.new }
         ensures height { IfOk result (λ p. p.height ≡ 0) }
         ensures shorter { length self.new.rest.now ≤ length self.old.rest.now }
     {

@@ -1,3 +1,4 @@
 pub mod Offers
 pub mod Inner
 pub mod Progress
+pub mod Results

@@ -1,5 +1,5 @@
 // What is unfolded inside a part.
-ghost use Rattle.std.specs.Prelude.{◌≡◌, ◌≤◌, ◌<◌, ◌*◌, ◌-◌, ◌^◌, ℕ, List, [], All, length, map, IfOk, MatchResult};
+ghost use Rattle.std.specs.Prelude.{◌≡◌, ◌≤◌, ◌<◌, ◌*◌, ◌-◌, ◌^◌, ℕ, List, [], All, length, map, IfOk};
 ghost use Rattle.calculus.specs.CodeLaws.{IsShort};
 ghost use Rattle.calculus.specs.Form.{a_case, Fits, IsClosed};
 ghost use Rattle.calculus.specs.Outcome.{after, charged, free, pure, within_limits};
@@ -8,11 +8,11 @@ ghost use Rattle.calculus.specs.Substitution.{put};
 ghost use Rattle.calculus.specs.Tree.{match as matches, row};
 ghost use Rattle.calculus.specs.Unfolding.{names_made};
 ghost use Rattle.calculus.specs.Values.{value};
-ghost use Rattle.rho_eval.specs.Outcomes.{Came, Stopped};
 ghost use Rattle.rho_term.specs.Normal.{IsOrdered};
 ghost use Rattle.rho_term.specs.Parts.{case_tree, part_tree};
 ghost use Rattle.rho_term.specs.Sizes.{in_u64, size};
 ghost use Rattle.unfold.specs.Inner.{chosen_body, inner_process, is_silent, HoldsNoProcess};
+ghost use Rattle.unfold.specs.Results.{ComesTo};
 
 use crate::limits::{add_cost, put_within};
 use name_seed::Seed;
@@ -40,7 +40,7 @@ pub(crate) fn inner_process(
     requires bytes { bytes ≡ in_u64 (size (part_tree part)) }
     requires closed { IsClosed (only (part_tree part)) }
     requires ordered { IsOrdered (part_tree part) }
-    ensures value { MatchResult result (λ p. Came cap price p.price p.value (inner_process prices.now seed.now (part_tree part))) (λ e. Stopped cap price (inner_process prices.now seed.now (part_tree part)) e) }
+    ensures value { ComesTo result cap price (inner_process prices.now seed.now (part_tree part)) }
     ensures closed { IfOk result (λ p. IsClosed p.value) }
 {
     match part {
@@ -81,7 +81,8 @@ fn new_body(
 ) -> Result<Priced<Term>, EvalStop>
     requires cap { cap < 2 ^ 64 - 1 }
     requires price { price ≤ cap }
-    ensures { MatchResult result (λ p. Came cap price p.price p.value (charged (prices.now.name * length names.now.items) (pure (put (names_made seed.now 0 names.now.items) body.now)))) (λ e. Stopped cap price (charged (prices.now.name * length names.now.items) (pure (put (names_made seed.now 0 names.now.items) body.now))) e) }
+    ensures { ComesTo result cap price (charged (prices.now.name * length names.now.items)
+        (pure (put (names_made seed.now 0 names.now.items) body.now))) }
 {
     let cost = prices.name().saturating_mul(names.len() as u64);
     let price = add_cost(price, cost, cap)?;
@@ -104,7 +105,7 @@ fn match_body(
     requires price { price ≤ cap }
     requires bytes { bytes ≡ in_u64 (size (two matches target (many row (map case_tree cases.items)))) }
     requires closed { IsClosed (only (two matches target (many row (map case_tree cases.items)))) }
-    ensures value { MatchResult result (λ p. Came cap price p.price p.value (after (value prices.now target) (λ v. chosen_body prices.now v (map case_tree cases.items)))) (λ e. Stopped cap price (after (value prices.now target) (λ v. chosen_body prices.now v (map case_tree cases.items))) e) }
+    ensures value { ComesTo result cap price (after (value prices.now target) (λ v. chosen_body prices.now v (map case_tree cases.items))) }
     ensures closed { IfOk result (λ p. IsClosed p.value) }
 {
     if bytes >= LONG_CODE {
@@ -130,7 +131,7 @@ fn case_body(
     requires short_target { IsShort target.now }
     requires cases { All (λ c. Fits a_case [] (case_tree c)) cases.items }
     requires short_cases { All (λ c. IsShort c.pat) cases.items }
-    ensures value { MatchResult result (λ p. Came cap price p.price p.value (chosen_body prices.now target.now (map case_tree cases.items))) (λ e. Stopped cap price (chosen_body prices.now target.now (map case_tree cases.items)) e) }
+    ensures value { ComesTo result cap price (chosen_body prices.now target.now (map case_tree cases.items)) }
     ensures closed { IfOk result (λ p. IsClosed p.value) }
 {
     let mut total = price;
@@ -157,7 +158,7 @@ fn bound_body(
 ) -> Result<Priced<Term>, EvalStop>
     requires price { price ≤ cap }
     requires closed { Fits a_case [] (case_tree case) }
-    ensures { MatchResult result (λ p. Came cap price p.price p.value (free (within_limits (put values.now case.body)))) (λ e. Stopped cap price (free (within_limits (put values.now case.body))) e) }
+    ensures { ComesTo result cap price (free (within_limits (put values.now case.body))) }
 {
     let TermCase { pat, body } = case;
     if pat_bound(&pat) > 0 {
@@ -182,7 +183,7 @@ pub(crate) fn value_inside(
     requires closed { IsClosed (only (part_tree part.now)) }
     requires ordered { IsOrdered (part_tree part.now) }
     requires other { HoldsNoProcess (part_tree part.now) }
-    ensures value { (s : List ℕ) → MatchResult result (λ p. Came cap price p.price p.value (inner_process prices.now s (part_tree part.now))) (λ e. Stopped cap price (inner_process prices.now s (part_tree part.now)) e) }
+    ensures value { (s : List ℕ) → ComesTo result cap price (inner_process prices.now s (part_tree part.now)) }
     ensures closed { IfOk result (λ p. IsClosed p.value) }
 {
     match part {

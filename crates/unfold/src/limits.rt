@@ -2,7 +2,7 @@
 ghost use Rattle.std.specs.Prelude.{◌≡◌, ◌≤◌, ◌<◌, ◌+◌, ◌-◌, ◌^◌, MatchResult};
 ghost use Rattle.calculus.specs.Outcome.{free, within_limits};
 ghost use Rattle.calculus.specs.Substitution.{put};
-ghost use Rattle.rho_eval.specs.Outcomes.{Came, Stopped};
+ghost use Rattle.unfold.specs.Results.{ComesTo};
 
 use calculus::FaultKind;
 use rho_eval::{EvalStop, Priced};
@@ -31,7 +31,7 @@ pub(crate) fn put_within(
     cap: u64,
 ) -> Result<Priced<Term>, EvalStop>
     requires { price ≤ cap }
-    ensures { MatchResult result (λ p. Came cap price p.price p.value (free (within_limits (put values.now body.now)))) (λ e. Stopped cap price (free (within_limits (put values.now body.now))) e) }
+    ensures { ComesTo result cap price (free (within_limits (put values.now body.now))) }
 {
     let (height, bytes) = put_size(body, values);
     if height > MOST_HEIGHT {

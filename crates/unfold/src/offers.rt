@@ -1,15 +1,13 @@
 // What a send and a receive offer: their constituents are evaluated first.
-ghost use Rattle.std.specs.Prelude.{◌≡◌, ◌≤◌, ◌<◌, ◌-◌, ◌^◌, [], ◌∷◌, All, map, MatchResult};
+ghost use Rattle.std.specs.Prelude.{◌≡◌, ◌≤◌, ◌<◌, ◌-◌, ◌^◌, All, map};
 ghost use Rattle.calculus.specs.Tree.{send as sends, receive as receives, row};
 ghost use Rattle.calculus.specs.Shape.{two, many, only};
 ghost use Rattle.calculus.specs.Form.{IsClosed};
 ghost use Rattle.calculus.specs.Outcome.{in_order};
-ghost use Rattle.calculus.specs.Unfolding.{a_row};
 ghost use Rattle.calculus.specs.Values.{value};
-ghost use Rattle.rho_eval.specs.Outcomes.{Came, Stopped};
 ghost use Rattle.rho_term.specs.Parts.{bind_tree};
-ghost use Rattle.rho_term.specs.Rows.{row_of_op};
 ghost use Rattle.unfold.specs.Offers.{send_work, receive_work};
+ghost use Rattle.unfold.specs.Results.{ComesToAll, ComesToRow};
 
 use calculus::Kind;
 use name_seed::Seed;
@@ -33,7 +31,7 @@ pub(crate) fn send_offer(
     requires cap { cap < 2 ^ 64 - 1 }
     requires price { price ≤ cap }
     requires closed { IsClosed (only (two (sends persistent) channel.now (many row args.now.items))) }
-    ensures { MatchResult result (λ p. Came cap price p.price (a_row (row_of_op p.value) ∷ []) (send_work prices.now seed.now persistent channel.now args.now.items)) (λ e. Stopped cap price (send_work prices.now seed.now persistent channel.now args.now.items) e) }
+    ensures { ComesToRow result cap price (send_work prices.now seed.now persistent channel.now args.now.items) }
 {
     let channel = eval_term(alloc, channel, prices, cap, price)?;
     let args = eval_terms(alloc, args, prices, cap, channel.price)?;
@@ -65,7 +63,7 @@ pub(crate) fn receive_offer(
     requires cap { cap < 2 ^ 64 - 1 }
     requires price { price ≤ cap }
     requires closed { IsClosed (only (two (receives kind) (many row (map bind_tree binds.now.items)) body.now)) }
-    ensures { MatchResult result (λ p. Came cap price p.price (a_row (row_of_op p.value) ∷ []) (receive_work prices.now seed.now kind (map bind_tree binds.now.items) body.now)) (λ e. Stopped cap price (receive_work prices.now seed.now kind (map bind_tree binds.now.items) body.now) e) }
+    ensures { ComesToRow result cap price (receive_work prices.now seed.now kind (map bind_tree binds.now.items) body.now) }
 {
     let channels = channel_values(alloc, binds, prices, cap, price)?;
     let id = seed.digest();
@@ -94,7 +92,7 @@ fn channel_values(
     requires cap { cap < 2 ^ 64 - 1 }
     requires price { price ≤ cap }
     requires closed { All (λ b. IsClosed b.channel) binds.now.items }
-    ensures { MatchResult result (λ p. Came cap price p.price p.value.items (in_order (map (λ b. value prices.now b.channel) binds.now.items))) (λ e. Stopped cap price (in_order (map (λ b. value prices.now b.channel) binds.now.items)) e) }
+    ensures { ComesToAll result cap price (in_order (map (λ b. value prices.now b.channel) binds.now.items)) }
 {
     let mut total = price;
     let mut values = Vec::new(alloc);

@@ -7,7 +7,8 @@ ghost use Rattle.rho_term.specs.Normal.{IsNormal, IsOrdered};
 ghost use Rattle.rho_term.specs.Parts.{part_tree};
 ghost use Rattle.rho_term.specs.Rows.{row_of_op};
 ghost use Rattle.unfold.specs.Inner.{is_silent};
-ghost use Rattle.unfold.specs.Progress.{pending, IsReady, Advances, StopsWith, Ends, with_part, in_turn, progress};
+ghost use Rattle.unfold.specs.Progress.{pending, IsReady, StopsWith, Ends, in_turn, progress};
+ghost use Rattle.unfold.specs.Results.{pending_part, TakesTurn};
 
 use crate::inner::{inner_process, is_silent, value_inside};
 use crate::offers::{receive_offer, send_offer};
@@ -68,7 +69,7 @@ fn silent_turn(
     requires closed { IsClosed (only (part_tree part.now)) }
     requires ordered { IsOrdered (part_tree part.now) }
     requires silent { is_silent (part_tree part.now) ≡ true }
-    ensures { (s : List ℕ) → MatchResult result (λ _. Advances prices.now cap (with_part (record { part = part_tree part.now; seed = s }) (progress work.old)) (progress work.new)) (λ e. StopsWith prices.now cap (with_part (record { part = part_tree part.now; seed = s }) (progress work.old)) e) }
+    ensures { (s : List ℕ) → TakesTurn result prices.now cap (pending_part (part_tree part.now) s) work.old work.new }
 {
     let price = work.price;
     let done = value_inside(alloc, part, prices, cap, price)?;
@@ -90,7 +91,7 @@ fn seeded_turn(
     requires ready { All IsReady (in_turn work.old.left.items) }
     requires closed { IsClosed (only (part_tree part)) }
     requires ordered { IsOrdered (part_tree part) }
-    ensures { MatchResult result (λ _. Advances prices.now cap (with_part (record { part = part_tree part; seed = seed.now }) (progress work.old)) (progress work.new)) (λ e. StopsWith prices.now cap (with_part (record { part = part_tree part; seed = seed.now }) (progress work.old)) e) }
+    ensures { TakesTurn result prices.now cap (pending_part (part_tree part) seed.now) work.old work.new }
 {
     match part {
         Part::Send {
@@ -138,7 +139,7 @@ fn turn(
     requires ready { All IsReady (in_turn work.old.left.items) }
     requires closed { IsClosed (only (part_tree part)) }
     requires ordered { IsOrdered (part_tree part) }
-    ensures { MatchResult result (λ _. Advances prices.now cap (with_part (record { part = part_tree part; seed = digest_of (Split under.now number) }) (progress work.old)) (progress work.new)) (λ e. StopsWith prices.now cap (with_part (record { part = part_tree part; seed = digest_of (Split under.now number) }) (progress work.old)) e) }
+    ensures { TakesTurn result prices.now cap (pending_part (part_tree part) (digest_of (Split under.now number))) work.old work.new }
 {
     if is_silent(&part) {
         silent_turn(alloc, work, &part, prices, cap)
@@ -158,7 +159,8 @@ pub(crate) fn finish(
     requires cap { cap < 2 ^ 64 - 1 }
     requires price { work.price ≤ cap }
     requires ready { All IsReady (in_turn work.left.items) }
-    ensures { MatchResult result (λ r. Ends prices.now cap (progress work) r.price (map row_of_op r.value.items)) (λ e. StopsWith prices.now cap (progress work) e) }
+    ensures { MatchResult result (λ r. Ends prices.now cap (progress work) r.price (map row_of_op r.value.items))
+        (λ e. StopsWith prices.now cap (progress work) e) }
 {
     for _turn in 0..u64::MAX {
         match work.left.pop() {

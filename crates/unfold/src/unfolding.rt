@@ -1,10 +1,9 @@
 // What a process, and a body under bindings, unfold to.
-ghost use Rattle.std.specs.Prelude.{◌≡◌, ◌<◌, ◌-◌, ◌^◌, MatchResult};
+ghost use Rattle.std.specs.Prelude.{◌≡◌, ◌<◌, ◌-◌, ◌^◌};
 ghost use Rattle.calculus.specs.Form.{IsClosed};
 ghost use Rattle.calculus.specs.Substitution.{put};
 ghost use Rattle.calculus.specs.Unfolding.{Unfolds, UnfoldsUnder};
-ghost use Rattle.rho_eval.specs.Outcomes.{EndsWith};
-ghost use Rattle.unfold.specs.Offers.{Comes};
+ghost use Rattle.unfold.specs.Results.{Fulfils};
 
 use crate::limits::put_within;
 use crate::turns::{Work, finish, push_parts};
@@ -27,7 +26,7 @@ pub fn unfold(
 ) -> Result<Priced<Vec<Op>>, EvalStop>
     requires cap { cap < 2 ^ 64 - 1 }
     requires closed { IsClosed term.now }
-    ensures { MatchResult result (λ p. Comes (Unfolds prices.now cap term.now seed.now) p.price p.value.items) (λ e. EndsWith (Unfolds prices.now cap term.now seed.now) e) }
+    ensures { Fulfils result (Unfolds prices.now cap term.now seed.now) }
 {
     let term = term.copy(alloc)?;
     unfold_owned(alloc, term, seed, prices, cap)
@@ -43,7 +42,7 @@ fn unfold_owned(
 ) -> Result<Priced<Vec<Op>>, EvalStop>
     requires cap { cap < 2 ^ 64 - 1 }
     requires closed { IsClosed term }
-    ensures { MatchResult result (λ p. Comes (Unfolds prices.now cap term seed.now) p.price p.value.items) (λ e. EndsWith (Unfolds prices.now cap term seed.now) e) }
+    ensures { Fulfils result (Unfolds prices.now cap term seed.now) }
 {
     let mut left = Vec::new(alloc);
     push_parts(&mut left, term, seed)?;
@@ -68,7 +67,7 @@ pub fn unfold_body(
 ) -> Result<Priced<Vec<Op>>, EvalStop>
     requires cap { cap < 2 ^ 64 - 1 }
     requires closed { IsClosed (put values.now body.now) }
-    ensures { MatchResult result (λ p. Comes (UnfoldsUnder prices.now cap values.now body.now seed.now) p.price p.value.items) (λ e. EndsWith (UnfoldsUnder prices.now cap values.now body.now seed.now) e) }
+    ensures { Fulfils result (UnfoldsUnder prices.now cap values.now body.now seed.now) }
 {
     let price = 0;
     let term = put_within(alloc, body, values, price, cap)?;

@@ -29,7 +29,7 @@ take_left-left-requires-clause-desks g c =
     let X : Type 0 = g.row.S-Shard.Denot in let W : Type 0 = g.row.S-Work.Denot in
     let a = at_end m _ _ _ _ _ _ _ _ _ _ c.close_with-closed.ensures.values.2 c.gather.ensures.view refl c.requires.count in
     let r = c.requires.left.1 in
-    let same = c.take_shards-shards.ensures.left.0 in
+    let same = c.take_shards-shards.ensures.same in
     let P : List (Slot X W) → Type 0 = λ l. LiesOn l (map things_of a.desks) in (
       map things_of a.desks,
       length-map a.desks things_of ∙ a.many,
@@ -43,7 +43,7 @@ returns-clause-ran g c =
     let X : Type 0 = g.row.S-Shard.Denot in let W : Type 0 = g.row.S-Work.Denot in
     let a = at_end m _ _ _ _ _ _ _ _ _ _ c.close_with-closed.ensures.values.2 c.gather.ensures.view refl c.requires.count in
     let is = word_is (slots_items c.close_with-closed.result.words) 2 c.word-stop_word.result c.word-stop_word.ensures in
-    let same = c.take_shards-shards.ensures.left.0 in
+    let same = c.take_shards-shards.ensures.same in
     let hands : List (ℕ × W) = all_of (λ s. hand s.state.token.me.0.pile) c.args.seats.items in
     let Lies : List (Slot X W) → Type 0 = λ l. LiesOn l (map things_of a.desks) in
     let left = c.take_left-left.ensures (map things_of a.desks) (length-map a.desks things_of ∙ a.many) (subst Lies (sym same) (lies_all _ a.desks a.many a.lies)) in
@@ -71,7 +71,7 @@ returns-clause-empty g c =
     let m = g.S.Scene.meaning in
     let X : Type 0 = g.row.S-Shard.Denot in let W : Type 0 = g.row.S-Work.Denot in
     let a = at_end m _ _ _ _ _ _ _ _ _ _ c.close_with-closed.ensures.values.2 c.gather.ensures.view refl c.requires.count in
-    let same = c.take_shards-shards.ensures.left.0 in
+    let same = c.take_shards-shards.ensures.same in
     let hands : List (ℕ × W) = all_of (λ s. hand s.state.token.me.0.pile) c.args.seats.items in
     let Lies : List (Slot X W) → Type 0 = λ l. LiesOn l (map things_of a.desks) in
     let left = c.take_left-left.ensures (map things_of a.desks) (length-map a.desks things_of ∙ a.many) (subst Lies (sym same) (lies_all _ a.desks a.many a.lies)) in

@@ -1,5 +1,5 @@
 use Rattle.std.proofs.Common.{List, ◌∷◌, ap, sym, subst}
-use Rattle.std.specs.Prelude.{Option, MatchOption}
+use Rattle.std.specs.Prelude.{Option, MatchOption, All}
 use Rattle.std.specs.declared.alloc.Global.{Global}
 use Rattle.std.specs.declared.vec.Vec.{Vec}
 use Rattle.calculus.specs.declared.ids.Digest.{Digest}
@@ -9,6 +9,8 @@ use Rattle.rho_term.specs.declared.term.TermBind.{TermBind}
 use Rattle.row_search.specs.Choices.{AllBindsReady}
 use Rattle.row_search.proofs.Known.{as-row, binds-ready}
 use Rattle.least_step.specs.Choosing.{AreLeastTaken, OneTakesNone}
+use Rattle.least_step.specs.Filed.{HasPlace}
+use Rattle.least_step.proofs.Filing.{binds-awaited}
 use Rattle.least_step.proofs.Meeting.{meets-least, meets-none}
 use Rattle.least_step.proofs.least.meet_least.Goals as goal
 
@@ -17,10 +19,17 @@ returns-in-Produce c =
     let e = as-row c.args.receiver.now _ _ c.op.ensures.is c.in-Produce.is in
     λ rows a k m ds h. ap (λ (s : Row). met (s ∷ ds)) e
 
-pub least_data-requires : goal.least_data-requires
-least_data-requires c =
+pub least_data-requires-clause-ready : goal.least_data-requires-clause-ready
+least_data-requires-clause-ready c =
     let p = c.in-Consume in
     subst AllBindsReady (sym c.deref.ensures.value) (binds-ready c.args.receiver.now p.id p.kind p.binds p.body (as-row c.args.receiver.now _ _ c.op.ensures.is p.is) c.op.ensures.storable)
+
+pub least_data-requires-clause-places : goal.least_data-requires-clause-places
+least_data-requires-clause-places c =
+    let p = c.in-Consume in
+    let es = c.args.sends.now.entries in
+    let e = as-row c.args.receiver.now _ _ c.op.ensures.is p.is in
+    subst (λ (bs : List TermBind). All (λ b. HasPlace b.channel es) bs) (sym c.deref.ensures.value) (binds-awaited c.args.receiver.now p.id p.kind p.binds p.body e es c.requires)
 
 pub returns-in-None : goal.returns-in-None
 returns-in-None c =

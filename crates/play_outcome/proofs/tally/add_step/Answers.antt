@@ -3,7 +3,7 @@ use Rattle.play_outcome.proofs.Tallying.{one-more}
 use Rattle.play_outcome.proofs.tally.add_step.Goals as goal
 
 pub returns : goal.returns
-returns c fault es e t d =
+returns c e d fault es t =
     let old = c.args.tally.now in
     one-more fault es old t e c.args.made d (record { steps = c.push.new.self; verdict = c.verdict_with-tally.result; output = c.extend_from_slice.new.self })
     c.in_ok-push.ensures.items

@@ -13,11 +13,14 @@ use Rattle.play_pool.specs.Closing.{ClosesPlay}
 use Rattle.play_pool.proofs.Beginning.{concluded, ends-or-clashes, few-steps, paid-steps, RunOrClash}
 use Rattle.play_pool.proofs.playing.play_source.Goals as goal
 
-pub run_hub-requires-clause-terms : goal.run_hub-requires-clause-terms
-run_hub-requires-clause-terms g c κs within = let e = c.requires.deploy in (ap (λ (d : Deploy). d.prices) e, ap (λ (d : Deploy). d.limit) e, ap (λ (d : Deploy). d.rows) e)
+pub run_hub-requires-clause-means : goal.run_hub-requires-clause-means
+run_hub-requires-clause-means g c κs within = let e = c.requires.deploy in (ap (λ (d : Deploy). d.prices) e, ap (λ (d : Deploy). d.limit) e, c.requires.limit)
 
-pub run_hub-requires-clause-source : goal.run_hub-requires-clause-source
-run_hub-requires-clause-source g c κs within = (ap (λ (d : Deploy). work_price d.limit g.J.PlayTerms.source) c.requires.deploy ∙ c.requires.source.0, c.requires.source.2, c.requires.source.3)
+pub run_hub-requires-clause-rows : goal.run_hub-requires-clause-rows
+run_hub-requires-clause-rows g c κs within = ap (λ (d : Deploy). d.rows) c.requires.deploy
+
+pub run_hub-requires-clause-price : goal.run_hub-requires-clause-price
+run_hub-requires-clause-price g c κs within = (ap (λ (d : Deploy). work_price d.limit g.J.PlayTerms.source) c.requires.deploy ∙ c.requires.source.0, c.requires.source.2)
 
 pub run_hub-requires-clause-comm : goal.run_hub-requires-clause-comm
 run_hub-requires-clause-comm g c κs within =
@@ -26,36 +29,36 @@ run_hub-requires-clause-comm g c κs within =
 -- the limit pays for few steps
 pub tell-requires-clause-few : goal.tell-requires-clause-few
 tell-requires-clause-few g c κs within =
-    let bound = few-steps g.J.PlayTerms.deploy c.args.prices.now c.args.limit c.args.base.items c.args.term.now c.args.source.now.0 c.requires.deploy _ c.args.workers c.in_ok-closed.ensures.closes.few in
-    let paid = paid-steps c.args.limit c.args.prices.now.comm c.args.workers (omega (arith, c.comm-comm.ensures.some, c.comm-comm.ensures.price)) c.requires.limit c.requires.workers.1 in
+    let bound = few-steps g.J.PlayTerms.deploy c.args.means.prices.now c.args.means.limit c.args.base.items c.args.term.now c.args.source.now.0 c.requires.deploy _ c.args.workers c.in_ok-closed.ensures.closes.few in
+    let paid = paid-steps c.args.means.limit c.args.means.prices.now.comm c.args.workers (omega (arith, c.comm-comm.ensures.some, c.comm-comm.ensures.price)) c.requires.limit c.requires.workers.1 in
     omega (arith, bound, paid)
 
 pub returns-clause-count : goal.returns-clause-count
 returns-clause-count g c =
     let closes = c.in_ok-closed.ensures.closes in
-    let bound = few-steps g.J.PlayTerms.deploy c.args.prices.now c.args.limit c.args.base.items c.args.term.now c.args.source.now.0 c.requires.deploy _ c.args.workers closes.few in
+    let bound = few-steps g.J.PlayTerms.deploy c.args.means.prices.now c.args.means.limit c.args.base.items c.args.term.now c.args.source.now.0 c.requires.deploy _ c.args.workers closes.few in
     IfOk-weaker c.tell.result _ _ (λ (played : Played) s. omega (arith, bound, ap length s, length-map played.steps.items step_of)) c.tell.ensures.steps
 
 pub returns-clause-most : goal.returns-clause-most
 returns-clause-most g c =
     let closes = c.in_ok-closed.ensures.closes in
-    let bound = few-steps g.J.PlayTerms.deploy c.args.prices.now c.args.limit c.args.base.items c.args.term.now c.args.source.now.0 c.requires.deploy _ c.args.workers closes.few in
-    let paid = paid-steps c.args.limit c.args.prices.now.comm c.args.workers (omega (arith, c.comm-comm.ensures.some, c.comm-comm.ensures.price)) c.requires.limit c.requires.workers.1 in
+    let bound = few-steps g.J.PlayTerms.deploy c.args.means.prices.now c.args.means.limit c.args.base.items c.args.term.now c.args.source.now.0 c.requires.deploy _ c.args.workers closes.few in
+    let paid = paid-steps c.args.means.limit c.args.means.prices.now.comm c.args.workers (omega (arith, c.comm-comm.ensures.some, c.comm-comm.ensures.price)) c.requires.limit c.requires.workers.1 in
     IfOk-weaker c.tell.result _ _ (λ (played : Played) s. omega (arith, bound, paid, ap length s, length-map played.steps.items step_of)) c.tell.ensures.steps
 
 pub returns-clause-run : goal.returns-clause-run
 returns-clause-run g c numberable bytes quiet =
-    let p = c.args.prices.now in
-    let deploy : Deploy = deploy_of p c.args.limit c.args.base.items c.args.term.now c.args.source.now.0 in
+    let p = c.args.means.prices.now in
+    let deploy : Deploy = deploy_of p c.args.means.limit c.args.base.items c.args.term.now c.args.source.now.0 in
     let source = g.J.PlayTerms.source in
     let es = c.in_ok-closed.closed.entries.items in
     let shards = map g.T.ShardTables.rows c.in_ok-closed.closed.shards.items in
     let charged = c.in_ok-closed.closed.charged in
     let closes : ClosesPlay deploy source c.args.workers es shards charged = subst (λ d. ClosesPlay d source c.args.workers es shards charged) c.requires.deploy c.in_ok-closed.ensures.closes in
-    let paid = paid-steps c.args.limit p.comm c.args.workers (omega (arith, c.comm-comm.ensures.some, c.comm-comm.ensures.price)) c.requires.limit c.requires.workers.1 in
+    let paid = paid-steps c.args.means.limit p.comm c.args.workers (omega (arith, c.comm-comm.ensures.some, c.comm-comm.ensures.price)) c.requires.limit c.requires.workers.1 in
     let few : length (steps_of (entries_of (play_of es))) ≤ 2 ^ 32 = omega (arith, closes.few, paid) in
     let storable : All IsStorable c.args.base.items = subst (All IsStorable) c.as_slice.ensures.value c.rows_may_be_stored.ensures in
-    let end = ends-or-clashes p c.args.limit c.args.base.items c.args.term.now c.args.source.now.0 c.args.root.now.0 source c.args.workers es shards charged numberable bytes quiet c.requires.unfolds closes few in
+    let end = ends-or-clashes p c.args.means.limit c.args.base.items c.args.term.now c.args.source.now.0 c.args.root.now.0 source c.args.workers es shards charged numberable bytes quiet c.requires.unfolds closes few in
     subst (λ d. IfOk c.tell.result (RunOrClash d source es shards)) (sym c.requires.deploy)
     (concluded deploy source es shards c.tell.result end c.tell.ensures.steps
     (λ x. c.tell.ensures.run deploy source refl closes.total c.requires.source.1 c.requires.closed storable x))

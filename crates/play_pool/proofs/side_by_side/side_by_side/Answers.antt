@@ -23,4 +23,4 @@ map_vec-requires-after_bounds g c κs within = λ i x lt e.
     let home = c.args.hub.now.table.shared.table_id in
     let jobs = c.in_ok-jobs.jobs.items in
     let all = each-back (λ s. IsIdle home s.state) (λ j. j.1) jobs (subst (All (λ s. IsIdle home s.state)) (sym c.in_ok-jobs.ensures) c.requires.seats) in
-    let idle = subst (λ y. IsIdle home y.1.state) (sym e) (all i x lt) in ((idle, c.requires.terms.0, c.requires.terms.1, c.requires.limit), (let a = row-send in let b = row-sync in let d = entry-send in let e = entry-sync in search (sendable, crosses, seat-send) depth 30))
+    let idle = subst (λ y. IsIdle home y.1.state) (sym e) (all i x lt) in ((idle, c.requires.means), (let a = row-send in let b = row-sync in let d = entry-send in let e = entry-sync in search (sendable, crosses, seat-send) depth 30))

@@ -43,7 +43,7 @@ commit-requires-clause-allowed g c κs w =
     let group = subst (λ (o : Stored). HoldsGroup rows d s o c.args.group held before) (sym c.of.ensures) c.requires.group in
     let r = c.requires.ready in
     let meets = subst (λ (o : Stored). (all : List Stored) → AreInHand rows before all → MeetsAtHand all o r.0) (sym c.of.ensures) r.1 in
-    ready-told rows d s e held before group c.args.ready r.0 (drop c.args.from (drawn_by c.args.seat.now.state)) r.2 refl (since_of c.args.seat.now.state) (took_by c.args.seat.now.state) c.requires.since c.requires.work.took meets
+    ready-told rows d s e held before group c.args.ready r.0 (drop c.args.taken.from (drawn_by c.args.seat.now.state)) r.2 refl (since_of c.args.seat.now.state) (took_by c.args.seat.now.state) c.requires.since c.requires.work.took meets
 
 pub commit-requires-clause-carries : goal.commit-requires-clause-carries
 commit-requires-clause-carries g c κs w =
@@ -57,7 +57,7 @@ commit-requires-clause-carries g c κs w =
     let group = subst (λ (o : Stored). HoldsGroup rows d s o c.args.group held before) (sym c.of.ensures) c.requires.group in
     let r = c.requires.ready in
     let made = subst (λ (ds : List Digest). AreMade rows (LosesRows (map (λ d. d.0) ds)) before after) c.as_slice.ensures.value c.take_out.ensures in
-    ready-carried rows d s e held before group c.args.ready r.0 (drop c.args.from (drawn_by c.args.seat.now.state)) r.2 refl (since_of c.args.seat.now.state) after c.requires.since made
+    ready-carried rows d s e held before group c.args.ready r.0 (drop c.args.taken.from (drawn_by c.args.seat.now.state)) r.2 refl (since_of c.args.seat.now.state) after c.requires.since made
 
 pub returns-clause-drawn : goal.returns-clause-drawn
 returns-clause-drawn g c =
@@ -66,7 +66,7 @@ returns-clause-drawn g c =
     let o = c.commit.ensures.offered in
     let ids : List Digest → List (List ℕ) = λ ds. map (λ d. d.0) ds in
     let ended : is_one_of c.of.result.value.id (ids c.args.ready.made.gone.value.items) ≡ c.is_one_of-ends.result =
-    ap (λ (z : Stored). is_one_of z.id (ids c.args.ready.made.gone.value.items)) c.of.ensures ∙ ap (λ v. is_one_of c.args.op.now.id (ids v.items)) (r.2.seen ∙ sym r.2.gone)
+    ap (λ (z : Stored). is_one_of z.id (ids c.args.ready.made.gone.value.items)) c.of.ensures ∙ ap (λ v. is_one_of c.args.taken.op.now.id (ids v.items)) (r.2.seen ∙ sym r.2.gone)
     ∙ ap (λ (x : List ℕ). is_one_of x (ids c.args.ready.gone.items)) (sym c.id.ensures) ∙ ap (λ (ds : List Digest). is_one_of c.id.result.0 (ids ds)) (sym c.as_slice-2.ensures.value) ∙ sym c.is_one_of-ends.ensures in
     record {
       number = c.commit.result;

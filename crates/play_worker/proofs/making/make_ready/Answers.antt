@@ -32,7 +32,7 @@ returns c =
     record {
       work = w.work;
       right = c.in_ok-repeat.ensures;
-      said = subst (λ z. UnfoldsUnder c.args.prices.now c.args.limit f.bound.items f.body z w.work) seed (subst (λ (vs : List Tree). UnfoldsUnder c.args.prices.now c.args.limit vs f.body c.comm-seed.result w.work) c.as_slice-2.ensures.value w.said);
+      said = subst (λ z. UnfoldsUnder c.args.means.prices.now c.args.means.limit f.bound.items f.body z w.work) seed (subst (λ (vs : List Tree). UnfoldsUnder c.args.means.prices.now c.args.means.limit vs f.body c.comm-seed.result w.work) c.as_slice-2.ensures.value w.said);
       step = refl;
       gone = refl;
       seen = c.of-gone.ensures;

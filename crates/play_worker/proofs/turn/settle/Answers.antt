@@ -41,7 +41,7 @@ stop-requires-clause-fault g c κs within _ =
 pub returns-else-ends-clause-more : goal.returns-else-ends-clause-more
 returns-else-ends-clause-more g c again e =
     let new = c.leave_ops.new.self.state in
-    let k = stays-on c.args.from c.args.op.now c.requires.drawn.0 c.args.seat.now.state new c.args.drawn c.requires.drawn.1 c.requires.drawn.2 c.if-ends.false
+    let k = stays-on c.args.taken.from c.args.taken.op.now c.requires.drawn.0 c.args.seat.now.state new c.args.drawn c.requires.drawn.1 c.requires.drawn.2 c.if-ends.false
     (c.leave_ops.ensures.taken.0 ∙ ap (λ p. p.taken) c.charge.ensures.works) (c.leave_ops.ensures.taken.1 ∙ ap (λ p. p.took) c.charge.ensures.works) c.in-Ok.ensures.left
     (ap (λ t. t.due) c.leave_ops.ensures.tally ∙ c.charge.ensures.due) (c.leave_ops.ensures.drawn ∙ c.charge.ensures.drawn) in
-    (k.0, subst (λ (a : Option ℕ). IsAgain (drop c.args.from (drawn_by new)) a) (cc e) k.1)
+    (k.0, subst (λ (a : Option ℕ). IsAgain (drop c.args.taken.from (drawn_by new)) a) (cc e) k.1)

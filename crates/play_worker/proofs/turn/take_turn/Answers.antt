@@ -27,6 +27,6 @@ settle-requires-clause-drawn g c κs within =
     let mid = c.draw-drawn.new.seat.state in
     let new = c.give_group.new.self.state in (
       before,
-      work-same c.args.from c.args.op.now c.args.seat.now.state before c.take_shown.ensures.same c.requires.work,
-      drawn-home c.args.from before mid new c.in-Ok-drawn.drawn c.in-Ok-drawn.ensures.drawn c.give_group.ensures.hub c.give_group.ensures.drawn c.give_group.ensures.tally c.give_group.ensures.works,
+      work-same c.args.taken.from c.args.taken.op.now c.args.seat.now.state before c.take_shown.ensures.same c.requires.work.0,
+      drawn-home c.args.taken.from before mid new c.in-Ok-drawn.drawn c.in-Ok-drawn.ensures.drawn c.give_group.ensures.hub c.give_group.ensures.drawn c.give_group.ensures.tally c.give_group.ensures.works,
     )

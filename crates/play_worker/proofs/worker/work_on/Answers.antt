@@ -1,5 +1,8 @@
 use denote.Param.Send.{sendable}
 use Rattle.sent_rows.proofs.Crossing.{row-send, row-sync}
+use Rattle.std.proofs.Common.{ℕ, List, drop, length, subst, sym}
+use Rattle.play_hub.specs.declared.entry.PlayEntry.{PlayEntry}
+use Rattle.play_worker.specs.Making.{IsAgain}
 use Rattle.play_worker.proofs.worker.work_on.Goals as goal
 
 pub drawn-from-requires-send-S-Work : goal.drawn-from-requires-send-S-Work
@@ -10,3 +13,16 @@ drawn-from-requires-sync-S-Work g c κs within = let a = row-sync in search send
 
 pub may_draw_more-requires-clause-work : goal.may_draw_more-requires-clause-work
 may_draw_more-requires-clause-work g c κs within = (c.take_turn.ensures.more c.in-More.next c.in-More.is).0
+
+pub loop-preserved : goal.loop-preserved
+loop-preserved g c =
+    let kept = c.may_draw_more.ensures in
+    let more = c.take_turn.ensures.more c.in-More.next c.in-More.is in
+    let on = kept.work c.if-not-may_draw_more.false in
+    record {
+      rest = kept.rest.0;
+      empty = c.take_turn.ensures.empty;
+      work = on.0;
+      leave = on.1;
+      again = subst (λ (l : List (ℕ × PlayEntry)). IsAgain (drop (length c.drawn-from.result.now) l) c.in-More.next) (sym kept.drawn) more.1;
+    }

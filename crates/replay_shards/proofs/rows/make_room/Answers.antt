@@ -37,17 +37,17 @@ returns-in-Some-clause-room c = go c.reserve.result c.reserve.ensures.ok
 
 pub returns-in_ok-insert-in-None-clause-same : goal.returns-in_ok-insert-in-None-clause-same
 returns-in_ok-insert-in-None-clause-same c =
-    ap (λ (es : List (Filed (Seen Row))). filed_rows es) (c.in_ok-insert-in-None.ensures.entries ∙ ap (λ m. insert_entry order m.entries c.args.id.now.0 c.reserve-in-None.new.self) c.get_mut.follows.holds-at-none)
-    ∙ put-nothing seen_row c.args.id.now.0 c.reserve-in-None.new.self c.args.rows.now.entries (c.reserve-in-None.ensures.items ∙ c.new-list.ensures.items) (not-found c.args.id.now.0 c.args.rows.now.entries (sym c.in-None.ensures.value))
+    ap (λ (es : List (Filed (Seen Row))). filed_rows es) (c.in_ok-insert-in-None.ensures.entries ∙ ap (λ m. insert_entry order m.entries c.args.id.now.0 c.in_ok-list-in-None.list) c.get_mut.follows.holds-at-none)
+    ∙ put-nothing seen_row c.args.id.now.0 c.in_ok-list-in-None.list c.args.rows.now.entries c.in_ok-list-in-None.ensures.items (not-found c.args.id.now.0 c.args.rows.now.entries (sym c.in-None.ensures.value))
 
 pub returns-in_ok-insert-in-None-clause-filed : goal.returns-in_ok-insert-in-None-clause-filed
 returns-in_ok-insert-in-None-clause-filed c u =
-    subst AreFiled (sym (c.in_ok-insert-in-None.ensures.entries ∙ ap (λ m. insert_entry order m.entries c.args.id.now.0 c.reserve-in-None.new.self) c.get_mut.follows.holds-at-none))
-    (under-put seen_row id_of c.args.id.now.0 c.reserve-in-None.new.self c.args.rows.now.entries (c.reserve-in-None.ensures.items ∙ c.new-list.ensures.items) u)
+    subst AreFiled (sym (c.in_ok-insert-in-None.ensures.entries ∙ ap (λ m. insert_entry order m.entries c.args.id.now.0 c.in_ok-list-in-None.list) c.get_mut.follows.holds-at-none))
+    (under-put seen_row id_of c.args.id.now.0 c.in_ok-list-in-None.list c.args.rows.now.entries c.in_ok-list-in-None.ensures.items u)
 
 pub returns-in_ok-insert-in-None-clause-room : goal.returns-in_ok-insert-in-None-clause-room
 returns-in_ok-insert-in-None-clause-room c = record {
-  under = c.reserve-in-None.new.self;
+  under = c.in_ok-list-in-None.list;
   found = c.in_ok-insert-in-None.ensures.updates.1;
-  room = omega (arith, c.in_ok-reserve-in-None.ensures.ok);
+  room = omega (arith, c.in_ok-list-in-None.ensures.len, c.in_ok-list-in-None.ensures.capacity);
 }

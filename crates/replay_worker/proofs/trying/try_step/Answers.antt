@@ -22,16 +22,16 @@ give_back-requires-clause-carries g c κs within =
     let state = c.take_group.new.self.state in
     since-none (values t.deploy t.steps t.row_of t.channel_of t.part_of) (since_of state) (held_by state) (t.in_hand c.take_group.new.held) c.take_group.ensures.since c.take_group.ensures.carries
 
-pub do_step-requires-clause-work : goal.do_step-requires-clause-work
-do_step-requires-clause-work g c κs within =
+pub draw_step-tasks-requires-clause-work : goal.draw_step-tasks-requires-clause-work
+draw_step-tasks-requires-clause-work g c κs within =
     let t = g.J.ReplayTerms in
     let w = c.loop.invariant.work in
     let same = c.take_group.ensures.works in
     let doing = subst (λ (z : Looked _ _). Shows t.deploy t.steps t.row_of t.channel_of t.part_of (t.in_hand c.take_group.new.held) (has_bit c.loop.shards) c.args.tried z) c.in-Ok-Fits.field-0-is c.in-Ok-Fits.ensures in
-    (w.0, c.args.tried, ap (λ p. p.taken) same ∙ w.1, ap (λ p. p.offered) same ∙ w.2, doing)
+    (c.args.tried, (w.0, ap (λ p. p.taken) same ∙ w.1, ap (λ p. p.offered) same ∙ w.2), doing)
 
-pub do_step-requires-clause-carries : goal.do_step-requires-clause-carries
-do_step-requires-clause-carries g c κs within =
+pub draw_step-tasks-requires-clause-carries : goal.draw_step-tasks-requires-clause-carries
+draw_step-tasks-requires-clause-carries g c κs within =
     let t = g.J.ReplayTerms in
     let state = c.take_group.new.self.state in
     since-none (values t.deploy t.steps t.row_of t.channel_of t.part_of) (since_of state) (held_by state) (t.in_hand c.take_group.new.held) c.take_group.ensures.since c.take_group.ensures.carries

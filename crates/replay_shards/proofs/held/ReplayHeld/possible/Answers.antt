@@ -1,7 +1,7 @@
 use Rattle.std.proofs.Common.{◌≡◌, ◌<◌, ◌-◌, ◌^◌, ◌∷◌, ◌++◌, length, List, sym, ap, subst, ◌∙◌, arith}
 use Rattle.std.specs.Prelude.{IfOk, MatchOption}
 use Rattle.calculus.specs.Log.{Step}
-use Rattle.event_log.specs.View.{step_of}
+use Rattle.event_log.specs.View.{step_of, steps_of}
 use Rattle.replay_space.specs.Rigs.{IsRigOf}
 use Rattle.replay_scene.specs.Spaces.{SeenRow}
 use Rattle.replay_shards.specs.Hands.{all_shown, parts_of}
@@ -19,4 +19,4 @@ returns c before s after log place =
     let small : length (before ++ s ∷ after) < 2 ^ 32 - 1 = omega (arith, ap (λ (l : List Step). length l) log, as-many-steps items, c.requires.writable.steps) in
     subst (λ (l : List Step). IfOk c.fit.result (λ o. MatchOption o (FitsNothing l (all_shown c.args.self.now) before s c.args.step) (IsReady l (all_shown c.args.self.now) before s c.args.step))) (sym log)
     (subst (λ (z : List SeenRow). IfOk c.fit.result (λ o. MatchOption o (FitsNothing (before ++ s ∷ after) z before s c.args.step) (IsReady (before ++ s ∷ after) z before s c.args.step))) shown
-    (c.fit.ensures before s after rig small place (sym e)))
+    (c.fit.ensures before s after rig (sym log ∙ ap steps_of (sym c.as_slice.ensures.value)) small place (sym e)))

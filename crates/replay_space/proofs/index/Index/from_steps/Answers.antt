@@ -9,4 +9,4 @@ pub returns : goal.returns
 returns c =
     let ss = steps_of c.args.steps.now in
     index-of ss c.as_slice.result.now c.in_ok-draft.draft _ c.in_ok-draft.ensures
-    (λ x. ap (steps_in x) c.as_slice.ensures.value ∙ c.in_ok-namings.ensures.same x ∙ c.in_ok-all.ensures.named x ∙ append-nil (uses x 0 ss)) refl refl c.in_ok-uses.ensures
+    (λ x. ap (steps_in x) c.as_slice.ensures.value ∙ c.in_ok-all.ensures.named x ∙ append-nil (uses x 0 ss)) refl refl c.in_ok-uses.ensures

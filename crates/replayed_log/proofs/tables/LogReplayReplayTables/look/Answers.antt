@@ -84,4 +84,4 @@ returns g c =
     λ j i. none-missing c.missing.result c.in-Some.wanted c.args.shards c.missing.ensures (omega (arith, c.if-missing-ne0.false)) j (w.2 j ∙ ap (λ (q : SeenRow). stands_in j q.row) same ∙ i) in
     let made : IsMade d.prices d.limit u t ready c.in_ok-doing.doing =
     subst (λ (z : Prices). IsMade z d.limit u t ready c.in_ok-doing.doing) (sym k.prices) (subst (λ (n : ℕ). IsMade c.args.self.now.prices n u t ready c.in_ok-doing.doing) (sym k.limit) c.in_ok-doing.ensures) in
-    may-be-done d g.N.ReplayNames.steps h (has_bit c.args.shards) t u ready p.before p.after (k.steps ∙ p.is) p.place y covers c.in_ok-doing.doing made
+    may-be-done d g.N.ReplayNames.steps h (has_bit c.args.shards) t u ready p.before p.after (k.steps ∙ p.is) p.place y covers (λ j i. sym (c.requires.shards j) ∙ i) c.in_ok-doing.doing made

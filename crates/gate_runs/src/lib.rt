@@ -8,20 +8,14 @@ mod meeting;
 mod plays;
 mod runs;
 
-use fault::GateFault;
+pub use fault::GateFault;
 use std::alloc::Global;
 use std::sync::Wait;
 use std::thread::Threads;
 
 /// What each call came to, a line each.
-fn told<R: Threads + Wait + Sync>(rt: &R, alloc: Global) -> Result<String, GateFault> {
+pub fn told<R: Threads + Wait + Sync>(rt: &R, alloc: Global) -> Result<String, GateFault> {
     let mut text = plays::told(rt, alloc)?;
     text.push_str(runs::told(rt, alloc)?.as_str())?;
     Ok(text)
-}
-
-fn main(rt: HostRuntime) -> anyhow::Result<()> {
-    let text = told(&rt, rt.alloc())?;
-    print!(rt; "{text}")?;
-    Ok(())
 }

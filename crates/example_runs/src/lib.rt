@@ -16,7 +16,7 @@ const MOST: u64 = 1_000_000;
 
 /// Why an example did not run.
 #[derive(Debug, Drop, thiserror::Error)]
-enum ExampleFault {
+pub enum ExampleFault {
     #[error("out of memory")]
     NoMemory,
     #[error("a file is not there")]
@@ -113,10 +113,14 @@ fn is_same_file(alloc: Global, files: &mut MemShelf) -> Result<bool, ExampleFaul
     Ok(next.as_slice() == again.as_slice())
 }
 
-fn main(rt: HostRuntime) -> anyhow::Result<()> {
+/// What each example came to: its codes and what it printed, one example after another. Their files lie where the program runs.
+pub fn told<R: Threads + Wait + Sync + Files>(
+    rt: &R,
+    alloc: Global,
+) -> Result<String, ExampleFault> {
+    let mut text = String::new(alloc);
     for name in EXAMPLES {
-        let text = run_example(&rt, rt.alloc(), name)?;
-        print!(rt; "{text}")?;
+        text.push_str(run_example(rt, alloc, name)?.as_str())?;
     }
-    Ok(())
+    Ok(text)
 }
