@@ -1,6 +1,6 @@
+//! Calls with given words and files.
 use crate::files::{Files, told_bytes};
-use program_calls::{Ended, call};
-use rho_outside::OpenGate;
+use crate::program::Ended;
 use std::alloc::Global;
 use std::sync::Wait;
 use std::thread::Threads;
@@ -19,13 +19,36 @@ fn shown(alloc: Global, ended: &Ended, files: &mut Files, name: &str) -> Result<
 /// What a call came to, by the names of what is shown.
 fn told(alloc: Global, ended: &Ended, files: &mut Files, names: &str) -> Result<String, LineFault> {
     let mut told = String::new(alloc);
+    match put_all(alloc, &mut told, ended, files, names) {
+        Ok(()) => Ok(told),
+        Err(fault) => Err(fault),
+    }
+}
+
+fn put_all(
+    alloc: Global,
+    told: &mut String,
+    ended: &Ended,
+    files: &mut Files,
+    names: &str,
+) -> Result<(), LineFault> {
     for name in names.split('+') {
         if !told.is_empty() {
             told.push_str(" | ")?;
         }
         told.push_str(shown(alloc, ended, files, name)?.as_str())?;
     }
-    Ok(told)
+    Ok(())
+}
+
+// The words of a line, whose files are kept: each its name and its text, or which call fails.
+fn set_files<'a>(alloc: Global, files: &mut Files, fields: &'a str) -> Result<&'a str, LineFault> {
+    let mut parts = fields.split(" <> ");
+    let words = parts.next().unwrap_or("");
+    for part in parts {
+        files.set(alloc, part)?;
+    }
+    Ok(words)
 }
 
 /// A call. `shows` is what is shown of it, names with `+` between them; the fields are its words, and behind each `<>` a file,
@@ -37,12 +60,7 @@ pub fn answer<R: Threads + Wait + Sync>(
     fields: &str,
 ) -> Result<String, LineFault> {
     let mut files = Files::new(alloc);
-    let mut parts = fields.split(" <> ");
-    let words = parts.next().ok_or(LineFault::Field)?;
-    for part in parts {
-        files.set(alloc, part)?;
-    }
-    let (shelf, out) = (&mut files.shelf, &mut files.out);
-    let ended = call(rt, alloc, words, shelf, out, &OpenGate)?;
+    let words = set_files(alloc, &mut files, fields)?;
+    let ended = files.call(rt, alloc, words)?;
     told(alloc, &ended, &mut files, shows)
 }

@@ -1,7 +1,11 @@
-use rho_outside::{MemShelf, MemSink, Shelf};
+//! Files and an output in memory, and how their bytes are told.
+use crate::program::{Ended, call};
+use rho_outside::{MemShelf, MemSink, OpenGate, Shelf};
 use sha2::{Digest as _, Sha256};
 use std::alloc::Global;
 use std::str;
+use std::sync::Wait;
+use std::thread::Threads;
 use table_lines::{LineFault, unescape};
 
 /// The most bytes of a file that are shown.
@@ -30,17 +34,32 @@ impl Files {
         match part {
             "file fails" => Ok(self.shelf.failing.push(self.shelf.calls)?),
             "put fails" => Ok(self.out.failing.push(self.out.calls)?),
-            _ => self.keep(alloc, part),
+            _ => self.keep_part(alloc, part),
         }
     }
 
-    fn keep(&mut self, alloc: Global, part: &str) -> Result<(), LineFault> {
+    fn keep_part(&mut self, alloc: Global, part: &str) -> Result<(), LineFault> {
         let (name, text) = part.split_once('=').ok_or(LineFault::Field)?;
         let bytes = unescape(alloc, text)?;
-        match self.shelf.keep(alloc, name, bytes.as_slice()) {
+        self.keep(alloc, name, bytes.as_slice())
+    }
+
+    pub fn keep(&mut self, alloc: Global, name: &str, bytes: &[u8]) -> Result<(), LineFault> {
+        match self.shelf.keep(alloc, name, bytes) {
             Ok(()) => Ok(()),
             Err(_) => Err(LineFault::NoMemory),
         }
+    }
+
+    /// Calls the program with the words of a text.
+    pub fn call<R: Threads + Wait + Sync>(
+        &mut self,
+        rt: &R,
+        alloc: Global,
+        text: &str,
+    ) -> Result<Ended, LineFault> {
+        let (shelf, out) = (&mut self.shelf, &mut self.out);
+        Ok(call(rt, alloc, text, shelf, out, &OpenGate)?)
     }
 
     /// The bytes of a file, or that there is none.
@@ -63,8 +82,7 @@ fn told_digits(alloc: Global, bytes: &[u8]) -> Result<String, LineFault> {
 fn told_digest(alloc: Global, bytes: &[u8]) -> Result<String, LineFault> {
     let mut hasher = Sha256::new();
     hasher.update(bytes);
-    let digest = hasher.finalize();
-    let digits = hex::encode(alloc, &digest)?;
+    let digits = hex::encode(alloc, &hasher.finalize())?;
     Ok(format!(in alloc; "{} bytes, {digits}", bytes.len())?)
 }
 
@@ -73,8 +91,14 @@ pub fn told_bytes(alloc: Global, bytes: &[u8]) -> Result<String, LineFault> {
     if bytes.len() > FEW {
         return told_digest(alloc, bytes);
     }
-    let Ok(text) = str::from_utf8(bytes) else {
-        return Err(LineFault::Field);
-    };
+    let text = text_of(bytes)?;
     Ok(format!(in alloc; "{text:?}")?)
+}
+
+/// The text that bytes are.
+pub fn text_of(bytes: &[u8]) -> Result<&str, LineFault> {
+    match str::from_utf8(bytes) {
+        Ok(text) => Ok(text),
+        Err(_) => Err(LineFault::Field),
+    }
 }

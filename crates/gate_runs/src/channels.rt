@@ -1,20 +1,34 @@
 //! Eight channels in eight shards, with a receive on each, or a send.
-use crate::fault::GateFault;
+ghost use Rattle.std.specs.Prelude.{IfOk};
+ghost use Rattle.calculus.specs.Form.{IsClosed};
+ghost use Rattle.sources.specs.Sources.{IsSourceOf};
+
+use rho_term::Term;
 use sources::read_source;
 use std::alloc::Global;
+use table_lines::LineFault;
 use term_encoder::shard_of;
 
-// The shard of the channel that a number is, below 64.
-fn shard_of_number(alloc: Global, number: u32) -> Result<u32, GateFault> {
-    let digits = format!(in alloc; "{number}")?;
-    match read_source(alloc, digits.as_bytes()) {
-        Ok(term) => Ok(shard_of(alloc, &term)?),
-        Err(_) => Err(GateFault::Source),
+/// The term of a source.
+pub fn term_of(alloc: Global, source: &[u8]) -> Result<Term, LineFault>
+    ensures term { IfOk result (IsSourceOf source.now) }
+    ensures closed { IfOk result IsClosed }
+{
+    match read_source(alloc, source) {
+        Ok(term) => Ok(term),
+        Err(_) => Err(LineFault::Field),
     }
 }
 
+// The shard of the channel that a number is, below 64.
+fn shard_of_number(alloc: Global, number: u32) -> Result<u32, LineFault> {
+    let digits = format!(in alloc; "{number}")?;
+    let term = term_of(alloc, digits.as_bytes())?;
+    Ok(shard_of(alloc, &term)?)
+}
+
 /// The first eight numbers, from 0 on, whose channels stand in eight shards.
-pub fn apart(alloc: Global) -> Result<Vec<u32>, GateFault> {
+pub fn apart(alloc: Global) -> Result<Vec<u32>, LineFault> {
     let mut found = Vec::new(alloc);
     let mut shards = 0u64;
     for number in 0..1000u32 {
@@ -31,7 +45,7 @@ pub fn apart(alloc: Global) -> Result<Vec<u32>, GateFault> {
 }
 
 /// A receive for each number, in parallel.
-pub fn receives(alloc: Global, numbers: &[u32]) -> Result<String, GateFault> {
+pub fn receives(alloc: Global, numbers: &[u32]) -> Result<String, LineFault> {
     let mut text = String::from_str(alloc, "Nil")?;
     for number in numbers {
         text.push_str(format!(in alloc; " | for (@x <- @{number}) {{ Nil }}")?.as_str())?;
@@ -40,7 +54,7 @@ pub fn receives(alloc: Global, numbers: &[u32]) -> Result<String, GateFault> {
 }
 
 /// A send for each number, in parallel.
-pub fn sends(alloc: Global, numbers: &[u32]) -> Result<String, GateFault> {
+pub fn sends(alloc: Global, numbers: &[u32]) -> Result<String, LineFault> {
     let mut text = String::from_str(alloc, "Nil")?;
     for number in numbers {
         text.push_str(format!(in alloc; " | @{number}!(0)")?.as_str())?;

@@ -1,7 +1,7 @@
 //! Replays that are called directly.
 ghost use Rattle.std.specs.Prelude.{◌≤◌};
 
-use crate::fault::GateFault;
+use crate::channels::term_of;
 use base_states::read_base;
 use event_log::read_log;
 use name_seed::bytes_digest;
@@ -9,10 +9,10 @@ use price_table::Prices;
 use readable_logs::laws::read_logs_are_writable;
 use replay_runs::{Replayed, replay};
 use rho_outside::Gate;
-use sources::read_source;
 use std::alloc::Global;
 use std::sync::Wait;
 use std::thread::Threads;
+use table_lines::LineFault;
 
 /// The greatest number of bytes of a source.
 const SOURCE_MAX: usize = 1_048_576;
@@ -26,21 +26,21 @@ pub fn replayed<R: Threads + Wait + Sync, G: Gate + Sync>(
     state: &[u8],
     source: &[u8],
     log: &[u8],
-) -> Result<Replayed, GateFault>
+) -> Result<Replayed, LineFault>
     requires { (1 ≤ workers) × (workers ≤ 32) }
 {
     if source.len() > SOURCE_MAX {
-        return Err(GateFault::Source);
+        return Err(LineFault::Field);
     }
     read_logs_are_writable();
     let Ok(log) = read_log(alloc, log) else {
-        return Err(GateFault::Source);
+        return Err(LineFault::Field);
     };
-    let Ok(term) = read_source(alloc, source) else {
-        return Err(GateFault::Source);
+    let Ok(term) = term_of(alloc, source) else {
+        return Err(LineFault::Field);
     };
     let Ok(checkpoint) = read_base(alloc, state) else {
-        return Err(GateFault::Source);
+        return Err(LineFault::Field);
     };
     let digest = bytes_digest(source);
     let root = checkpoint.root();
@@ -58,6 +58,6 @@ pub fn replayed<R: Threads + Wait + Sync, G: Gate + Sync>(
         log,
     ) {
         Ok(replayed) => Ok(replayed),
-        Err(_) => Err(GateFault::Source),
+        Err(_) => Err(LineFault::Field),
     }
 }

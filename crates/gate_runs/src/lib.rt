@@ -3,18 +3,17 @@
 
 mod channels;
 mod direct;
-mod fault;
 mod meeting;
 mod plays;
 mod runs;
 
-pub use fault::GateFault;
 use std::alloc::Global;
 use std::sync::Wait;
 use std::thread::Threads;
+use table_lines::LineFault;
 
 /// What each call came to, a line each.
-pub fn told<R: Threads + Wait + Sync>(rt: &R, alloc: Global) -> Result<String, GateFault> {
+pub fn told<R: Threads + Wait + Sync>(rt: &R, alloc: Global) -> Result<String, LineFault> {
     let mut text = plays::told(rt, alloc)?;
     text.push_str(runs::told(rt, alloc)?.as_str())?;
     Ok(text)

@@ -47,14 +47,15 @@ impl Meeting {
         true
     }
 
-    /// Whether another worker gave other shards home while the first one waited.
-    pub fn has_met<R: Wait>(&self, rt: &R) -> bool {
+    // Whether another worker gave other shards home while the first one waited.
+    fn has_met<R: Wait>(&self, rt: &R) -> bool {
         self.seen.lock(rt).met
     }
 
-    /// Whether the first worker gave up.
-    pub fn has_failed<R: Wait>(&self, rt: &R) -> bool {
-        self.seen.lock(rt).failed
+    /// Whether another worker gave other shards home while the first one waited, and whether the first gave up.
+    pub fn outcome<R: Wait>(&self, rt: &R) -> (bool, bool) {
+        let seen = self.seen.lock(rt);
+        (seen.met, seen.failed)
     }
 
     // Waits for another worker.

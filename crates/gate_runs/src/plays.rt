@@ -1,8 +1,7 @@
 //! Plays that are called directly.
 ghost use Rattle.std.specs.Prelude.{◌≤◌};
 
-use crate::channels::{apart, receives, sends};
-use crate::fault::GateFault;
+use crate::channels::{apart, receives, sends, term_of};
 use crate::meeting::Meeting;
 use name_seed::{EMPTY_ROOT, bytes_digest};
 use play_outcome::Played;
@@ -10,11 +9,11 @@ use play_pool::play;
 use price_table::Prices;
 use rho_outside::{Gate, OpenGate};
 use rspace_table::SpaceTables;
-use sources::read_source;
 use space_row::Row;
 use std::alloc::Global;
 use std::sync::Wait;
 use std::thread::Threads;
+use table_lines::LineFault;
 
 // Plays a source from these rows under the standard prices and a limit of 1,000.
 fn played<R: Threads + Wait + Sync, G: Gate + Sync>(
@@ -24,13 +23,11 @@ fn played<R: Threads + Wait + Sync, G: Gate + Sync>(
     workers: u32,
     base: Vec<Row>,
     text: &str,
-) -> Result<Played, GateFault>
+) -> Result<Played, LineFault>
     requires { (1 ≤ workers) × (workers ≤ 32) }
 {
     let text = text.as_bytes();
-    let Ok(term) = read_source(alloc, text) else {
-        return Err(GateFault::Source);
-    };
+    let term = term_of(alloc, text)?;
     let source = bytes_digest(text);
     let prices = Prices::standard();
     Ok(play::<R, G, SpaceTables>(
@@ -47,16 +44,25 @@ fn played<R: Threads + Wait + Sync, G: Gate + Sync>(
     )?)
 }
 
-/// A play of eight sends by two workers, from a state of eight receives, with a gate at which the workers meet.
-pub fn told<R: Threads + Wait + Sync>(rt: &R, alloc: Global) -> Result<String, GateFault> {
-    let numbers = apart(alloc)?;
-    let receives = receives(alloc, numbers.as_slice())?;
+// The rows that eight receives leave.
+fn stored<R: Threads + Wait + Sync>(
+    rt: &R,
+    alloc: Global,
+    numbers: &[u32],
+) -> Result<Vec<Row>, LineFault> {
+    let receives = receives(alloc, numbers)?;
     let stored = played(rt, alloc, &OpenGate, 1, Vec::new(alloc), receives.as_str())?;
+    Ok(stored.rows)
+}
+
+/// A play of eight sends by two workers, from a state of eight receives, with a gate at which the workers meet.
+pub fn told<R: Threads + Wait + Sync>(rt: &R, alloc: Global) -> Result<String, LineFault> {
+    let numbers = apart(alloc)?;
     let sends = sends(alloc, numbers.as_slice())?;
+    let rows = stored(rt, alloc, numbers.as_slice())?;
     let gate = Meeting::new();
-    let ended = played(rt, alloc, &gate, 2, stored.rows, sends.as_str())?;
-    let met = gate.has_met(rt);
-    let failed = gate.has_failed(rt);
+    let ended = played(rt, alloc, &gate, 2, rows, sends.as_str())?;
+    let (met, failed) = gate.outcome(rt);
     Ok(format!(in alloc;
         "play: met {met}, gave up {failed}, {:?}, {} steps, {} rows\n",
         ended.verdict,

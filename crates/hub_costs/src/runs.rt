@@ -8,72 +8,65 @@ use std::rt::Clock;
 use std::sync::Wait;
 use std::thread::Threads;
 use std::time::{Duration, Instant};
-use table_lines::{LineFault, number};
-
-/// Which hub is run.
-#[derive(Clone, Copy)]
-pub enum Kind {
-    /// The works lie on all 64 shards.
-    Spread,
-    /// They lie on one.
-    OneShard,
-    /// No hub: one loop does all works.
-    Plain,
-}
-
-impl Kind {
-    pub fn named(word: &str) -> Option<Kind> {
-        Some(match word {
-            "spread" => Kind::Spread,
-            "one-shard" => Kind::OneShard,
-            "plain" => Kind::Plain,
-            _ => return None,
-        })
-    }
-}
+use table_lines::{LineFault, first_field, number};
 
 /// How much is done.
 #[derive(Drop, Clone, Copy)]
-pub struct Size {
-    pub seats: u32,
+struct Size {
+    seats: u32,
     /// With how many works the hub opens.
-    pub chains: u32,
+    chains: u32,
     /// How many works follow each of them, one after another.
-    pub long: u32,
-    pub busy: Busy,
+    long: u32,
+    busy: Busy,
 }
 
 impl Size {
     /// The fields are the seats, the chains, how many works follow each, and the rounds inside and outside.
-    pub fn read(fields: &str) -> Result<Size, LineFault> {
-        let (seats, fields) = fields.split_once(' ').ok_or(LineFault::Field)?;
-        let (chains, fields) = fields.split_once(' ').ok_or(LineFault::Field)?;
-        let (long, fields) = fields.split_once(' ').ok_or(LineFault::Field)?;
-        let (inside, outside) = fields.split_once(' ').ok_or(LineFault::Field)?;
+    fn read(fields: &str) -> Result<Size, LineFault> {
+        let (seats, fields) = first_field(fields)?;
+        let (chains, fields) = first_field(fields)?;
+        let (long, busy) = first_field(fields)?;
         Ok(Size {
             seats: number(seats)?,
             chains: number(chains)?,
             long: number(long)?,
-            busy: Busy {
-                inside: u64::from(number(inside)?),
-                outside: u64::from(number(outside)?),
-            },
+            busy: read_busy(busy)?,
         })
     }
 }
 
-// How long the parts of a run took.
-#[derive(Drop, Clone, Copy)]
-struct Times {
-    open: Duration,
-    work: Duration,
-    close: Duration,
+fn read_busy(fields: &str) -> Result<Busy, LineFault> {
+    let (inside, outside) = first_field(fields)?;
+    Ok(Busy {
+        inside: u64::from(number(inside)?),
+        outside: u64::from(number(outside)?),
+    })
 }
 
-fn now<R: Clock>(rt: &R, alloc: Global) -> Result<Instant, LineFault> {
-    match Instant::now(rt) {
-        Ok(time) => Ok(time),
-        Err(_) => Err(LineFault::Refused(format!(in alloc; "no clock")?)),
+// What a hub left, and the times at which it was opened, worked through and closed, where there is a clock.
+#[derive(Drop)]
+struct Ran {
+    closed: Closed<Numbers>,
+    start: Option<Instant>,
+    opened: Option<Instant>,
+    worked: Option<Instant>,
+    end: Option<Instant>,
+}
+
+fn now<R: Clock>(rt: &R) -> Option<Instant> {
+    Instant::now(rt).ok()
+}
+
+// The time between two times.
+fn between(
+    alloc: Global,
+    first: Option<Instant>,
+    last: Option<Instant>,
+) -> Result<Duration, LineFault> {
+    match (first, last) {
+        (Some(first), Some(last)) => Ok(last.duration_since(first)),
+        _ => Err(LineFault::Refused(String::from_str(alloc, "no clock")?)),
     }
 }
 
@@ -100,24 +93,25 @@ fn run_hub<R: Threads + Wait + Sync + Clock>(
     work: Vec<u64>,
     seats: u32,
     busy: Busy,
-) -> Result<(Closed<Numbers>, Times), LineFault>
+) -> Result<Ran, LineFault>
     requires { (1 ≤ seats) × (seats ≤ 32) × (length work.items ≤ 2 ^ 58) }
 {
+    let start = now(rt);
     let shards = zeros(alloc)?;
-    let start = now(rt, alloc)?;
     let Pool { hub, seats } = Hub::start(alloc, Numbers, shards, work, seats, 0, 1 << 61)?;
-    let opened = now(rt, alloc)?;
+    let opened = now(rt);
     let seats = side_by_side(rt, alloc, &hub, seats, busy)?;
-    let worked = now(rt, alloc)?;
-    let Ok(closed) = hub.close(seats) else {
+    let worked = now(rt);
+    let Some(closed) = hub.close(seats).ok() else {
         return Err(LineFault::NoMemory);
     };
-    let times = Times {
-        open: opened.duration_since(start),
-        work: worked.duration_since(opened),
-        close: now(rt, alloc)?.duration_since(worked),
-    };
-    Ok((closed, times))
+    Ok(Ran {
+        closed,
+        start,
+        opened,
+        worked,
+        end: now(rt),
+    })
 }
 
 // Does all works one after another, and answers how many.
@@ -158,46 +152,69 @@ fn told(alloc: Global, closed: &Closed<Numbers>) -> Result<String, LineFault> {
     Ok(format!(in alloc; "entries {entries} charged {charged} left {left} sum {sum}")?)
 }
 
-fn with_times(
-    alloc: Global,
-    told: &str,
-    entries: usize,
-    times: &Times,
-) -> Result<String, LineFault> {
-    let count = (entries as u128).max(1);
-    let open = times.open.as_micros();
-    let work = times.work.as_nanos() / count;
-    let close = times.close.as_nanos() / count;
-    Ok(format!(in alloc; "{told}, open {open} us, {work} ns a work, close {close} ns an entry")?)
+fn put_times(alloc: Global, told: &mut String, ran: &Ran) -> Result<(), LineFault> {
+    let count = (ran.closed.entries.len() as u128).max(1);
+    let open = between(alloc, ran.start, ran.opened)?.as_micros();
+    let work = between(alloc, ran.opened, ran.worked)?.as_nanos() / count;
+    let close = between(alloc, ran.worked, ran.end)?.as_nanos() / count;
+    let times = format!(in alloc; ", open {open} us, {work} ns a work, close {close} ns an entry")?;
+    told.push_str(times.as_str())?;
+    Ok(())
 }
 
-/// The answer to one line.
-pub fn answer<R: Threads + Wait + Sync + Clock>(
+// The works without a hub.
+fn without_hub<R: Clock>(
     rt: &R,
     alloc: Global,
-    kind: Kind,
     size: &Size,
     timed: bool,
 ) -> Result<String, LineFault> {
-    let work = works(alloc, size, !matches!(kind, Kind::OneShard))?;
-    if matches!(kind, Kind::Plain) {
-        let start = now(rt, alloc)?;
-        let entries = run_plain(alloc, work, size.busy)?;
-        let took = now(rt, alloc)?.duration_since(start);
-        let told = format!(in alloc; "entries {entries}")?;
-        if !timed {
-            return Ok(told);
-        }
-        let each = took.as_nanos() / (entries as u128).max(1);
-        return Ok(format!(in alloc; "{told}, {each} ns a work")?);
+    let work = works(alloc, size, true)?;
+    let start = now(rt);
+    let entries = run_plain(alloc, work, size.busy)?;
+    if !timed {
+        return Ok(format!(in alloc; "entries {entries}")?);
     }
+    let each = between(alloc, start, now(rt))?.as_nanos() / (entries as u128).max(1);
+    Ok(format!(in alloc; "entries {entries}, {each} ns a work")?)
+}
+
+// The works of a hub, on all shards or on one.
+fn with_hub<R: Threads + Wait + Sync + Clock>(
+    rt: &R,
+    alloc: Global,
+    size: &Size,
+    spread: bool,
+    timed: bool,
+) -> Result<String, LineFault> {
     if size.seats == 0 || size.seats > 32 {
         return Err(LineFault::Field);
     }
-    let (closed, times) = run_hub(rt, alloc, work, size.seats, size.busy)?;
-    let told = told(alloc, &closed)?;
-    if !timed {
-        return Ok(told);
+    let work = works(alloc, size, spread)?;
+    let ran = run_hub(rt, alloc, work, size.seats, size.busy)?;
+    let mut told = told(alloc, &ran.closed)?;
+    if timed {
+        put_times(alloc, &mut told, &ran)?;
     }
-    with_times(alloc, told.as_str(), closed.entries.len(), &times)
+    Ok(told)
+}
+
+/// The answer to a line of this kind with these fields; where `timed`, also how long it took.
+pub fn answer<R: Threads + Wait + Sync + Clock>(
+    rt: &R,
+    alloc: Global,
+    word: &str,
+    fields: &str,
+    timed: bool,
+) -> Result<String, LineFault> {
+    let size = Size::read(fields)?;
+    match word {
+        // The works lie on all 64 shards.
+        "spread" => with_hub(rt, alloc, &size, true, timed),
+        // They lie on one.
+        "one-shard" => with_hub(rt, alloc, &size, false, timed),
+        // No hub: one loop does all works.
+        "plain" => without_hub(rt, alloc, &size, timed),
+        _ => Err(LineFault::Kind),
+    }
 }

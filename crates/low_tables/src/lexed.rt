@@ -1,22 +1,37 @@
-use rho_lexer::lex;
+use rho_lexer::{Token, lex};
 use std::alloc::Global;
 use table_lines::LineFault;
 
 /// The tokens of a text with their places, or its fault.
 pub fn tokens(alloc: Global, text: &[u8]) -> Result<String, LineFault> {
-    let tokens = match lex(alloc, text) {
-        Ok(tokens) => tokens,
-        Err(fault) => return Ok(format!(in alloc; "{fault:?}")?),
-    };
+    match lex(alloc, text) {
+        Ok(tokens) => told(alloc, tokens.as_slice()),
+        Err(fault) => Ok(format!(in alloc; "{fault:?}")?),
+    }
+}
+
+fn told(alloc: Global, tokens: &[Token]) -> Result<String, LineFault> {
     let mut told = String::new(alloc);
-    for token in &tokens {
-        let one = format!(in alloc; "{:?}@{}..{}", token.kind, token.start, token.end)?;
+    match put_tokens(alloc, &mut told, tokens) {
+        Ok(()) => Ok(told),
+        Err(fault) => Err(fault),
+    }
+}
+
+fn put_tokens(alloc: Global, told: &mut String, tokens: &[Token]) -> Result<(), LineFault> {
+    for token in tokens {
         if !told.is_empty() {
             told.push(' ')?;
         }
-        told.push_str(one.as_str())?;
+        put_token(alloc, told, token)?;
     }
-    Ok(told)
+    Ok(())
+}
+
+fn put_token(alloc: Global, told: &mut String, token: &Token) -> Result<(), LineFault> {
+    let one = format!(in alloc; "{:?}@{}..{}", token.kind, token.start, token.end)?;
+    told.push_str(one.as_str())?;
+    Ok(())
 }
 
 /// How many tokens a text has, or its fault.

@@ -1,24 +1,16 @@
+use crate::seeds::{ids, read_id};
 use calculus::Digest;
 use event_log::{Log, LogFault, LogHeader, LogStep, MOST_DATA, read_log, write_log};
 use std::alloc::Global;
-use table_lines::{LineFault, digest, number};
+use table_lines::{LineFault, first_field, hex_bytes, number};
 
 /// The text of a log of one step. The fields are the base, the source, the prices, the limit, the receiver, and the data
 /// that it takes.
 pub fn write(alloc: Global, fields: &str) -> Result<String, LineFault> {
-    let mut words = fields.split(' ');
-    let mut next = || words.next().ok_or(LineFault::Field);
-    let header = LogHeader {
-        base: Digest(digest(next()?)?),
-        source: Digest(digest(next()?)?),
-        prices: Digest(digest(next()?)?),
-        limit: u64::from(number(next()?)?),
-    };
-    let cont = Digest(digest(next()?)?);
-    let mut taken = Vec::new(alloc);
-    for word in words {
-        taken.push(Digest(digest(word)?))?;
-    }
+    let (header, fields) = read_header(fields)?;
+    let (cont, fields) = first_field(fields)?;
+    let cont = read_id(cont)?;
+    let taken = ids(alloc, fields)?;
     if taken.is_empty() || taken.len() > MOST_DATA {
         return Err(LineFault::Field);
     }
@@ -32,25 +24,54 @@ pub fn write(alloc: Global, fields: &str) -> Result<String, LineFault> {
     Ok(hex::encode(alloc, text.as_slice())?)
 }
 
-/// The fields of a log: those of its header, and for each step the receiver, the data and how often it was made before.
-pub fn read(alloc: Global, text: &[u8]) -> Result<String, LineFault> {
-    let log = match read_log(alloc, text) {
-        Ok(log) => log,
-        Err(fault) => return Ok(format!(in alloc; "{fault:?}")?),
+fn read_header(fields: &str) -> Result<(LogHeader, &str), LineFault> {
+    let (base, fields) = first_field(fields)?;
+    let (source, fields) = first_field(fields)?;
+    let (prices, fields) = first_field(fields)?;
+    let (limit, fields) = first_field(fields)?;
+    let header = LogHeader {
+        base: read_id(base)?,
+        source: read_id(source)?,
+        prices: read_id(prices)?,
+        limit: u64::from(number(limit)?),
     };
-    let mut told = hex::encode(alloc, log.header.base.0.as_slice())?;
-    put_digest(&mut told, &log.header.source)?;
-    put_digest(&mut told, &log.header.prices)?;
-    put_number(&mut told, log.header.limit)?;
-    for step in &log.steps {
-        told.push(';')?;
-        put_digest(&mut told, &step.cont)?;
-        for id in &step.taken {
-            put_digest(&mut told, id)?;
-        }
-        put_number(&mut told, u64::from(step.repeat))?;
+    Ok((header, fields))
+}
+
+/// The fields of a log: those of its header, and for each step the receiver, the data and how often it was made before.
+pub fn read(alloc: Global, digits: &str) -> Result<String, LineFault> {
+    let text = hex_bytes(alloc, digits)?;
+    match read_log(alloc, text.as_slice()) {
+        Ok(log) => told(alloc, &log),
+        Err(fault) => Ok(format!(in alloc; "{fault:?}")?),
     }
-    Ok(told)
+}
+
+fn told(alloc: Global, log: &Log) -> Result<String, LineFault> {
+    let mut told = hex::encode(alloc, log.header.base.0.as_slice())?;
+    match put_rest(&mut told, log) {
+        Ok(()) => Ok(told),
+        Err(fault) => Err(fault),
+    }
+}
+
+fn put_rest(told: &mut String, log: &Log) -> Result<(), LineFault> {
+    put_digest(told, &log.header.source)?;
+    put_digest(told, &log.header.prices)?;
+    put_number(told, log.header.limit)?;
+    for step in &log.steps {
+        put_step(told, step)?;
+    }
+    Ok(())
+}
+
+fn put_step(told: &mut String, step: &LogStep) -> Result<(), LineFault> {
+    told.push(';')?;
+    put_digest(told, &step.cont)?;
+    for id in &step.taken {
+        put_digest(told, id)?;
+    }
+    put_number(told, u64::from(step.repeat))
 }
 
 fn put_digest(told: &mut String, digest: &Digest) -> Result<(), LineFault> {
@@ -69,11 +90,16 @@ fn put_number(told: &mut String, number: u64) -> Result<(), LineFault> {
 }
 
 /// Whether each text that a log's text begins with is short at its end.
-pub fn cuts(alloc: Global, text: &[u8]) -> Result<String, LineFault> {
+pub fn cuts(alloc: Global, digits: &str) -> Result<String, LineFault> {
+    let text = hex_bytes(alloc, digits)?;
     for at in 0..text.len() {
-        if read_log(alloc, &text[..at]).err() != Some(LogFault::Short { at }) {
+        if !is_short(alloc, &text.as_slice()[..at]) {
             return Ok(format!(in alloc; "not short at {at}")?);
         }
     }
-    Ok(format!(in alloc; "short")?)
+    Ok(String::from_str(alloc, "short")?)
+}
+
+fn is_short(alloc: Global, text: &[u8]) -> bool {
+    read_log(alloc, text).err() == Some(LogFault::Short { at: text.len() })
 }

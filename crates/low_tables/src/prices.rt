@@ -1,4 +1,4 @@
-use phlo_meter::read_prices;
+use phlo_meter::{PriceFault, read_prices};
 use price_table::{Prices, most_limit};
 use std::alloc::Global;
 use table_lines::LineFault;
@@ -17,10 +17,14 @@ fn seven(prices: &Prices) -> [u64; 7] {
 
 /// The seven prices of a text, or its fault.
 pub fn prices(alloc: Global, text: &[u8]) -> Result<String, LineFault> {
-    Ok(match read_prices(alloc, text) {
-        Ok(prices) => format!(in alloc; "{:?}", seven(&prices))?,
-        Err(fault) => format!(in alloc; "{fault:?}")?,
-    })
+    match read_prices(alloc, text) {
+        Ok(prices) => Ok(format!(in alloc; "{:?}", seven(&prices))?),
+        Err(fault) => refusal(alloc, &fault),
+    }
+}
+
+fn refusal(alloc: Global, fault: &PriceFault) -> Result<String, LineFault> {
+    Ok(format!(in alloc; "{fault:?}")?)
 }
 
 /// The standard prices, their digest, and the greatest limit under them.

@@ -1,7 +1,7 @@
 use calculus::Digest;
 use name_seed::{Seed, bytes_digest};
 use std::alloc::Global;
-use table_lines::{LineFault, digest, number};
+use table_lines::{LineFault, digest, first_field, number};
 
 /// The digest of bytes.
 pub fn digest_of(alloc: Global, bytes: &[u8]) -> Result<String, LineFault> {
@@ -19,30 +19,45 @@ pub fn seed(alloc: Global, fields: &str) -> Result<String, LineFault> {
     Ok(hex::encode(alloc, seed.digest().0.as_slice())?)
 }
 
+/// The digest that 64 hexadecimal digits spell.
+pub fn read_id(digits: &str) -> Result<Digest, LineFault> {
+    Ok(Digest(digest(digits)?))
+}
+
+/// Digests with spaces between.
+pub fn ids(alloc: Global, fields: &str) -> Result<Vec<Digest>, LineFault> {
+    let mut ids = Vec::new(alloc);
+    for id in fields.split(' ') {
+        ids.push(read_id(id)?)?;
+    }
+    Ok(ids)
+}
+
 fn first_seed(alloc: Global, fields: &str) -> Result<Seed, LineFault> {
-    let (name, rest) = fields.split_once(' ').ok_or(LineFault::Field)?;
+    let (name, rest) = first_field(fields)?;
     match name {
         "system" => Ok(Seed::system(number(rest)?)),
-        "start" => {
-            let (root, source) = rest.split_once(' ').ok_or(LineFault::Field)?;
-            Ok(Seed::start(&Digest(digest(root)?), &Digest(digest(source)?)))
-        }
+        "start" => start_seed(rest),
         "comm" => comm_seed(alloc, rest),
         _ => Err(LineFault::Field),
     }
 }
 
+fn start_seed(fields: &str) -> Result<Seed, LineFault> {
+    let (root, source) = first_field(fields)?;
+    Ok(Seed::start(&read_id(root)?, &read_id(source)?))
+}
+
 fn comm_seed(alloc: Global, fields: &str) -> Result<Seed, LineFault> {
-    let (repeat, ids) = fields.split_once(' ').ok_or(LineFault::Field)?;
-    let (cont, ids) = ids.split_once(' ').ok_or(LineFault::Field)?;
-    let mut taken = Vec::new(alloc);
-    for id in ids.split(' ') {
-        taken.push(Digest(digest(id)?))?;
-    }
+    let (repeat, fields) = first_field(fields)?;
+    let (cont, fields) = first_field(fields)?;
+    let repeat = number(repeat)?;
+    let cont = read_id(cont)?;
+    let taken = ids(alloc, fields)?;
     if taken.len() > 16 {
         return Err(LineFault::Field);
     }
-    Ok(Seed::comm(&Digest(digest(cont)?), taken.as_slice(), number(repeat)?))
+    Ok(Seed::comm(&cont, taken.as_slice(), repeat))
 }
 
 fn next_seed(seed: &Seed, step: &str) -> Result<Seed, LineFault> {

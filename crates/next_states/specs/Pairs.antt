@@ -72,3 +72,7 @@ pub record IsKnown (text : List ℕ) (marks : List Mark) (leaves : Leaves) : Typ
   pub order : IsAscending (seconds (cut_by marks (drop 49 text)))
   pub tree : Keeps leaves (groups_in (cut_by marks (drop 49 text)))
   pub rows : (rows : List Row) → AreKept rows → text ≡ state_text rows → AreMarks marks rows
+
+-- of all rows that are kept in the state of this text this holds
+abbrev pub OfState : List ℕ → (List Row → Type 0) → Type 0
+OfState text P = (base : List Row) → AreKept base → text ≡ state_text base → P base

@@ -4,10 +4,12 @@ use Rattle.std.specs.Borrow.{Bor}
 use Rattle.std.specs.BTreeMap.{get}
 use Rattle.std.specs.declared.alloc.Global.{Global}
 use Rattle.std.specs.declared.vec.Vec.{Vec}
+use Rattle.calculus.specs.declared.ids.Digest.{Digest}
 use Rattle.calculus.specs.Order.{byte_cmp, IsAscending}
+use Rattle.calculus.specs.Root.{key}
 use Rattle.calculus.specs.Rows.{Row, row_code}
 use Rattle.calculus.specs.Steps.{is_one_of}
-use Rattle.next_states.specs.Pairs.{Pair, codes_in, cut_by, held, seconds, IsChanged, TellsKey}
+use Rattle.next_states.specs.Pairs.{Pair, codes_in, cut_by, held, pair_of, seconds, IsChanged, TellsKey}
 use Rattle.next_states.specs.declared.changed.Changed.{Changed}
 use Rattle.next_states.specs.declared.left.Left.{Left}
 use Rattle.next_states.specs.declared.walk.Coded.{Coded}
@@ -64,3 +66,31 @@ pub record Finds (w : Walk) (all done todo : List Pair) : Type 0 where
   pub few : (k c : List ℕ) → is_one_of c (seconds (pairs_left w.left)) ≡ true → held done k c + held (pairs_left w.left) k c ≤ held all k c
   pub many : (k c : List ℕ) → is_one_of c (seconds todo) ≡ true → held all k c ≤ held done k c + held (pairs_left w.left) k c
   pub found : (k : List ℕ) → Has w.changed k → IsChanged all (done ++ todo) k
+
+-- a row with its code, as a pair, and rows with theirs
+abbrev pub coded_pair : Coded → Pair
+coded_pair c = pair_of (row_of c)
+
+abbrev pub coded_pairs : List Coded → List Pair
+coded_pairs cs = each pair_of (each row_of cs)
+
+-- a walk takes this row: what agreed before agrees with the row behind those that are done
+abbrev pub TakesRow : Coded → Walk → Walk → Type 0
+TakesRow c before after = (all done : List Pair) → IsCoded c → Agrees before all done → Agrees after all (done ++ coded_pair c ∷ [])
+
+-- the same of all these rows, at the start of a walk
+abbrev pub TakesRows : List Coded → Walk → Walk → Type 0
+TakesRows cs before after = (all : List Pair) → Agrees before all [] → Agrees after all (coded_pairs cs)
+
+-- where a walk agrees, this is the key of the row
+abbrev pub IsKeyOf : Coded → Walk → Digest → Type 0
+IsKeyOf c before d = (all done : List Pair) → IsCoded c → Agrees before all done → d.0 ≡ key (row_of c)
+
+-- a walk that found only what changes does so with this row behind those that are done
+abbrev pub FindsRow : Coded → Walk → Walk → Type 0
+FindsRow c before after = (all done next : List Pair) → IsCoded c → Agrees before all done
+    → Finds before all done (coded_pair c ∷ next) → Finds after all (done ++ coded_pair c ∷ []) next
+
+-- the same of all these rows, at the start of a walk
+abbrev pub FindsRows : List Coded → Walk → Walk → Type 0
+FindsRows cs before after = (all : List Pair) → Agrees before all [] → Finds before all [] (coded_pairs cs) → Finds after all (coded_pairs cs) []

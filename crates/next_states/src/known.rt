@@ -2,12 +2,12 @@
 ghost use Rattle.std.specs.Prelude.{◌≡◌, ◌≤◌, ◌<◌, ◌/◌, [], List, ℕ, drop, length, map, IfOk, OnOk};
 ghost use Rattle.calculus.specs.Order.{sorted};
 ghost use Rattle.calculus.specs.Root.{root};
-ghost use Rattle.calculus.specs.Rows.{row_code as code_of_row, Row as AnyRow};
+ghost use Rattle.calculus.specs.Rows.{row_code as code_of_row};
 ghost use Rattle.checkpoint.specs.Kept.{AreKept};
 ghost use Rattle.checkpoint.specs.Made.{AreFor, AreMade, no_codes};
 ghost use Rattle.radix_root.specs.Leaves.{Keeps, groups_of};
 ghost use Rattle.states.specs.States.{state_text};
-ghost use Rattle.next_states.specs.Pairs.{Pair, groups_in};
+ghost use Rattle.next_states.specs.Pairs.{Pair, groups_in, OfState};
 ghost use Rattle.next_states.specs.Walks.{Covers, Has, Holds, pair_in};
 
 use crate::changed::{Changed, digests_of};
@@ -79,10 +79,10 @@ impl KnownState {
     pub fn next_state(self, alloc: Global, rows: Vec<Row>) -> Result<MadeState, AllocError>
         ensures root { IfOk result (λ s. s.root.0 ≡ root rows.items) }
         ensures text { IfOk result (λ s. s.text.items ≡ state_text rows.items) }
-        ensures made { IfOk result (λ s. (base : List AnyRow) → AreKept base → self ≡ state_text base →
-            length rows.items / 2 ≤ length base → AreMade (groups_of base) (groups_of rows.items) s.made) }
-        ensures anew { IfOk result (λ s. (base : List AnyRow) → AreKept base → self ≡ state_text base → length base <
-            length rows.items / 2 → AreMade no_codes (groups_of rows.items) s.made) }
+        ensures made { IfOk result (λ s. OfState self (λ base.
+            length rows.items / 2 ≤ length base → AreMade (groups_of base) (groups_of rows.items) s.made)) }
+        ensures anew { IfOk result (λ s. OfState self (λ base.
+            length base < length rows.items / 2 → AreMade no_codes (groups_of rows.items) s.made)) }
     {
         if rows.len() / 2 > self.marks.len() {
             let state = made_state(alloc, rows)?;
@@ -103,8 +103,7 @@ fn next_root(
 ) -> Result<(Digest, Vec<Keyed>, u64), AllocError>
     ensures root { IfOk result (λ p. p.0.0 ≡ root rows.items) }
     ensures codes { IfOk result (λ p. map (λ k. k.code.items) p.1.items ≡ sorted (map code_of_row rows.items)) }
-    ensures made { IfOk result (λ p. (base : List AnyRow) → AreKept base → known ≡ state_text base →
-        AreMade (groups_of base) (groups_of rows.items) p.2) }
+    ensures made { IfOk result (λ p. OfState known (λ base. AreMade (groups_of base) (groups_of rows.items) p.2)) }
 {
     let KnownState { text, marks, tree } = known;
     let codes = rest_of(text.as_slice(), HEADER);

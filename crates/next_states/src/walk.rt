@@ -1,11 +1,12 @@
 // A walk over the rows of a base and those of the next state, both in the order of their codes. That it finds each
 // group that changes is right in any order; in this one it finds no other.
-ghost use Rattle.std.specs.Prelude.{◌≡◌, ◌++◌, ◌∷◌, [], ℕ, List, None, map, All, IfOk, IfSome, OnOk, IsPermutation};
+ghost use Rattle.std.specs.Prelude.{◌≡◌, [], ℕ, List, None, map, All, IfOk, IfSome, OnOk, IsPermutation};
 ghost use Rattle.calculus.specs.Order.{IsAscending, IsBelowFirst};
 ghost use Rattle.calculus.specs.Root.{key};
 ghost use Rattle.calculus.specs.Storing.{IsStorable};
 ghost use Rattle.next_states.specs.Pairs.{Pair, pair_of, seconds, IsChanged, TellsKey, cut_by};
-ghost use Rattle.next_states.specs.Walks.{Agrees, Covers, Finds, Has, Holds, IsCoded, Stands, pair_in, pairs_left, row_of};
+ghost use Rattle.next_states.specs.Walks.{Agrees, Covers, Finds, Has, Holds, IsCoded, Stands, coded_pairs, pair_in, pairs_left, row_of};
+ghost use Rattle.next_states.specs.Walks.{FindsRow, FindsRows, IsKeyOf, TakesRow, TakesRows};
 
 use crate::changed::Changed;
 use crate::left::Left;
@@ -53,13 +54,9 @@ impl<'a> Walk<'a> {
 
     // The key of the next row's group: that of the base's row with this code, and else its group changes.
     fn take(&mut self, alloc: Global, coded: &Coded<'_>) -> Result<Digest, AllocError>
-        ensures agrees { OnOk result ((all done : List Pair) → IsCoded coded.now → Agrees self.old all done →
-            Agrees self.new all (done ++ pair_of (row_of coded.now) ∷ [])) }
-        ensures key { IfOk result (λ d. (all done : List Pair) → IsCoded coded.now → Agrees self.old all done → d.0 ≡
-            key (row_of coded.now)) }
-        ensures finds { OnOk result ((all done next : List Pair) → IsCoded coded.now → Agrees self.old all done →
-            Finds self.old all done (pair_of (row_of coded.now) ∷ next) →
-            Finds self.new all (done ++ pair_of (row_of coded.now) ∷ []) next) }
+        ensures agrees { OnOk result (TakesRow coded.now self.old self.new) }
+        ensures key { IfOk result (IsKeyOf coded.now self.old) }
+        ensures finds { OnOk result (FindsRow coded.now self.old self.new) }
     {
         self.pass_below(alloc, Some(coded.code.as_slice()))?;
         let key = self.take_next(alloc, coded)?;
@@ -68,14 +65,10 @@ impl<'a> Walk<'a> {
 
     // The same, where the rows of the base whose codes are less are passed.
     fn take_next(&mut self, alloc: Global, coded: &Coded<'_>) -> Result<Digest, AllocError>
-        ensures agrees { OnOk result ((all done : List Pair) → IsCoded coded.now → Agrees self.old all done →
-            Agrees self.new all (done ++ pair_of (row_of coded.now) ∷ [])) }
-        ensures key { IfOk result (λ d. (all done : List Pair) → IsCoded coded.now → Agrees self.old all done → d.0 ≡
-            key (row_of coded.now)) }
-        ensures finds { OnOk result ((all done next : List Pair) → IsCoded coded.now → Agrees self.old all done →
-            IsBelowFirst coded.now.code.items (seconds (pairs_left self.old.left)) →
-            Finds self.old all done (pair_of (row_of coded.now) ∷ next) →
-            Finds self.new all (done ++ pair_of (row_of coded.now) ∷ []) next) }
+        ensures agrees { OnOk result (TakesRow coded.now self.old self.new) }
+        ensures key { IfOk result (IsKeyOf coded.now self.old) }
+        ensures finds { OnOk result (IsBelowFirst coded.now.code.items (seconds (pairs_left self.old.left)) →
+            FindsRow coded.now self.old self.new) }
     {
         known_storable(coded.row);
         if self.left.is_next(coded.code.as_slice()) {
@@ -125,13 +118,10 @@ fn keyed_codes(
     rows: Vec<Coded<'_>>,
 ) -> Result<Vec<Keyed>, AllocError>
     requires { All IsCoded rows.items }
-    ensures pairs { IfOk result (λ v. (all : List Pair) → Agrees walk.old all [] → map pair_in v.items ≡
-        map pair_of (map row_of rows.entry.items)) }
-    ensures agrees { OnOk result ((all : List Pair) → Agrees walk.old all [] →
-        Agrees walk.new all (map pair_of (map row_of rows.entry.items))) }
-    ensures finds { OnOk result ((all : List Pair) → Agrees walk.old all [] →
-        Finds walk.old all [] (map pair_of (map row_of rows.entry.items)) →
-        Finds walk.new all (map pair_of (map row_of rows.entry.items)) []) }
+    ensures pairs { IfOk result (λ v. (all : List Pair) → Agrees walk.old all [] →
+        map pair_in v.items ≡ coded_pairs rows.entry.items) }
+    ensures agrees { OnOk result (TakesRows rows.entry.items walk.old walk.new) }
+    ensures finds { OnOk result (FindsRows rows.entry.items walk.old walk.new) }
 {
     let mut keyed = Vec::new(alloc);
     for coded in rows {

@@ -35,28 +35,21 @@ fn calm_shelf_keeps_and_fetches(rt: HostRuntime) {
 }
 
 #[test]
-fn mem_shelf_answers_by_the_limit(rt: HostRuntime) -> Result<(), Fail> {
+fn mem_shelf_answers_by_the_limit(rt: HostRuntime) {
     let alloc: Global = rt.alloc();
     let mut shelf = MemShelf::new(alloc);
     assert_eq!(rt; shelf.keep(alloc, "five", b"12345"), Ok(()));
-    let refused = [
-        ("five", 4, FetchFault::TooLarge { seen: 5 }),
-        ("five", 0, FetchFault::TooLarge { seen: 5 }),
-        ("absent", 4, FetchFault::Missing),
-    ];
-    for (name, max, fault) in refused {
-        assert_eq!(rt;
-            shelf.fetch(alloc, name, max).err(),
-            Some(fault),
-            "{name}, {max}"
-        );
-    }
+    let too_large = Some(FetchFault::TooLarge { seen: 5 });
+    assert_eq!(rt; shelf.fetch(alloc, "five", 4).err(), too_large);
+    assert_eq!(rt; shelf.fetch(alloc, "five", 0).err(), too_large);
+    assert_eq!(rt;
+        shelf.fetch(alloc, "absent", 4).err(),
+        Some(FetchFault::Missing)
+    );
     assert_eq!(rt; shelf.keep(alloc, "two", b"ab"), Ok(()));
-    let bytes = shelf.fetch(alloc, "two", 2).ok().ok_or("two bytes")?;
+    let bytes = shelf.fetch(alloc, "two", 2).expect(&rt, "two bytes");
     assert_eq!(rt; bytes.as_slice(), b"ab".as_slice());
-    assert_eq!(rt; shelf.fetch_faults, 0);
-    assert_eq!(rt; shelf.keep_faults, 0);
-    Ok(())
+    assert_eq!(rt; (shelf.fetch_faults, shelf.keep_faults), (0, 0));
 }
 
 #[test]
@@ -73,7 +66,7 @@ fn mem_shelf_fails_the_named_calls(rt: HostRuntime) -> Result<(), Fail> {
     assert_eq!(rt; shelf.fetch_faults, 1);
     assert_eq!(rt; shelf.keep_faults, 1);
     assert_eq!(rt; shelf.calls, 8);
-    let bytes = shelf.fetch(alloc, "a", 9).ok().ok_or("the file")?;
+    let bytes = shelf.fetch(alloc, "a", 9).expect(&rt, "the file");
     assert_eq!(rt; bytes.len(), 0);
     Ok(())
 }
@@ -176,32 +169,40 @@ impl Write for Slow {
     }
 }
 
-#[test]
-fn an_interrupted_reader_is_read_on_and_a_failing_one_fails(rt: HostRuntime) {
-    for (limit, kind, bytes) in [
-        (9, ErrorKind::Interrupted, Ok(3)),
-        (2, ErrorKind::Interrupted, Ok(2)),
-        (9, ErrorKind::Other, Err(ReadFault::Failed)),
-    ] {
-        let mut source = Slow::new(3, 2, kind);
-        let read = read_up_to(&mut source, rt.alloc(), limit).map(|bytes| bytes.len());
-        assert_eq!(rt; read, bytes, "limit {limit}, {kind:?}");
+// How many bytes are read up to a limit of a reader of three, whose second call ends by `kind`.
+fn read_slowly(alloc: Global, limit: u64, kind: ErrorKind) -> Result<usize, ReadFault> {
+    let mut source = Slow::new(3, 2, kind);
+    match read_up_to(&mut source, alloc, limit) {
+        Ok(bytes) => Ok(bytes.len()),
+        Err(fault) => Err(fault),
     }
 }
 
 #[test]
+fn an_interrupted_reader_is_read_on_and_a_failing_one_fails(rt: HostRuntime) {
+    let alloc: Global = rt.alloc();
+    assert_eq!(rt; read_slowly(alloc, 9, ErrorKind::Interrupted), Ok(3));
+    assert_eq!(rt; read_slowly(alloc, 2, ErrorKind::Interrupted), Ok(2));
+    assert_eq!(rt;
+        read_slowly(alloc, 9, ErrorKind::Other),
+        Err(ReadFault::Failed)
+    );
+}
+
+// What a write of three bytes comes to where so many are taken and the second call ends by `kind`, and the faults counted.
+fn write_slowly(left: u64, kind: ErrorKind) -> (Result<(), KeepFault>, u64) {
+    let mut faults = 0;
+    let mut full = Slow::new(left, 2, kind);
+    let written = write_whole(&mut full, b"abc", &mut faults);
+    (written, faults)
+}
+
+#[test]
 fn a_writer_that_takes_nothing_or_fails_is_counted(rt: HostRuntime) {
-    for (left, kind, answer, count) in [
-        (3, ErrorKind::Interrupted, Ok(()), 0),
-        (2, ErrorKind::Interrupted, Err(KeepFault::Failed), 1),
-        (3, ErrorKind::Other, Err(KeepFault::Failed), 1),
-    ] {
-        let mut faults = 0;
-        let mut full = Slow::new(left, 2, kind);
-        let written = write_whole(&mut full, b"abc", &mut faults);
-        assert_eq!(rt; written, answer, "{left} bytes, {kind:?}");
-        assert_eq!(rt; faults, count, "{left} bytes, {kind:?}");
-    }
+    let failed = Err(KeepFault::Failed);
+    assert_eq!(rt; write_slowly(3, ErrorKind::Interrupted), (Ok(()), 0));
+    assert_eq!(rt; write_slowly(2, ErrorKind::Interrupted), (failed, 1));
+    assert_eq!(rt; write_slowly(3, ErrorKind::Other), (failed, 1));
 }
 
 #[test]

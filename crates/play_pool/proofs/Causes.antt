@@ -7,7 +7,7 @@ use Rattle.group_locks.specs.declared.state.SeatState.{SeatState}
 use Rattle.hub_rule.specs.declared.terms.StopCause.{StopCause}
 use Rattle.hub_rule.specs.declared.terms.StopCause.TheVariants.{Fault, NoMemory}
 use Rattle.group_locks.specs.Seats.{empty_of, over_of, stops_of}
-use Rattle.play_worker.specs.Turns.{HasCause}
+use Rattle.play_draws.specs.Turns.{HasCause}
 
 -- where each seat found an end, and a stop that was set was for a fault: nothing is left, more is charged than the limit, or there is a fault
 module _ {A E X W : Type 0} (f : A → SeatState E X W) (Nothing IsOver HasFault : Type 0) (stop : Option StopCause) (other : stop ≡ Some NoMemory → ⊥) (fault : stop ≡ Some Fault → HasFault) where

@@ -25,7 +25,7 @@ use Rattle.play_hub.specs.declared.entry.PlayEntry.{PlayEntry}
 use Rattle.play_hub.specs.Values.{entry_of, hub_meaning}
 use Rattle.play_hub.specs.Endings.{play_of, ArePriced}
 use Rattle.play_hub.proofs.Ending.{hubs_come_to_plays, causes_end_hubs}
-use Rattle.play_worker.specs.Turns.{HasCause}
+use Rattle.play_draws.specs.Turns.{HasCause}
 use Rattle.play_outcome.specs.Runs.{EndedPlay}
 use Rattle.play_pool.specs.Closing.{ClosesPlay}
 use Rattle.play_pool.proofs.Sums.{settled-steps, settled-costs, all-charged}

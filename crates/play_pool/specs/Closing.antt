@@ -14,7 +14,7 @@ use Rattle.play_scene.specs.Plays.{entries_of}
 use Rattle.play_hub.specs.declared.entry.PlayEntry.{PlayEntry}
 use Rattle.play_hub.specs.Endings.{play_of}
 use Rattle.play_outcome.specs.Runs.{EndedPlay}
-use Rattle.play_worker.specs.Turns.{HasCause}
+use Rattle.play_draws.specs.Turns.{HasCause}
 
 -- the seat belongs to the hub and holds no turn, charged all that it drew, and found an end
 abbrev pub IsThrough : {E X W : Type 0} → TableId → SeatState E X W → Type 0

@@ -2,13 +2,14 @@
 ghost use Rattle.std.specs.Prelude.{◌≡◌, ◌≤◌, length, IfOk};
 ghost use Rattle.std.specs.List.{All};
 ghost use Rattle.group_locks.specs.Seats.{IsIdle};
-ghost use Rattle.play_worker.specs.Making.{Serves};
+ghost use Rattle.play_draws.specs.Making.{Serves};
 ghost use Rattle.play_pool.specs.Closing.{IsThrough};
 
 use group_locks::{Hub, Seat};
 use numbered_jobs::numbered;
+use play_draws::means::Means;
 use play_hub::{PlayScene, PlayTerms};
-use play_worker::site::{Means, Site};
+use play_worker::site::Site;
 use play_worker::worker::work_through;
 use rho_outside::Gate;
 use shard_tables::ShardTables;

@@ -1,5 +1,2 @@
-pub mod Numbers
-pub mod Showing
-pub mod Hands
 pub mod Seats
 pub mod Groups

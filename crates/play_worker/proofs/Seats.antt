@@ -7,9 +7,9 @@ use Rattle.hub_rule.specs.Counts.{things_of}
 use Rattle.hub_rule.specs.Rule.{kept_if}
 use Rattle.group_locks.specs.Seats.{home_of, drawn_by, tally_of, pile_of, taken_by, offered_by, took_by, due_of}
 use Rattle.play_hub.specs.declared.entry.PlayEntry.{PlayEntry}
-use Rattle.play_worker.specs.declared.drawing.Drawn.{Drawn}
-use Rattle.play_worker.specs.Making.{IsAgain}
-use Rattle.play_worker.specs.Turns.{HasWork, IsDrawn, IsSame}
+use Rattle.play_draws.specs.declared.drawing.Drawn.{Drawn}
+use Rattle.play_draws.specs.Making.{IsAgain}
+use Rattle.play_draws.specs.Turns.{HasWork, IsDrawn, IsSame}
 
 things-both : {A : Type 0} (xs ys : List (ℕ × A)) → things_of (xs ++ ys) ≡ things_of xs ++ things_of ys
 things-both [] ys = refl

@@ -1,7 +1,7 @@
 //! The shards of an operation, in hand.
 ghost use Rattle.std.specs.Prelude.{◌≡◌, ℕ, [], None, IfOk, OnErr, OnOk};
 ghost use Rattle.group_locks.specs.Seats.{home_of, held_by, since_of};
-ghost use Rattle.play_worker.specs.Turns.{HoldsGroup, IsSame};
+ghost use Rattle.play_draws.specs.Turns.{HoldsGroup, IsSame};
 
 use group_locks::{Hub, Seat};
 use play_hub::{PlayScene, PlayTerms};

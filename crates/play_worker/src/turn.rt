@@ -1,13 +1,14 @@
 //! One turn of a worker at the operation that it has in hand.
 ghost use Rattle.std.specs.Prelude.{◌≡◌, ◌<◌, ℕ, [], Option, None};
 ghost use Rattle.group_locks.specs.Seats.{due_of, hand_of, stops_of, AtRest, HasLeave, HasRoom};
-ghost use Rattle.play_worker.specs.Making.{Serves};
-ghost use Rattle.play_worker.specs.Turns.{HasTaken, HasWork, IsDrawn};
+ghost use Rattle.play_draws.specs.Making.{Serves};
+ghost use Rattle.play_draws.specs.Turns.{HasTaken, HasWork, IsDrawn};
 
-use crate::drawing::{Drawn, draw};
 use crate::group::take_shown;
-use crate::site::{Means, Site, Taken};
+use crate::site::Site;
 use group_locks::{Hub, Seat, StopCause};
+use play_draws::drawing::{Drawn, draw};
+use play_draws::means::{Means, Taken};
 use play_hub::{PlayScene, PlayTerms};
 use rho_outside::{Gate, Moment};
 use shard_tables::ShardTables;

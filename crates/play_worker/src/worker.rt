@@ -1,12 +1,13 @@
 //! A worker, from its first operation to an end.
 ghost use Rattle.std.specs.Prelude.{◌≡◌, ℕ, [], true, false, drop, length, None};
 ghost use Rattle.group_locks.specs.Seats.{home_of, drawn_by, due_of, hand_of, AtRest, IsIdle, HasLeave, HasRoom};
-ghost use Rattle.play_worker.specs.Making.{Serves};
-ghost use Rattle.play_worker.specs.Turns.{HasCause, HasWork};
+ghost use Rattle.play_draws.specs.Making.{Serves};
+ghost use Rattle.play_draws.specs.Turns.{HasCause, HasWork};
 
-use crate::site::{Means, Site, Taken};
+use crate::site::Site;
 use crate::turn::{Turn, take_turn};
 use group_locks::{Hub, Seat, StopCause};
+use play_draws::means::{Means, Taken};
 use play_hub::{PlayScene, PlayTerms};
 use rho_outside::Gate;
 use shard_tables::ShardTables;

@@ -58,7 +58,7 @@ fn may_fit(slots: &[Slot], rig: &Rig, wanted: &LogStep, step: u32) -> bool
     if !are_different(wanted.taken.as_slice()) {
         return false;
     }
-    wanted.repeat == rig.repeat_of(step)
+    rig.is_repeat(step, wanted.repeat)
 }
 
 // What a receiver and data come to, which are the first rows in hand with the ids that a step names.

@@ -1,5 +1,5 @@
 // What is kept of a log.
-ghost use Rattle.std.specs.Prelude.{◌≡◌, ◌<◌, ◌≤◌, ◌-◌, ◌^◌, ◌++◌, ◌∷◌, [], List, length, count_by, slice_get, IfOk};
+ghost use Rattle.std.specs.Prelude.{◌≡◌, ◌<◌, ◌≤◌, ◌-◌, ◌^◌, ◌++◌, ◌∷◌, [], List, eqb, length, count_by, slice_get, IfOk};
 ghost use Rattle.calculus.specs.Log.{Step};
 ghost use Rattle.calculus.specs.Steps.{same_meeting};
 ghost use Rattle.event_log.specs.declared.log.TheConstants.{MOST_STEPS};
@@ -102,5 +102,14 @@ impl Rig {
             after → length before ≡ step → result ≡ count_by (same_meeting s) before }
     {
         self.repeats[step as usize]
+    }
+
+    /// Whether a step's repeat number is this.
+    pub fn is_repeat(&self, step: u32, repeat: u32) -> bool
+        requires { (ss : List Step) × (IsRigOf ss self.now × step < length ss) }
+        ensures { (ss before : List Step) (s : Step) (after : List Step) → IsRigOf ss self.now → ss ≡ before ++ s ∷
+            after → length before ≡ step → result ≡ eqb repeat (count_by (same_meeting s) before) }
+    {
+        repeat == self.repeat_of(step)
     }
 }

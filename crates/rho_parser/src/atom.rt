@@ -10,6 +10,7 @@ ghost use Rattle.token_cursor.specs.Reading.{Gives, Makes, Turns, bracket_of, of
 ghost use Rattle.std.specs.Prelude.{◌<◌, ◌≤◌, IfOk, MatchResult, length, map};
 
 use crate::parser::Parser;
+use crate::row::tuple;
 use calculus::{Name, Proc};
 use form_steps::step::ProcessStep;
 use form_steps::{
@@ -18,7 +19,7 @@ use form_steps::{
 };
 use grammar::{Fault, Mark};
 use token_cursor::part::{Bracket, Part};
-use token_cursor::{parts, process_forms};
+use token_cursor::process_forms;
 
 impl<'a> Parser<'a> {
     /// Drop ::= "*" Dropped | Atom
@@ -36,7 +37,11 @@ impl<'a> Parser<'a> {
             }
             Ok(ProcessStep::Group) => {
                 let inner = self.par(free - 1)?;
-                self.group(inner, free)
+                if !skip(&mut self.cursor, Mark::Comma) {
+                    return self.cursor.group_close(inner);
+                }
+                let row = self.row(Bracket::Round, free - 1);
+                tuple(inner, row)
             }
             Ok(ProcessStep::Block) => {
                 let first = self.par(free - 1)?;
@@ -65,24 +70,6 @@ impl<'a> Parser<'a> {
         process_forms::quote(self.cursor.alloc, quoted)
     }
 
-    /// What follows the first process in parentheses: the end, or the other members of a tuple.
-    #[cycle(parse)]
-    pub fn group(&mut self, inner: Part<Proc>, free: u32) -> Result<Part<Proc>, Fault>
-        requires { inner.height < free }
-        ensures reads { Gives free (Sort.Group processes (of_proc inner)) of_proc (view self.old.cursor.rest.now) result
-            (view self.new.cursor.rest.now) }
-        ensures room { IfOk result (λ p. p.height ≤ free) }
-        ensures shorter { length self.new.cursor.rest.now ≤ length self.old.cursor.rest.now }
-    {
-        if !skip(&mut self.cursor, Mark::Comma) {
-            return self.cursor.group_close(inner);
-        }
-        match self.row(Bracket::Round, free - 1) {
-            Ok(row) => process_forms::tuple(inner, row),
-            Err(fault) => parts::give_up(inner, fault),
-        }
-    }
-
     /// What follows the first process in braces: the end, or the pairs of a map.
     #[cycle(parse)]
     pub fn block(&mut self, inner: Part<Proc>, free: u32) -> Result<Part<Proc>, Fault>
@@ -97,32 +84,14 @@ impl<'a> Parser<'a> {
         }
         let pair = paired(inner, self.par(free - 1));
         let mut pairs = first_of(self.cursor.alloc, pair)?;
-        while self.cursor.sees(Mark::Comma) {
-            pairs = self.next_pair(pairs, free)?;
+        'each: while skip(&mut self.cursor, Mark::Comma) {
+            let found = self.par(free - 1);
+            let key = then_mark(&mut self.cursor, found, Mark::Colon)?;
+            let value = self.par(free - 1);
+            let next = paired(key, value);
+            pairs = one_more(pairs, next)?;
         }
         self.cursor.map_close(pairs)
-    }
-
-    /// A comma and one more pair.
-    #[cycle(parse)]
-    pub fn next_pair(
-        &mut self,
-        pairs: Part<Vec<(Proc, Proc)>>,
-        free: u32,
-    ) -> Result<Part<Vec<(Proc, Proc)>>, Fault>
-        requires { pairs.height < free }
-        ensures reads { Turns free (rule Tutorial (Prod.pairs_more (pairs_written pairs.value.items) pairs.height))
-            (λ p. last (Sort.Pairs (pairs_written p.value.items) p.height)) (view self.old.cursor.rest.now) result
-            (view self.new.cursor.rest.now) }
-        ensures room { IfOk result (λ p. p.height < free) }
-        ensures shorter { MatchResult result (λ _. length self.new.cursor.rest.now < length self.old.cursor.rest.now)
-            (λ _. length self.new.cursor.rest.now ≤ length self.old.cursor.rest.now) }
-    {
-        self.cursor.expect(Mark::Comma)?;
-        let found = self.par(free - 1);
-        let key = then_mark(&mut self.cursor, found, Mark::Colon)?;
-        let pair = paired(key, self.par(free - 1));
-        one_more(pairs, pair)
     }
 
     /// Row ::= [ Par { "," Par } ], and the sign that closes it

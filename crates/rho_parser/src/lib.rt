@@ -12,6 +12,7 @@ mod pattern;
 mod pattern_atom;
 mod process;
 mod receive;
+mod row;
 pub mod whole;
 
 pub use grammar::Dialect;

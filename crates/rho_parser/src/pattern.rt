@@ -12,8 +12,9 @@ ghost use Rattle.std.specs.Prelude.{◌≡◌, ◌<◌, ◌≤◌, IfOk, MatchRe
 
 use crate::closed_form::closed_form;
 use crate::parser::Parser;
+use crate::row::{sent_pattern, tuple_pattern};
 use calculus::{NamePat, Pat};
-use form_steps::step::{PartStep, PatternStep, Sending};
+use form_steps::step::{PartStep, PatternStep};
 use form_steps::{
     begin_any_send, begin_part, begin_pattern, begin_send_pattern, close_bundle_pattern,
     close_same, first_of, member_patterns, negated, one_more, plain_pattern, quoted_send_pattern,
@@ -56,33 +57,21 @@ impl<'a> Parser<'a> {
             Ok(PartStep::Quoted) => {
                 let quoted = self.pattern_alternative(free - 1);
                 let channel = quoted_send_pattern(&mut self.cursor, quoted)?;
-                self.pattern_sent(channel, free)
+                let args = self.pattern_row(Bracket::Round, free - 1);
+                sent_pattern(channel, args)
             }
             Ok(PartStep::AnySend) => {
                 let any = begin_any_send(&mut self.cursor, free)?;
-                self.pattern_sent(any, free)
+                let args = self.pattern_row(Bracket::Round, free - 1);
+                sent_pattern(any, args)
             }
             Ok(PartStep::Send) => {
                 let sending = begin_send_pattern(&mut self.cursor, free)?;
-                self.pattern_sent(sending, free)
+                let args = self.pattern_row(Bracket::Round, free - 1);
+                sent_pattern(sending, args)
             }
             Ok(PartStep::Alternative) => self.pattern_alternative(free),
             Err(fault) => Err(fault),
-        }
-    }
-
-    /// The arguments of a send.
-    #[cycle(parse)]
-    pub fn pattern_sent(&mut self, sending: Sending<NamePat>, free: u32) -> Result<Part<Pat>, Fault>
-        requires { sending.channel.height < free }
-        ensures reads { Makes free (after_channel_pattern sending) of_pat (view self.old.cursor.rest.now) result
-            (view self.new.cursor.rest.now) }
-        ensures room { IfOk result (λ p. p.height ≤ free) }
-        ensures shorter { length self.new.cursor.rest.now ≤ length self.old.cursor.rest.now }
-    {
-        match self.pattern_row(Bracket::Round, free - 1) {
-            Ok(args) => Ok(pattern_forms::send_pat(sending.channel, args, sending.persistent)),
-            Err(fault) => parts::give_up(sending, fault),
         }
     }
 
@@ -149,7 +138,11 @@ impl<'a> Parser<'a> {
             }
             Ok(PatternStep::Group) => {
                 let inner = self.pattern_par(free - 1)?;
-                self.pattern_group(inner, free)
+                if !skip(&mut self.cursor, Mark::Comma) {
+                    return self.cursor.pattern_close(inner);
+                }
+                let row = self.pattern_row(Bracket::Round, free - 1);
+                tuple_pattern(inner, row)
             }
             Ok(PatternStep::Block) => {
                 let first = self.pattern_par(free - 1)?;

@@ -15,27 +15,8 @@ use calculus::Pat;
 use form_steps::{closing_mark, first_of, one_more, paired, skip, skip_comma, then_mark};
 use grammar::{Fault, Mark};
 use token_cursor::part::{Bracket, Part, Sequence};
-use token_cursor::{parts, pattern_forms};
 
 impl<'a> Parser<'a> {
-    /// What follows the first pattern in parentheses: the end, or the other members of a tuple.
-    #[cycle(parse)]
-    pub fn pattern_group(&mut self, first: Part<Pat>, free: u32) -> Result<Part<Pat>, Fault>
-        requires { first.height < free }
-        ensures reads { Gives free (Sort.Group patterns (of_pat first)) of_pat (view self.old.cursor.rest.now) result
-            (view self.new.cursor.rest.now) }
-        ensures room { IfOk result (λ p. p.height ≤ free) }
-        ensures shorter { length self.new.cursor.rest.now ≤ length self.old.cursor.rest.now }
-    {
-        if !skip(&mut self.cursor, Mark::Comma) {
-            return self.cursor.pattern_close(first);
-        }
-        match self.pattern_row(Bracket::Round, free - 1) {
-            Ok(row) => pattern_forms::tuple_pat(first, row),
-            Err(fault) => parts::give_up(first, fault),
-        }
-    }
-
     /// Row ::= [ PPar { "," PPar } ], and the sign that closes it
     #[cycle(parse)]
     pub fn pattern_row(&mut self, bracket: Bracket, free: u32) -> Result<Part<Vec<Pat>>, Fault>
@@ -94,33 +75,13 @@ impl<'a> Parser<'a> {
         }
         let pair = paired(first, self.pattern_par(free - 1));
         let mut pairs = first_of(self.cursor.alloc, pair)?;
-        while self.cursor.sees_member() {
-            pairs = self.pattern_pairs_more(pairs, free)?;
+        'each: while skip_comma(&mut self.cursor) {
+            let found = self.pattern_par(free - 1);
+            let key = then_mark(&mut self.cursor, found, Mark::Colon)?;
+            let value = self.pattern_par(free - 1);
+            let next = paired(key, value);
+            pairs = one_more(pairs, next)?;
         }
         self.cursor.pairs_end(pairs)
-    }
-
-    /// A comma and one more pair.
-    #[cycle(parse)]
-    pub fn pattern_pairs_more(
-        &mut self,
-        pairs: Part<Vec<(Pat, Pat)>>,
-        free: u32,
-    ) -> Result<Part<Vec<(Pat, Pat)>>, Fault>
-        requires member { sees_member (view self.old.cursor.rest.now) ≡ true }
-        requires room { pairs.height < free }
-        ensures reads { Turns free (rule Tutorial (choose (Sort.PPairs (pat_pairs_written pairs.value.items)
-            pairs.height) (view self.old.cursor.rest.now))) (λ p. last
-            (Sort.PPairs (pat_pairs_written p.value.items) p.height)) (view self.old.cursor.rest.now) result
-            (view self.new.cursor.rest.now) }
-        ensures room { IfOk result (λ p. p.height < free) }
-        ensures shorter { MatchResult result (λ _. length self.new.cursor.rest.now < length self.old.cursor.rest.now)
-            (λ _. length self.new.cursor.rest.now ≤ length self.old.cursor.rest.now) }
-    {
-        self.cursor.expect(Mark::Comma)?;
-        let found = self.pattern_par(free - 1);
-        let key = then_mark(&mut self.cursor, found, Mark::Colon)?;
-        let pair = paired(key, self.pattern_par(free - 1));
-        one_more(pairs, pair)
     }
 }

@@ -11,15 +11,16 @@ ghost use Rattle.token_cursor.specs.Reading.{Gives, Makes, Turns, of_name, of_pr
 ghost use Rattle.std.specs.Prelude.{◌≡◌, ◌<◌, ◌≤◌, IfOk, MatchResult, length, map};
 
 use crate::parser::Parser;
-use calculus::{Name, Proc};
-use form_steps::step::{FormKey, Sending, TermStep};
+use crate::row::sent;
+use calculus::Proc;
+use form_steps::step::{FormKey, TermStep};
 use form_steps::{
     begin_send, begin_term, both, close_bundle, first_of, leading_form, one_more, quoted_send,
     skip, then_mark,
 };
 use grammar::{Fault, Mark};
 use token_cursor::part::{Bracket, Part};
-use token_cursor::{Level, parts, process_forms};
+use token_cursor::{Level, process_forms};
 
 impl<'a> Parser<'a> {
     /// Par ::= One { "|" One }
@@ -133,28 +134,16 @@ impl<'a> Parser<'a> {
             Ok(TermStep::Quoted) => {
                 let quoted = self.drop_form(free - 1);
                 let channel = quoted_send(&mut self.cursor, quoted)?;
-                self.sent(channel, free)
+                let args = self.row(Bracket::Round, free - 1);
+                sent(channel, args)
             }
             Ok(TermStep::Send) => {
                 let sending = begin_send(&mut self.cursor, free)?;
-                self.sent(sending, free)
+                let args = self.row(Bracket::Round, free - 1);
+                sent(sending, args)
             }
             Ok(TermStep::Chain) => self.level(Some(Level::Or), free),
             Err(fault) => Err(fault),
-        }
-    }
-
-    /// The arguments of a send.
-    #[cycle(parse)]
-    pub fn sent(&mut self, sending: Sending<Name>, free: u32) -> Result<Part<Proc>, Fault>
-        requires { sending.channel.height < free }
-        ensures reads { Makes free (after_channel sending) of_proc (view self.old.cursor.rest.now) result (view self.new.cursor.rest.now) }
-        ensures room { IfOk result (λ p. p.height ≤ free) }
-        ensures shorter { length self.new.cursor.rest.now ≤ length self.old.cursor.rest.now }
-    {
-        match self.row(Bracket::Round, free - 1) {
-            Ok(args) => Ok(process_forms::send(sending.channel, args, sending.persistent)),
-            Err(fault) => parts::give_up(sending, fault),
         }
     }
 }

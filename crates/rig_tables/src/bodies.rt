@@ -9,7 +9,7 @@ use name_seed::Seed;
 use price_table::Prices;
 use row_search::Found;
 use space_row::Row;
-use std::alloc::Global;
+use std::alloc::{AllocError, Global};
 use step_work::work_body;
 use table_lines::LineFault;
 
@@ -21,10 +21,17 @@ pub struct Coming {
 }
 
 /// What steps that were done came to: their indices and the ids of the rows that are left, both ascending.
-#[derive(Drop, PartialEq, Eq)]
+#[derive(Drop)]
 pub struct Ended {
     pub done: Vec<u32>,
     pub left: Vec<Digest>,
+}
+
+impl Ended {
+    /// Whether both came to the same.
+    pub fn is_same(&self, other: &Ended) -> bool {
+        self.done == other.done && self.left == other.left
+    }
 }
 
 /// Puts both in order.
@@ -55,34 +62,30 @@ pub fn offers(alloc: Global, step: &LogStep, found: &Found) -> Result<Vec<Row>, 
     Ok(worked.offers)
 }
 
-/// Adds rows that a step offers.
-pub fn add_offers(all: &mut Vec<Coming>, rows: Vec<Row>, step: u32) -> Result<(), LineFault> {
+/// Adds copies of rows that a step offers.
+pub fn add_rows(
+    alloc: Global,
+    all: &mut Vec<Coming>,
+    rows: &[Row],
+    from: Option<u32>,
+) -> Result<(), AllocError> {
     for row in rows {
-        all.push(Coming {
-            row,
-            from: Some(step),
-        })?;
+        let row = row.copy(alloc)?;
+        keep(all, Coming { row, from })?;
     }
     Ok(())
 }
 
-/// Copies of rows, which no step offered.
-pub fn add_first(alloc: Global, all: &mut Vec<Coming>, rows: &[Row]) -> Result<(), LineFault> {
-    for row in rows {
-        all.push(Coming {
-            row: row.copy(alloc)?,
-            from: None,
-        })?;
-    }
+/// Adds a value.
+pub fn keep<T: Drop>(all: &mut Vec<T>, value: T) -> Result<(), AllocError> {
+    all.push(value)?;
     Ok(())
 }
 
-/// Whether an id is one of these.
-pub fn is_among(id: &Digest, ids: &[Digest]) -> bool {
-    for other in ids {
-        if id == other {
-            return true;
-        }
+/// Adds a value, where there is one.
+pub fn keep_some<T: Drop>(all: &mut Vec<T>, value: Option<T>) -> Result<(), AllocError> {
+    match value {
+        Some(value) => keep(all, value),
+        None => Ok(()),
     }
-    false
 }

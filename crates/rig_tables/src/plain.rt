@@ -1,43 +1,63 @@
 //! The steps of a log that can be done, found by a plain walk: each step that is not done is looked at again and again, the last one
 //! first, until none can be done.
-use crate::bodies::{Coming, Ended, add_first, add_offers, in_order, is_among, offers};
+ghost use Rattle.calculus.specs.Form.{IsClosed};
+ghost use Rattle.calculus.specs.Substitution.{put};
+
+use crate::bodies::{Coming, Ended, add_rows, in_order, keep, offers};
 use calculus::Digest;
 use event_log::{Log, LogStep};
 use least_step::built_in_rows;
 use row_meeting::meet_rows;
+use row_search::Found;
 use space_row::Row;
-use std::alloc::Global;
+use std::alloc::{AllocError, Global};
 use table_lines::LineFault;
 
 /// What can be done of a log, after the rows of the source have come.
 pub fn walk(alloc: Global, log: &Log, rows: &[Row]) -> Result<Ended, LineFault> {
     let built_ins = built_in_rows(alloc)?;
+    let mut bag = first_bag(alloc, rows, built_ins.as_slice())?;
+    let done = do_all(alloc, log, &mut bag)?;
+    in_order(done, left(alloc, bag.as_slice(), built_ins.as_slice())?)
+}
+
+fn first_bag(alloc: Global, rows: &[Row], built_ins: &[Row]) -> Result<Vec<Coming>, AllocError> {
     let mut bag = Vec::new(alloc);
-    add_first(alloc, &mut bag, rows)?;
-    add_first(alloc, &mut bag, built_ins.as_slice())?;
+    add_rows(alloc, &mut bag, rows, None)?;
+    add_rows(alloc, &mut bag, built_ins, None)?;
+    Ok(bag)
+}
+
+// The ids of the rows that are left, without the built-in receivers.
+fn left(alloc: Global, bag: &[Coming], built_ins: &[Row]) -> Result<Vec<Digest>, AllocError> {
+    let mut left = Vec::new(alloc);
+    for coming in bag {
+        let id = coming.row.id();
+        if !has_id(built_ins, &id) {
+            left.push(id)?;
+        }
+    }
+    Ok(left)
+}
+
+fn has_id(rows: &[Row], id: &Digest) -> bool {
+    for row in rows {
+        if &row.id() == id {
+            return true;
+        }
+    }
+    false
+}
+
+// Does steps until none can be done, and tells which were.
+fn do_all(alloc: Global, log: &Log, bag: &mut Vec<Coming>) -> Result<Vec<u32>, LineFault> {
     let mut done = Vec::new(alloc);
     for _ in 0..=log.steps.len() {
-        if !do_some(alloc, log, &mut bag, &mut done)? {
-            let mut left = Vec::new(alloc);
-            for coming in &bag {
-                add_id(&mut left, coming, built_ins.as_slice())?;
-            }
-            return in_order(done, left);
+        if !do_some(alloc, log, bag, &mut done)? {
+            return Ok(done);
         }
     }
     Err(LineFault::Field)
-}
-
-// Adds the id of a row, unless it is one of the built-in receivers.
-fn add_id(left: &mut Vec<Digest>, coming: &Coming, built_ins: &[Row]) -> Result<(), LineFault> {
-    let id = coming.row.id();
-    for row in built_ins {
-        if row.id() == id {
-            return Ok(());
-        }
-    }
-    left.push(id)?;
-    Ok(())
 }
 
 // Does each step that can be done, and answers whether there was one.
@@ -64,12 +84,7 @@ fn number_of(place: usize) -> u32 {
 
 // Whether the step at a place is done.
 fn is_done(done: &[u32], place: usize) -> bool {
-    for other in done {
-        if *other as usize == place {
-            return true;
-        }
-    }
-    false
+    done.contains(&number_of(place))
 }
 
 // Does the step at a place, if it may be done now, and answers whether it was.
@@ -86,25 +101,84 @@ fn do_one(
     if !is_next(log.steps.as_slice(), place, step, done) {
         return Ok(false);
     }
-    let Some(receiver) = row_with(alloc, bag.as_slice(), &step.cont, place)? else {
-        return Ok(false);
-    };
-    let mut sends = Vec::new(alloc);
+    let rows = rows_of(alloc, bag.as_slice(), step, place)?;
+    meet(alloc, bag, place, step, rows.as_slice())
+}
+
+// Copies of those rows of a step that the source or a step below this place offered: the receiver, and the sends.
+fn rows_of(
+    alloc: Global,
+    bag: &[Coming],
+    step: &LogStep,
+    place: usize,
+) -> Result<Vec<Row>, AllocError> {
+    let mut rows = Vec::new(alloc);
+    add_row(alloc, &mut rows, bag, &step.cont, place)?;
     for id in step.taken.as_slice() {
-        match row_with(alloc, bag.as_slice(), id, place)? {
-            Some(row) => sends.push(row)?,
-            None => return Ok(false),
+        add_row(alloc, &mut rows, bag, id, place)?;
+    }
+    Ok(rows)
+}
+
+// Adds a copy of the row with this id, where the source or a step below this place offered it.
+fn add_row(
+    alloc: Global,
+    rows: &mut Vec<Row>,
+    bag: &[Coming],
+    id: &Digest,
+    place: usize,
+) -> Result<(), AllocError> {
+    for coming in bag {
+        if &coming.row.id() == id && is_from_below(coming.from, place) {
+            return keep(rows, coming.row.copy(alloc)?);
         }
     }
-    let Some(found) = meet_rows(alloc, &receiver, sends.as_slice())? else {
+    Ok(())
+}
+
+fn is_from_below(from: Option<u32>, place: usize) -> bool {
+    match from {
+        None => true,
+        Some(step) => (step as usize) < place,
+    }
+}
+
+// Does a step, if all its rows are there and meet, and answers whether it was done.
+fn meet(
+    alloc: Global,
+    bag: &mut Vec<Coming>,
+    place: usize,
+    step: &LogStep,
+    rows: &[Row],
+) -> Result<bool, LineFault> {
+    let Some((receiver, sends)) = rows.split_first() else {
         return Ok(false);
     };
+    if sends.len() != step.taken.len() {
+        return Ok(false);
+    }
+    match meet_rows(alloc, receiver, sends)? {
+        Some(found) => finish(alloc, bag, place, step, &found),
+        None => Ok(false),
+    }
+}
+
+// Does a step that comes to this, unless it is a repeat and its rows would leave.
+fn finish(
+    alloc: Global,
+    bag: &mut Vec<Coming>,
+    place: usize,
+    step: &LogStep,
+    found: &Found,
+) -> Result<bool, LineFault>
+    requires { IsClosed (put found.now.bound.items found.now.body) }
+{
     if step.repeat != 0 && !found.lasting {
         return Ok(false);
     }
-    let rows = offers(alloc, step, &found)?;
+    let rows = offers(alloc, step, found)?;
     leave(bag, found.gone.as_slice());
-    add_offers(bag, rows, number_of(place))?;
+    add_rows(alloc, bag, rows.as_slice(), Some(number_of(place)))?;
     Ok(true)
 }
 
@@ -139,39 +213,17 @@ fn share_row(one: &LogStep, other: &LogStep) -> bool {
 }
 
 fn names(step: &LogStep, id: &Digest) -> bool {
-    &step.cont == id || is_among(id, step.taken.as_slice())
+    &step.cont == id || step.taken.contains(id)
 }
 
 // Whether these ids differ from one another.
 fn are_different(ids: &[Digest]) -> bool {
     for i in 0..ids.len() {
-        if is_among(&ids[i], &ids[i + 1..]) {
+        if ids[i + 1..].contains(&ids[i]) {
             return false;
         }
     }
     true
-}
-
-// A copy of the row with this id, where the source or a step below this place offered it.
-fn row_with(
-    alloc: Global,
-    bag: &[Coming],
-    id: &Digest,
-    place: usize,
-) -> Result<Option<Row>, LineFault> {
-    for coming in bag {
-        if &coming.row.id() == id && is_from_below(coming.from, place) {
-            return Ok(Some(coming.row.copy(alloc)?));
-        }
-    }
-    Ok(None)
-}
-
-fn is_from_below(from: Option<u32>, place: usize) -> bool {
-    match from {
-        None => true,
-        Some(step) => (step as usize) < place,
-    }
 }
 
 // The rows with these ids leave.
@@ -188,7 +240,7 @@ fn leave(bag: &mut Vec<Coming>, gone: &[Digest]) {
 // The place of a row with one of these ids.
 fn place_of(bag: &[Coming], gone: &[Digest]) -> Option<usize> {
     for (place, coming) in bag.iter().enumerate() {
-        if is_among(&coming.row.id(), gone) {
+        if gone.contains(&coming.row.id()) {
             return Some(place);
         }
     }

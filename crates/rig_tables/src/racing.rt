@@ -4,7 +4,7 @@ ghost use Rattle.event_log.specs.View.{IsWritable, steps_of};
 ghost use Rattle.replay_space.specs.Rigs.{IsRigOf};
 ghost use Rattle.replay_store.specs.Stores.{AreAll};
 
-use crate::bodies::{Coming, Ended, add_first, add_offers, in_order, offers};
+use crate::bodies::{Coming, Ended, add_rows, in_order, keep_some, offers};
 use calculus::Digest;
 use event_log::Log;
 use replay_shards::{ReplayHeld, ReplayShard, ShardedRow, Try, first_tries};
@@ -17,11 +17,12 @@ use table_lines::LineFault;
 /// The most jobs of a line.
 const MOST_JOBS: u32 = 100_000;
 
-/// What is pending: rows that are to arrive, and steps that are to be tried.
+/// What is pending: rows that are to arrive, and steps that are to be tried; and the steps that were done.
 #[derive(Drop)]
 struct Jobs {
     coming: Vec<Coming>,
     tries: Vec<u32>,
+    done: Vec<u32>,
 }
 
 // What a step that was done leaves to do.
@@ -42,20 +43,58 @@ pub fn race(
     requires writable { IsWritable log.now }
     requires rig { IsRigOf (steps_of log.now.steps.items) rig.now }
 {
-    let mut held = empty_hand(alloc)?;
-    let mut jobs = Jobs {
-        coming: Vec::new(alloc),
+    let mut jobs = first_jobs(alloc, rows)?;
+    let left = race_jobs(alloc, log, rig, &mut jobs, seed)?;
+    in_order(jobs.done, left)
+}
+
+// The rows of the source are to arrive.
+fn first_jobs(alloc: Global, rows: &[Row]) -> Result<Jobs, AllocError> {
+    let mut coming = Vec::new(alloc);
+    add_rows(alloc, &mut coming, rows, None)?;
+    Ok(Jobs {
+        coming,
         tries: Vec::new(alloc),
-    };
-    add_first(alloc, &mut jobs.coming, rows)?;
-    let mut done = Vec::new(alloc);
+        done: Vec::new(alloc),
+    })
+}
+
+// Does jobs until none is pending, and tells the ids of the rows that are left.
+fn race_jobs(
+    alloc: Global,
+    log: &Log,
+    rig: &Rig,
+    jobs: &mut Jobs,
+    seed: u64,
+) -> Result<Vec<Digest>, LineFault>
+    requires writable { IsWritable log.now }
+    requires rig { IsRigOf (steps_of log.now.steps.items) rig.now }
+{
+    let mut held = empty_hand(alloc)?;
+    do_jobs(alloc, log, rig, &mut held, jobs, seed)?;
+    Ok(left(alloc, &mut held)?)
+}
+
+// Does jobs until none is pending.
+fn do_jobs(
+    alloc: Global,
+    log: &Log,
+    rig: &Rig,
+    held: &mut ReplayHeld,
+    jobs: &mut Jobs,
+    seed: u64,
+) -> Result<(), LineFault>
+    requires writable { IsWritable log.now }
+    requires rig { IsRigOf (steps_of log.now.steps.items) rig.now }
+    requires all { AreAll held.old }
+{
     let mut state = seed;
     for _ in 0..MOST_JOBS {
         state = next_number(state);
-        match draw(&mut jobs, state) {
-            Drawn::Nothing => return Ok(in_order(done, left(alloc, held)?)?),
-            Drawn::Row => bring_one(alloc, rig, &mut held, &mut jobs, state)?,
-            Drawn::Step(step) => try_one(alloc, log, rig, &mut held, &mut jobs, &mut done, step)?,
+        match draw(jobs, state) {
+            Drawn::Nothing => return Ok(()),
+            Drawn::Row => bring_one(alloc, rig, held, jobs, state)?,
+            Drawn::Step(step) => try_one(alloc, log, rig, held, jobs, step)?,
         }
     }
     Err(LineFault::Field)
@@ -125,14 +164,16 @@ fn bring_one(
     }
     let coming = jobs.coming.swap_remove(place);
     let row = ShardedRow::from_row(alloc, coming.row)?;
-    let tries = first_tries(alloc, rig, &row, coming.from)?;
-    add_tries(&mut jobs.tries, tries)?;
+    add_tries(
+        &mut jobs.tries,
+        first_tries(alloc, rig, &row, coming.from)?.as_slice(),
+    )?;
     let shards = row.shards();
     held.arrive(alloc, row, coming.from, shards)?;
     Ok(())
 }
 
-fn add_tries(all: &mut Vec<u32>, tries: Vec<Try>) -> Result<(), LineFault> {
+fn add_tries(all: &mut Vec<u32>, tries: &[Try]) -> Result<(), AllocError> {
     for tried in tries {
         all.push(tried.step)?;
     }
@@ -146,7 +187,6 @@ fn try_one(
     rig: &Rig,
     held: &mut ReplayHeld,
     jobs: &mut Jobs,
-    done: &mut Vec<u32>,
     step: u32,
 ) -> Result<(), LineFault>
     requires writable { IsWritable log.now }
@@ -154,12 +194,17 @@ fn try_one(
     requires all { AreAll held.old }
     ensures { OnOk result (AreAll held.new) }
 {
-    let Some(made) = try_step(alloc, log, rig, held, step)? else {
-        return Ok(());
-    };
-    done.push(step)?;
-    add_offers(&mut jobs.coming, made.rows, step)?;
-    add_tries(&mut jobs.tries, made.next)
+    match try_step(alloc, log, rig, held, step)? {
+        Some(made) => Ok(add_jobs(alloc, jobs, step, &made)?),
+        None => Ok(()),
+    }
+}
+
+// Adds what a step that was done leaves to do.
+fn add_jobs(alloc: Global, jobs: &mut Jobs, step: u32, made: &Made) -> Result<(), AllocError> {
+    jobs.done.push(step)?;
+    add_rows(alloc, &mut jobs.coming, made.rows.as_slice(), Some(step))?;
+    add_tries(&mut jobs.tries, made.next.as_slice())
 }
 
 // Does a step, if it may be done now.
@@ -192,17 +237,18 @@ fn try_step(
     }))
 }
 
-// The ids of the rows that are left.
-fn left(alloc: Global, held: ReplayHeld) -> Result<Vec<Digest>, LineFault> {
-    let mut held = held;
+// The ids of the rows that are left; all shards are taken out of hand.
+fn left(alloc: Global, held: &mut ReplayHeld) -> Result<Vec<Digest>, AllocError> {
     let mut shards = Vec::new(alloc);
     for number in 0..64u32 {
-        if let Some(shard) = held.remove(number) {
-            shards.push(shard)?;
-        }
+        keep_some(&mut shards, held.remove(number))?;
     }
+    ids(alloc, rows_of(alloc, shards)?.as_slice())
+}
+
+fn ids(alloc: Global, rows: &[Row]) -> Result<Vec<Digest>, AllocError> {
     let mut ids = Vec::new(alloc);
-    for row in rows_of(alloc, shards)? {
+    for row in rows {
         ids.push(row.id())?;
     }
     Ok(ids)

@@ -11,7 +11,7 @@ use rho_term::Term;
 use sources::read_source;
 use space_row::Row;
 use std::alloc::Global;
-use step_work::work_source;
+use step_work::{Worked, work_source};
 use table_lines::{LineFault, hex_bytes, unescape};
 
 /// What a source of a line, and a body of a step, may cost at most.
@@ -43,7 +43,10 @@ pub fn read_rows(alloc: Global, base: &Digest, source: &str) -> Result<Vec<Row>,
     let source = unescape(alloc, source)?;
     let term = read_term(alloc, source.as_slice())?;
     let seed = Seed::start(base, &bytes_digest(source.as_slice()));
-    let worked = work_source(alloc, &term, &seed, &Prices::standard(), MOST_COST)?;
+    offers(work_source(alloc, &term, &seed, &Prices::standard(), MOST_COST)?)
+}
+
+fn offers(worked: Worked) -> Result<Vec<Row>, LineFault> {
     if worked.fault.is_some() || worked.price > MOST_COST {
         return Err(LineFault::Field);
     }

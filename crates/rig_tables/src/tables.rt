@@ -4,7 +4,7 @@ ghost use Rattle.replay_space.specs.Rigs.{IsRigOf};
 
 use crate::bodies::Ended;
 use crate::plain::walk;
-use crate::racing::{next_number, race as race_once};
+use crate::racing::{next_number, race};
 use crate::reading::{read_digits, read_rows};
 use calculus::Digest;
 use event_log::Log;
@@ -27,7 +27,7 @@ pub fn uses(alloc: Global, fields: &str) -> Result<String, LineFault> {
 
 /// Whether a log comes to the same in all orders, and by the plain walk: a number that draws the orders, the digits of the log, and the
 /// source.
-pub fn race(alloc: Global, fields: &str) -> Result<String, LineFault> {
+pub fn any_order(alloc: Global, fields: &str) -> Result<String, LineFault> {
     match raced(alloc, fields)? {
         Some(_) => Ok(String::from_str(alloc, "agree")?),
         None => Ok(String::from_str(alloc, "other steps or rows")?),
@@ -37,38 +37,55 @@ pub fn race(alloc: Global, fields: &str) -> Result<String, LineFault> {
 /// The same, with the indices of the steps that are done and of how many there are.
 pub fn done(alloc: Global, fields: &str) -> Result<String, LineFault> {
     match raced(alloc, fields)? {
-        Some(ended) => Ok(format!(in alloc; "agree, done {:?}", ended.done)?),
+        Some(done) => Ok(format!(in alloc; "agree, done {:?}", done)?),
         None => Ok(String::from_str(alloc, "other steps or rows")?),
     }
 }
 
-// What a log comes to, where it is the same in all orders and by the plain walk.
-fn raced(alloc: Global, fields: &str) -> Result<Option<Ended>, LineFault> {
+// The steps that are done of a log, where it comes to the same in all orders and by the plain walk.
+fn raced(alloc: Global, fields: &str) -> Result<Option<Vec<u32>>, LineFault> {
     let (seed, rest) = fields.split_once(' ').ok_or(LineFault::Field)?;
     let (log, source) = rest.split_once(' ').ok_or(LineFault::Field)?;
+    let seed = u64::from(number(seed)?);
     let log = read_digits(alloc, log)?;
     let rows = read_rows(alloc, &log.header.base, source)?;
-    let rig = Rig::from_log(alloc, &log)?;
-    raced_orders(alloc, &log, &rig, rows.as_slice(), u64::from(number(seed)?))
+    raced_rows(alloc, &log, rows.as_slice(), seed)
 }
 
-fn raced_orders(
+fn raced_rows(
+    alloc: Global,
+    log: &Log,
+    rows: &[Row],
+    seed: u64,
+) -> Result<Option<Vec<u32>>, LineFault>
+    requires { IsWritable log.now }
+{
+    let rig = Rig::from_log(alloc, log)?;
+    let plain = walk(alloc, log, rows)?;
+    if is_raced(alloc, log, &rig, rows, seed, &plain)? {
+        return Ok(Some(plain.done));
+    }
+    Ok(None)
+}
+
+// Whether a log comes to this in all orders.
+fn is_raced(
     alloc: Global,
     log: &Log,
     rig: &Rig,
     rows: &[Row],
     seed: u64,
-) -> Result<Option<Ended>, LineFault>
+    plain: &Ended,
+) -> Result<bool, LineFault>
     requires writable { IsWritable log.now }
     requires rig { IsRigOf (steps_of log.now.steps.items) rig.now }
 {
-    let plain = walk(alloc, log, rows)?;
     let mut state = seed;
     for _ in 0..ORDERS {
         state = next_number(state);
-        if race_once(alloc, log, rig, rows, state)? != plain {
-            return Ok(None);
+        if !race(alloc, log, rig, rows, state)?.is_same(plain) {
+            return Ok(false);
         }
     }
-    Ok(Some(plain))
+    Ok(true)
 }

@@ -23,21 +23,27 @@ const MOST_BYTES: u64 = 4_294_967_295;
 pub fn groups(alloc: Global, fields: &str) -> Result<String, LineFault> {
     let (channel, source) = fields.split_once(" <=> ").ok_or(LineFault::Field)?;
     let channel = read_term(alloc, unescape(alloc, channel)?.as_slice())?;
-    let mut index = JoinIndex::new(alloc);
-    for row in read_rows(alloc, source)? {
-        add_group(alloc, &mut index, &row)?;
-    }
-    told_short(alloc, &index, &channel)
+    let rows = read_rows(alloc, source)?;
+    told_short(alloc, rows.as_slice(), &channel)
 }
 
-// The groups that hold a channel, where its code is not too long.
-fn told_short(alloc: Global, index: &JoinIndex, channel: &Term) -> Result<String, LineFault>
+// The groups of rows that hold a channel, where its code is not too long.
+fn told_short(alloc: Global, rows: &[Row], channel: &Term) -> Result<String, LineFault>
     requires { IsClosed channel.now }
 {
     if code_len(channel) > MOST_BYTES {
         return Err(LineFault::Field);
     }
-    told(alloc, index, channel)
+    Ok(told(alloc, &index_of(alloc, rows)?, channel)?)
+}
+
+// The groups of rows.
+fn index_of(alloc: Global, rows: &[Row]) -> Result<JoinIndex, AllocError> {
+    let mut index = JoinIndex::new(alloc);
+    for row in rows {
+        add_group(alloc, &mut index, row)?;
+    }
+    Ok(index)
 }
 
 // Adds the group of a row, where it is a receive.
@@ -72,11 +78,12 @@ fn channels_of(alloc: Global, binds: &[TermBind]) -> Result<Vec<Term>, AllocErro
 }
 
 // The groups that hold a channel, each in brackets.
-fn told(alloc: Global, index: &JoinIndex, channel: &Term) -> Result<String, LineFault>
+fn told(alloc: Global, index: &JoinIndex, channel: &Term) -> Result<String, AllocError>
     requires { IsChannel channel.now }
 {
+    let groups = index.groups_of(alloc, channel)?;
     let mut told = String::new(alloc);
-    for group in index.groups_of(alloc, channel)? {
+    for group in groups.as_slice() {
         push_terms(alloc, &mut told, group.as_slice())?;
     }
     Ok(told)

@@ -9,7 +9,7 @@ use rho_term::{Op, Term};
 use sources::read_source;
 use space_row::Row;
 use std::alloc::Global;
-use step_work::work_source;
+use step_work::{Worked, work_source};
 use table_lines::{LineFault, unescape};
 
 /// What a source of a line may cost at most.
@@ -30,7 +30,10 @@ pub fn read_rows(alloc: Global, source: &str) -> Result<Vec<Row>, LineFault> {
     let source = unescape(alloc, source)?;
     let term = read_term(alloc, source.as_slice())?;
     let seed = Seed::start(&Digest([0; 32]), &bytes_digest(source.as_slice()));
-    let worked = work_source(alloc, &term, &seed, &Prices::standard(), MOST_COST)?;
+    offers(work_source(alloc, &term, &seed, &Prices::standard(), MOST_COST)?)
+}
+
+fn offers(worked: Worked) -> Result<Vec<Row>, LineFault> {
     if worked.fault.is_some() || worked.price > MOST_COST {
         return Err(LineFault::Field);
     }
@@ -45,20 +48,14 @@ pub fn is_send(row: &Row) -> bool {
     }
 }
 
-/// The rows in an order that a number draws.
-pub fn shuffled(alloc: Global, rows: Vec<Row>, seed: u32) -> Result<Vec<Row>, LineFault> {
-    let mut rest = rows;
-    let mut drawn = Vec::new(alloc);
+/// Puts values in an order that a number draws.
+pub fn shuffle<T>(values: &mut [T], seed: u32) {
     let mut state = u64::from(seed);
-    for _ in 0..rest.len() {
-        if rest.is_empty() {
-            return Ok(drawn);
-        }
+    for left in (1..=values.len()).rev() {
         state = state
             .wrapping_mul(6_364_136_223_846_793_005)
             .wrapping_add(1_442_695_040_888_963_407);
-        let place = (state >> 33) as usize % rest.len();
-        drawn.push(rest.swap_remove(place))?;
+        values.swap((state >> 33) as usize % left, left - 1);
     }
-    Ok(drawn)
+    values.reverse();
 }

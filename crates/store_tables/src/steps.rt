@@ -1,12 +1,14 @@
 //! What stores find, beside what the plain walk allows.
-use crate::reading::{read_rows, shuffled};
+use crate::reading::{read_rows, shuffle};
 use crate::store::Store;
-use crate::walk::{has_row, is_among, is_one_of, meetings};
+use crate::walk::{allows, allows_nothing, meetings};
 use calculus::Digest;
 use least_step::{LeastStep, built_in_rows, first_reducible};
 use row_search::Found;
+use rspace_table::SpaceTables;
+use shard_tables::ShardTables;
 use space_row::Row;
-use std::alloc::Global;
+use std::alloc::{AllocError, Global};
 use std::cmp::Ordering;
 use table_lines::{LineFault, number};
 
@@ -15,42 +17,148 @@ use table_lines::{LineFault, number};
 /// answer that there is none, is what the plain walk through all rows says, and whether the store has the rows that are left.
 pub fn store_steps(alloc: Global, fields: &str) -> Result<String, LineFault> {
     let (seed, source) = fields.split_once(' ').ok_or(LineFault::Field)?;
-    let rows = shuffled(alloc, read_rows(alloc, source)?, number(seed)?)?;
+    let seed = number(seed)?;
+    let mut rows = read_rows(alloc, source)?;
+    shuffle(rows.as_mut_slice(), seed);
+    told_steps(alloc, rows.as_slice())
+}
+
+fn told_steps(alloc: Global, rows: &[Row]) -> Result<String, LineFault> {
     let built_ins = built_in_rows(alloc)?;
     let mut store = Store::new(alloc)?;
+    told_with(alloc, &mut store, rows, built_ins.as_slice())
+}
+
+fn told_with<'a>(
+    alloc: Global,
+    store: &mut Store,
+    rows: &'a [Row],
+    built_ins: &'a [Row],
+) -> Result<String, LineFault> {
     let mut stored = Vec::new(alloc);
-    let mut place = 0u64;
-    for row in rows {
-        if !bring(alloc, &mut store, &mut stored, built_ins.as_slice(), row)? {
-            return Ok(format!(in alloc; "another step at row {place}")?);
-        }
-        place = place.wrapping_add(1);
+    refer(&mut stored, built_ins)?;
+    if let Some(place) = first_wrong(alloc, store, &mut stored, rows)? {
+        return Ok(format!(in alloc; "another step at row {place}")?);
     }
-    let left = store.into_rows(alloc)?;
-    if has_rows(left.as_slice(), stored.as_slice())
-        && has_rows(stored.as_slice(), left.as_slice())
-    {
+    let left = store.take_rows(alloc)?;
+    if has_all(alloc, stored.as_slice(), left.as_slice(), built_ins)? {
         return Ok(String::from_str(alloc, "agree")?);
     }
     Ok(String::from_str(alloc, "other rows")?)
+}
+
+// Brings rows to a store, and tells at which of them an answer was not as the plain walk says.
+fn first_wrong<'a>(
+    alloc: Global,
+    store: &mut Store,
+    stored: &mut Vec<&'a Row>,
+    rows: &'a [Row],
+) -> Result<Option<usize>, LineFault> {
+    for (place, row) in rows.iter().enumerate() {
+        if !bring(alloc, store, stored, row)? {
+            return Ok(Some(place));
+        }
+    }
+    Ok(None)
+}
+
+// Brings a row to a store: whether each answer was as the plain walk says. The rows that are stored and the built-in receivers have no
+// meeting before, so that each one that the walk finds is of this row.
+fn bring<'a>(
+    alloc: Global,
+    store: &mut Store,
+    stored: &mut Vec<&'a Row>,
+    row: &'a Row,
+) -> Result<bool, LineFault> {
+    stored.push(row)?;
+    for _ in 0..stored.len() {
+        if let Some(agrees) = ask(alloc, store, stored, row)? {
+            return Ok(agrees);
+        }
+    }
+    Ok(false)
+}
+
+// Asks a store what the last of these rows meets, and takes that out or stores the row. Whether the answer was as the plain walk says,
+// and nothing where it was and the row is to be asked for again.
+fn ask(
+    alloc: Global,
+    store: &mut Store,
+    stored: &mut Vec<&Row>,
+    row: &Row,
+) -> Result<Option<bool>, LineFault> {
+    store.show(alloc, row)?;
+    match SpaceTables::first_step(alloc, &store.held, row)? {
+        None => {
+            SpaceTables::put(alloc, &mut store.held, row)?;
+            Ok(Some(allows_nothing(alloc, stored.as_slice())?))
+        }
+        Some(found) => take_step(alloc, store, stored, row, &found),
+    }
+}
+
+// Takes out what a row met, where that is one of the meetings that the walk allows. Where nothing leaves, the row does.
+fn take_step(
+    alloc: Global,
+    store: &mut Store,
+    stored: &mut Vec<&Row>,
+    row: &Row,
+    found: &Found,
+) -> Result<Option<bool>, LineFault> {
+    if !allows(alloc, stored.as_slice(), found)? {
+        return Ok(Some(false));
+    }
+    if found.lasting {
+        stored.pop();
+        return Ok(Some(true));
+    }
+    let gone = found.gone.as_slice();
+    SpaceTables::take_out(&mut store.held, gone);
+    leave(alloc, stored, gone)?;
+    Ok(if gone.contains(&row.id()) {
+        Some(true)
+    } else {
+        None
+    })
+}
+
+// The rows with these ids leave.
+fn leave(alloc: Global, stored: &mut Vec<&Row>, gone: &[Digest]) -> Result<(), AllocError> {
+    let mut rest = Vec::new(alloc);
+    for row in stored.iter() {
+        if !gone.contains(&row.id()) {
+            rest.push(*row)?;
+        }
+    }
+    *stored = rest;
+    Ok(())
 }
 
 /// How many meetings the plain walk finds among the rows of a source and the built-in receivers, and whether the least of them by ids
 /// is what is told of the rows.
 pub fn least_step(alloc: Global, source: &str) -> Result<String, LineFault> {
     let rows = read_rows(alloc, source)?;
+    told_least(alloc, rows.as_slice())
+}
+
+fn told_least(alloc: Global, rows: &[Row]) -> Result<String, LineFault> {
     let built_ins = built_in_rows(alloc)?;
-    let all = meetings(
-        alloc,
-        refer(alloc, rows.as_slice(), built_ins.as_slice())?.as_slice(),
-    )?;
-    let count = all.len();
-    let is_told = match first_reducible(alloc, rows.as_slice())? {
-        None => all.is_empty(),
-        Some(step) => is_least(&step, all.as_slice()),
+    let all = meetings(alloc, both(alloc, rows, built_ins.as_slice())?.as_slice())?;
+    let step = first_reducible(alloc, rows)?;
+    let told = if is_told(step.as_ref(), all.as_slice()) {
+        "agree"
+    } else {
+        "another step"
     };
-    let told = if is_told { "agree" } else { "another step" };
+    let count = all.len();
     Ok(format!(in alloc; "{count} {told}")?)
+}
+
+fn is_told(step: Option<&LeastStep>, all: &[Found]) -> bool {
+    match step {
+        None => all.is_empty(),
+        Some(step) => is_least(step, all),
+    }
 }
 
 // Whether a step is one of these meetings, and none has lower ids.
@@ -80,81 +188,20 @@ fn order(found: &Found, step: &LeastStep) -> Ordering {
     order
 }
 
-// Brings a row to a store: whether each answer was as the plain walk says.
-fn bring(
+// Whether these rows are as many as those of both lists together, with the same ids.
+fn has_all(
     alloc: Global,
-    store: &mut Store,
-    stored: &mut Vec<Row>,
+    rows: &[&Row],
+    left: &[Row],
     built_ins: &[Row],
-    row: Row,
-) -> Result<bool, LineFault> {
-    for _ in 0..=stored.len() {
-        let allowed = meetings_with(alloc, stored.as_slice(), built_ins, &row)?;
-        let Some(found) = store.first_step(alloc, &row)? else {
-            store.put(alloc, &row)?;
-            stored.push(row)?;
-            return Ok(allowed.is_empty());
-        };
-        if !is_one_of(alloc, &found, allowed.as_slice())? {
-            return Ok(false);
-        }
-        let gone = found.gone.as_slice();
-        store.take_out(alloc, &row, gone)?;
-        leave(alloc, stored, gone)?;
-        if found.lasting || is_among(&row.id(), gone) {
-            return Ok(true);
-        }
-    }
-    Ok(false)
+) -> Result<bool, AllocError> {
+    let others = both(alloc, left, built_ins)?;
+    let others = others.as_slice();
+    Ok(rows.len() == others.len() && has_rows(rows, others) && has_rows(others, rows))
 }
 
-// The rows with these ids leave.
-fn leave(alloc: Global, stored: &mut Vec<Row>, gone: &[Digest]) -> Result<(), LineFault> {
-    let mut rest = Vec::new(alloc);
-    for row in stored.iter() {
-        if !is_among(&row.id(), gone) {
-            rest.push(row.copy(alloc)?)?;
-        }
-    }
-    *stored = rest;
-    Ok(())
-}
-
-// The meetings of an operation with these rows.
-fn meetings_with(
-    alloc: Global,
-    stored: &[Row],
-    built_ins: &[Row],
-    op: &Row,
-) -> Result<Vec<Found>, LineFault> {
-    let mut rows = refer(alloc, stored, built_ins)?;
-    rows.push(op)?;
-    let id = op.id();
-    let mut own = Vec::new(alloc);
-    for found in meetings(alloc, rows.as_slice())? {
-        if has_row(&found, &id) {
-            own.push(found)?;
-        }
-    }
-    Ok(own)
-}
-
-fn refer<'a>(alloc: Global, rows: &'a [Row], others: &'a [Row]) -> Result<Vec<&'a Row>, LineFault> {
-    let mut all = Vec::new(alloc);
-    for row in rows {
-        all.push(row)?;
-    }
-    for row in others {
-        all.push(row)?;
-    }
-    Ok(all)
-}
-
-// Whether these are as many rows as those, with the same ids.
-fn has_rows(rows: &[Row], others: &[Row]) -> bool {
-    if rows.len() != others.len() {
-        return false;
-    }
+// Whether each of these rows has the id of one of those.
+fn has_rows(rows: &[&Row], others: &[&Row]) -> bool {
     for row in rows {
         if !has_id(others, &row.id()) {
             return false;
@@ -163,11 +210,27 @@ fn has_rows(rows: &[Row], others: &[Row]) -> bool {
     true
 }
 
-fn has_id(rows: &[Row], id: &Digest) -> bool {
+fn has_id(rows: &[&Row], id: &Digest) -> bool {
     for row in rows {
         if &row.id() == id {
             return true;
         }
     }
     false
+}
+
+// Adds references to rows.
+fn refer<'a>(all: &mut Vec<&'a Row>, rows: &'a [Row]) -> Result<(), AllocError> {
+    for row in rows {
+        all.push(row)?;
+    }
+    Ok(())
+}
+
+// These rows and those.
+fn both<'a>(alloc: Global, rows: &'a [Row], others: &'a [Row]) -> Result<Vec<&'a Row>, AllocError> {
+    let mut all = Vec::new(alloc);
+    refer(&mut all, rows)?;
+    refer(&mut all, others)?;
+    Ok(all)
 }

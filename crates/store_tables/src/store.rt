@@ -1,112 +1,91 @@
-//! A store of 64 shards, of which none is in hand between two calls.
+//! A store of 64 shards.
 ghost use Rattle.std.specs.Prelude.{◌<◌};
 
-use calculus::Digest;
-use row_search::Found;
 use rspace_table::{Held, Shard, SpaceTables};
 use shard_tables::ShardTables;
 use space_row::Row;
-use std::alloc::Global;
-use table_lines::LineFault;
+use std::alloc::{AllocError, Global};
+use std::mem;
 
-/// Shards by their numbers. A call for an operation takes those of its channels in hand, and then those that the rows there show.
+/// Shards, of which some are in hand and the others at their places, by their numbers.
 #[derive(Drop)]
 pub struct Store {
-    shards: Vec<Option<Shard>>,
+    pub held: Held,
+    places: Vec<Option<Shard>>,
 }
 
 impl Store {
-    pub fn new(alloc: Global) -> Result<Store, LineFault> {
-        let mut shards = Vec::new(alloc);
-        for shard in SpaceTables::shards(alloc, Vec::new(alloc))? {
-            shards.push(Some(shard))?;
-        }
-        Ok(Store { shards })
+    pub fn new(alloc: Global) -> Result<Store, AllocError> {
+        let places = places(alloc, SpaceTables::shards(alloc, Vec::new(alloc))?)?;
+        Ok(Store {
+            held: SpaceTables::hand(alloc)?,
+            places,
+        })
     }
 
-    /// What an operation meets.
-    pub fn first_step(&mut self, alloc: Global, op: &Row) -> Result<Option<Found>, LineFault> {
-        let mut held = self.show(alloc, op)?;
-        let found = SpaceTables::first_step(alloc, &held, op)?;
-        self.give_back(&mut held);
-        Ok(found)
-    }
-
-    /// Adds an operation.
-    pub fn put(&mut self, alloc: Global, op: &Row) -> Result<(), LineFault> {
-        let mut held = self.show(alloc, op)?;
-        SpaceTables::put(alloc, &mut held, op)?;
-        self.give_back(&mut held);
+    /// Takes the shards of an operation's channels in hand, and then those that the rows there show, and no others.
+    pub fn show(&mut self, alloc: Global, op: &Row) -> Result<(), AllocError> {
+        self.hold(0);
+        let own = SpaceTables::shards_of(alloc, &self.held, op)?;
+        self.hold(own);
+        let shown = SpaceTables::shards_of(alloc, &self.held, op)?;
+        self.hold(own | shown);
         Ok(())
     }
 
-    /// Takes the rows with these ids out of the shards that an operation is shown.
-    pub fn take_out(&mut self, alloc: Global, op: &Row, gone: &[Digest]) -> Result<(), LineFault> {
-        let mut held = self.show(alloc, op)?;
-        SpaceTables::take_out(&mut held, gone);
-        self.give_back(&mut held);
-        Ok(())
+    /// Takes its rows out.
+    pub fn take_rows(&mut self, alloc: Global) -> Result<Vec<Row>, AllocError> {
+        self.hold(0);
+        let places = mem::replace(&mut self.places, Vec::new(alloc));
+        SpaceTables::rows_of(alloc, present(alloc, places)?)
     }
 
-    /// Its rows.
-    pub fn into_rows(self, alloc: Global) -> Result<Vec<Row>, LineFault> {
-        let mut shards = Vec::new(alloc);
-        for shard in self.shards {
-            match shard {
-                Some(shard) => shards.push(shard)?,
-                None => return Err(LineFault::Field),
-            }
-        }
-        Ok(SpaceTables::rows_of(alloc, shards)?)
-    }
-
-    // The shards in hand that an operation is shown.
-    fn show(&mut self, alloc: Global, op: &Row) -> Result<Held, LineFault> {
-        let mut held = SpaceTables::hand(alloc)?;
-        let own = SpaceTables::shards_of(alloc, &held, op)?;
-        self.take(&mut held, own);
-        let shown = SpaceTables::shards_of(alloc, &held, op)?;
-        self.take(&mut held, shown);
-        Ok(held)
-    }
-
-    // Takes the shards of these bits in hand.
-    fn take(&mut self, held: &mut Held, bits: u64) {
+    // Has the shards of these bits in hand, and the others at their places.
+    fn hold(&mut self, bits: u64) {
         for number in 0..64u32 {
-            if (bits >> number) & 1 == 1 {
-                self.take_one(held, number);
-            }
+            self.hold_one(number, (bits >> number) & 1 == 1);
         }
     }
 
-    // Takes a shard in hand, unless it is there.
-    fn take_one(&mut self, held: &mut Held, number: u32)
+    // Has the shard of this number in hand, or at its place.
+    fn hold_one(&mut self, number: u32, in_hand: bool)
         requires { number < 64 }
     {
-        let Some(place) = self.shards.get_mut(number as usize) else {
+        let Some(place) = self.places.get_mut(number as usize) else {
             return;
         };
-        if let Some(shard) = place.take() {
-            SpaceTables::remove(held, number);
-            SpaceTables::add(held, number, shard);
+        if place.is_some() == in_hand {
+            exchange(place, &mut self.held, number);
         }
     }
+}
 
-    // Puts the shards in hand back to their places.
-    fn give_back(&mut self, held: &mut Held) {
-        for number in 0..64u32 {
-            self.give_one(held, number);
-        }
+// What is at a place and what is in hand of this number change sides.
+fn exchange(place: &mut Option<Shard>, held: &mut Held, number: u32)
+    requires { number < 64 }
+{
+    let shard = mem::replace(place, SpaceTables::remove(held, number));
+    if let Some(shard) = shard {
+        SpaceTables::add(held, number, shard);
     }
+}
 
-    fn give_one(&mut self, held: &mut Held, number: u32)
-        requires { number < 64 }
-    {
-        let Some(place) = self.shards.get_mut(number as usize) else {
-            return;
-        };
-        if let Some(shard) = SpaceTables::remove(held, number) {
-            *place = Some(shard);
+// A place for each value, in which it is.
+fn places<T: Drop>(alloc: Global, values: Vec<T>) -> Result<Vec<Option<T>>, AllocError> {
+    let mut places = Vec::new(alloc);
+    for value in values {
+        places.push(Some(value))?;
+    }
+    Ok(places)
+}
+
+// What is at places.
+fn present<T: Drop>(alloc: Global, places: Vec<Option<T>>) -> Result<Vec<T>, AllocError> {
+    let mut values = Vec::new(alloc);
+    for place in places {
+        if let Some(value) = place {
+            values.push(value)?;
         }
     }
+    Ok(values)
 }

@@ -1,10 +1,10 @@
 //! A plain walk through all rows that could meet: each receiver, with each choice of a send for each of its binds.
 use calculus::Digest;
-use rho_term::{Op, Term};
+use rho_term::Op;
 use row_meeting::meet_rows;
 use row_search::Found;
 use space_row::Row;
-use std::alloc::Global;
+use std::alloc::{AllocError, Global};
 use table_lines::LineFault;
 use term_encoder::encode_term;
 
@@ -21,7 +21,7 @@ pub fn meetings(alloc: Global, rows: &[&Row]) -> Result<Vec<Found>, LineFault> {
     Ok(all)
 }
 
-fn sends_of<'a>(alloc: Global, rows: &[&'a Row]) -> Result<Vec<&'a Row>, LineFault> {
+fn sends_of<'a>(alloc: Global, rows: &[&'a Row]) -> Result<Vec<&'a Row>, AllocError> {
     let mut sends = Vec::new(alloc);
     for row in rows {
         if binds_of(*row) == 0 {
@@ -50,27 +50,28 @@ fn add_meetings(
     if binds == 0 {
         return Ok(());
     }
-    for number in 0..choices(sends.len(), binds)? {
-        let chosen = choice(alloc, sends, binds, number)?;
-        if let Some(found) = meet_rows(alloc, receiver, chosen.as_slice())? {
-            if are_different(found.taken.as_slice()) {
-                all.push(found)?;
-            }
-        }
+    let choices = choices(sends.len(), binds);
+    if choices > MOST_CHOICES {
+        return Err(LineFault::Field);
+    }
+    for number in 0..choices {
+        add_meeting(
+            alloc,
+            all,
+            receiver,
+            choice(alloc, sends, binds, number)?.as_slice(),
+        )?;
     }
     Ok(())
 }
 
 // In how many ways as many sends may be chosen for as many binds.
-fn choices(sends: usize, binds: usize) -> Result<usize, LineFault> {
+fn choices(sends: usize, binds: usize) -> usize {
     let mut count = 1usize;
     for _ in 0..binds {
-        count = count.checked_mul(sends).ok_or(LineFault::Field)?;
-        if count > MOST_CHOICES {
-            return Err(LineFault::Field);
-        }
+        count = count.saturating_mul(sends);
     }
-    Ok(count)
+    count
 }
 
 // The choice of a send for each bind that has this number.
@@ -79,70 +80,87 @@ fn choice(
     sends: &[&Row],
     binds: usize,
     number: usize,
-) -> Result<Vec<Row>, LineFault> {
+) -> Result<Vec<Row>, AllocError> {
     let mut rest = number;
     let mut chosen = Vec::new(alloc);
     for _ in 0..binds {
         if sends.is_empty() {
             return Ok(chosen);
         }
-        chosen.push(sends[rest % sends.len()].copy(alloc)?)?;
+        keep(&mut chosen, sends[rest % sends.len()].copy(alloc)?)?;
         rest /= sends.len();
     }
     Ok(chosen)
 }
 
-/// Whether these ids differ from one another.
+// Adds what a receiver and these sends come to, where they differ and meet.
+fn add_meeting(
+    alloc: Global,
+    all: &mut Vec<Found>,
+    receiver: &Row,
+    sends: &[Row],
+) -> Result<(), AllocError> {
+    if let Some(found) = meet_rows(alloc, receiver, sends)? {
+        if are_different(found.taken.as_slice()) {
+            return keep(all, found);
+        }
+    }
+    Ok(())
+}
+
+fn keep<T: Drop>(all: &mut Vec<T>, value: T) -> Result<(), AllocError> {
+    all.push(value)?;
+    Ok(())
+}
+
+// Whether these ids differ from one another.
 fn are_different(ids: &[Digest]) -> bool {
     for i in 0..ids.len() {
-        if is_among(&ids[i], &ids[i + 1..]) {
+        if ids[i + 1..].contains(&ids[i]) {
             return false;
         }
     }
     true
 }
 
-/// Whether an id is one of these.
-pub fn is_among(id: &Digest, ids: &[Digest]) -> bool {
-    for other in ids {
-        if id == other {
-            return true;
-        }
-    }
-    false
+/// Whether these rows have no meeting.
+pub fn allows_nothing(alloc: Global, rows: &[&Row]) -> Result<bool, LineFault> {
+    Ok(meetings(alloc, rows)?.is_empty())
 }
 
-/// Whether a meeting has a row with this id.
-pub fn has_row(found: &Found, id: &Digest) -> bool {
-    &found.cont == id || is_among(id, found.taken.as_slice())
+/// Whether this is a meeting of these rows.
+pub fn allows(alloc: Global, rows: &[&Row], found: &Found) -> Result<bool, LineFault> {
+    let all = meetings(alloc, rows)?;
+    Ok(is_one_of(alloc, found, all.as_slice())?)
 }
 
-/// Whether one of these meetings is this one.
-pub fn is_one_of(alloc: Global, found: &Found, all: &[Found]) -> Result<bool, LineFault> {
+// Whether one of these meetings is this one.
+fn is_one_of(alloc: Global, found: &Found, all: &[Found]) -> Result<bool, AllocError> {
     for other in all {
-        if is_same(alloc, found, other)? {
+        if has_same_rows(found, other) && has_same_codes(alloc, found, other)? {
             return Ok(true);
         }
     }
     Ok(false)
 }
 
-// Whether two meetings have the same rows and come to the same.
-fn is_same(alloc: Global, one: &Found, other: &Found) -> Result<bool, LineFault> {
-    if one.cont != other.cont || one.taken != other.taken {
-        return Ok(false);
-    }
-    if one.gone != other.gone || one.lasting != other.lasting {
-        return Ok(false);
-    }
-    let bound = codes(alloc, one.bound.as_slice())? == codes(alloc, other.bound.as_slice())?;
-    Ok(bound && encode_term(alloc, &one.body)? == encode_term(alloc, &other.body)?)
+fn has_same_rows(one: &Found, other: &Found) -> bool {
+    one.cont == other.cont
+        && one.taken == other.taken
+        && one.gone == other.gone
+        && one.lasting == other.lasting
 }
 
-fn codes(alloc: Global, terms: &[Term]) -> Result<Vec<Vec<u8>>, LineFault> {
-    let mut codes = Vec::new(alloc);
-    for term in terms {
-        codes.push(encode_term(alloc, term)?)?;
+// Whether two meetings bind as many terms, with the same codes, in bodies with the same code.
+fn has_same_codes(alloc: Global, one: &Found, other: &Found) -> Result<bool, AllocError> {
+    Ok(one.bound.len() == other.bound.len() && codes(alloc, one)? == codes(alloc, other)?)
+}
+
+// The codes of the body of a meeting and of what it binds, each of which tells its end.
+fn codes(alloc: Global, found: &Found) -> Result<Vec<u8>, AllocError> {
+    let mut codes = encode_term(alloc, &found.body)?;
+    for term in found.bound.as_slice() {
+        codes.extend_from_slice(encode_term(alloc, term)?.as_slice())?;
     }
     Ok(codes)
 }

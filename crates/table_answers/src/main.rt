@@ -1,37 +1,77 @@
 //! Answers the lines of tables, and then tells what two workers at a gate and the examples came to. Each line of the input is a kind
-//! and its fields, and the output is the same line with the answer behind it.
+//! and its fields, and the output is the same line with the answer behind it. With the argument `times` a line about a hub also says how
+//! long it took.
 #![tactic(auto)]
 
 mod kinds;
 
+use anyhow::Context;
 use kinds::Table;
 use std::alloc::Global;
+use std::rt::{Clock, Env};
 use std::sync::Wait;
 use std::thread::Threads;
-use table_lines::{LineFault, answer_lines};
+use std::{env, io};
+use table_lines::{LineFault, print_answer, told};
 
 /// The answer to a line, by the table that has its kind.
-fn answer<R: Threads + Wait + Sync>(
+fn answer<R: Threads + Wait + Sync + Clock>(
     rt: &R,
     alloc: Global,
     word: &str,
     fields: &str,
+    timed: bool,
 ) -> Result<String, LineFault> {
     match Table::with(word).ok_or(LineFault::Kind)? {
-        Table::Runs => run_tables::answer(rt, alloc, word, fields),
-        Table::Calls => call_tables::answer(rt, alloc, word, fields),
-        Table::Races => race_tables::answer(rt, alloc, word, fields),
+        Table::Low => low_tables::answer(alloc, word, fields),
+        Table::Terms => tables::answer(alloc, word, fields),
+        Table::Stores => store_tables::answer(alloc, word, fields),
+        Table::Rigs => rig_tables::answer(alloc, word, fields),
+        Table::Hubs => hub_costs::answer(rt, alloc, word, fields, timed),
+        Table::Runs => call_tables::answer(rt, alloc, word, fields),
+        Table::Races => paired_runs::answer(rt, alloc, word, fields),
     }
 }
 
+fn wants_times<R: Env + AllocGlobal>(rt: &R) -> io::Result<bool> {
+    Ok(env::args(rt)?.skip(1).any(|word| word.as_str() == "times"))
+}
+
+/// Prints a line with its answer behind it. A line that is empty or begins with `#` is printed as it is.
+fn answer_line<R: Print + AllocGlobal + Threads + Wait + Sync + Clock>(
+    rt: &R,
+    line: &str,
+    timed: bool,
+) -> anyhow::Result<()> {
+    if line.is_empty() || line.starts_with('#') {
+        rt.println(line)?;
+        return Ok(());
+    }
+    let (kind, fields) = line.split_once(' ').unwrap_or((line, ""));
+    let answered = told(answer(rt, rt.alloc(), kind, fields, timed));
+    let text = answered.context(format_args!("{line}"))?;
+    print_answer(rt, line, text.as_str())?;
+    Ok(())
+}
+
+/// Answers each line of the input. The first that has no answer ends this with an error that names it.
+fn answer_lines<R: Input + Print + AllocGlobal + Threads + Wait + Sync + Clock>(
+    rt: &R,
+    timed: bool,
+) -> anyhow::Result<()> {
+    let text = io::read_to_string(rt.alloc(), rt.reader())?;
+    for line in text.lines() {
+        answer_line(rt, line, timed)?;
+    }
+    Ok(())
+}
+
 fn main(rt: HostRuntime) -> anyhow::Result<()> {
-    answer_lines(
-        &rt,
-        &|word: &str, fields: &str| answer(&rt, rt.alloc(), word, fields),
-    )?;
+    let timed = wants_times(&rt)?;
+    answer_lines(&rt, timed)?;
     let workers = gate_runs::told(&rt, rt.alloc())?;
     print!(rt; "{workers}")?;
-    let examples = example_runs::told(&rt, rt.alloc())?;
+    let examples = paired_runs::told(&rt, rt.alloc())?;
     print!(rt; "{examples}")?;
     Ok(())
 }

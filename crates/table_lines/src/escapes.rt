@@ -24,26 +24,41 @@ enum Escape {
 /// how many times follow.
 pub fn unescape(alloc: Global, text: &str) -> Result<Vec<u8>, LineFault> {
     let mut out = Vec::new(alloc);
+    match put_pieces(&mut out, text) {
+        Ok(()) => Ok(out),
+        Err(fault) => Err(fault),
+    }
+}
+
+fn put_pieces(out: &mut Vec<u8>, text: &str) -> Result<(), LineFault> {
     let mut pieces = text.split('⟦');
     if let Some(plain) = pieces.next() {
-        put_text(&mut out, plain, ONCE)?;
+        put_text(out, plain, ONCE)?;
     }
     for piece in pieces {
-        put_repeated(&mut out, piece)?;
+        put_repeated(out, piece)?;
     }
-    Ok(out)
+    Ok(())
 }
 
 fn put_repeated(out: &mut Vec<u8>, piece: &str) -> Result<(), LineFault> {
-    let (inner, after) = piece.split_once('⟧').ok_or(LineFault::Escape)?;
-    let (count, text) = inner.split_once('|').ok_or(LineFault::Escape)?;
-    let count = count.parse::<u32>()?;
+    let Some((inner, after)) = piece.split_once('⟧') else {
+        return Err(LineFault::Escape);
+    };
+    let Some((count, text)) = inner.split_once('|') else {
+        return Err(LineFault::Escape);
+    };
+    put_times(out, count.parse::<u32>()?, text)?;
+    put_text(out, after, ONCE)
+}
+
+fn put_times(out: &mut Vec<u8>, count: u32, text: &str) -> Result<(), LineFault> {
     for place in 0..count {
         let number = place + 1;
         let left = count - number;
         put_text(out, text, Turn { number, left })?;
     }
-    put_text(out, after, ONCE)
+    Ok(())
 }
 
 fn put_text(out: &mut Vec<u8>, text: &str, turn: Turn) -> Result<(), LineFault> {

@@ -8,5 +8,5 @@ mod lines;
 
 pub use escapes::unescape;
 pub use fault::LineFault;
-pub use fields::{digest, hex_bytes, number};
-pub use lines::answer_lines;
+pub use fields::{digest, first_field, hex_bytes, number};
+pub use lines::{print_answer, told};

@@ -1,57 +1,65 @@
 //! Codes of terms.
+use crate::offers;
 use crate::texts::printed;
+use rho_term::Term;
 use std::alloc::Global;
 use table_lines::{LineFault, hex_bytes};
 use term_code::{CodeFault, decode_term};
 use term_encoder::encode_term;
 
-#[derive(Clone, Copy)]
-pub enum CodeKind {
-    Again,
-    Height,
-    Cuts,
-    Print,
-}
-
-impl CodeKind {
-    pub fn named(word: &str) -> Option<CodeKind> {
-        Some(match word {
-            "code-again" => CodeKind::Again,
-            "height-of-code" => CodeKind::Height,
-            "cuts-of-code" => CodeKind::Cuts,
-            "print-code" => CodeKind::Print,
-            _ => return None,
-        })
-    }
-}
-
 /// An answer about the bytes that digits spell, or why they are no code.
-pub fn answer(alloc: Global, kind: CodeKind, digits: &str) -> Result<String, LineFault> {
-    let bytes = hex_bytes(alloc, digits)?;
-    let code = bytes.as_slice();
-    if matches!(kind, CodeKind::Cuts) {
-        return cuts(alloc, code);
+pub fn answer(alloc: Global, word: &str, fields: &str) -> Result<String, LineFault> {
+    match word {
+        "code-again" => again(alloc, fields),
+        "height-of-code" => height(alloc, fields),
+        "cuts-of-code" => cuts(alloc, fields),
+        "print-code" => print(alloc, fields),
+        _ => offers::answer(alloc, word, fields),
     }
-    let term = match decode_term(alloc, code) {
-        Ok(term) => term,
-        Err(fault) => return Ok(format!(in alloc; "{fault:?}")?),
+}
+
+fn decoded(alloc: Global, code: &[u8]) -> Result<Term, LineFault> {
+    match decode_term(alloc, code) {
+        Ok(term) => Ok(term),
+        Err(fault) => Err(LineFault::Refused(format!(in alloc; "{fault:?}")?)),
+    }
+}
+
+/// Whether a term has the code that it was read from.
+fn again(alloc: Global, digits: &str) -> Result<String, LineFault> {
+    let code = hex_bytes(alloc, digits)?;
+    let term = decoded(alloc, code.as_slice())?;
+    let again = encode_term(alloc, &term)?;
+    let told = if again.as_slice() == code.as_slice() {
+        "given back"
+    } else {
+        "other bytes"
     };
-    match kind {
-        CodeKind::Print => printed(alloc, &term),
-        CodeKind::Height => Ok(format!(in alloc; "{}", term.height())?),
-        _ if encode_term(alloc, &term)?.as_slice() == code => {
-            Ok(String::from_str(alloc, "given back")?)
-        }
-        _ => Ok(String::from_str(alloc, "other bytes")?),
-    }
+    Ok(String::from_str(alloc, told)?)
+}
+
+fn height(alloc: Global, digits: &str) -> Result<String, LineFault> {
+    let code = hex_bytes(alloc, digits)?;
+    let height = decoded(alloc, code.as_slice())?.height();
+    Ok(format!(in alloc; "{height}")?)
+}
+
+fn print(alloc: Global, digits: &str) -> Result<String, LineFault> {
+    let code = hex_bytes(alloc, digits)?;
+    printed(alloc, &decoded(alloc, code.as_slice())?)
 }
 
 /// Whether all bytes that a code begins with are short at their end.
-fn cuts(alloc: Global, code: &[u8]) -> Result<String, LineFault> {
+fn cuts(alloc: Global, digits: &str) -> Result<String, LineFault> {
+    let code = hex_bytes(alloc, digits)?;
     for at in 0..code.len() {
-        if decode_term(alloc, &code[..at]).err() != Some(CodeFault::Short { at }) {
+        if !is_short(alloc, &code.as_slice()[..at]) {
             return Ok(format!(in alloc; "not short at {at}")?);
         }
     }
     Ok(String::from_str(alloc, "short")?)
+}
+
+fn is_short(alloc: Global, code: &[u8]) -> bool {
+    decode_term(alloc, code).err() == Some(CodeFault::Short { at: code.len() })
 }

@@ -11,13 +11,22 @@ use price_table::Prices;
 use rho_eval::{EvalStop, Priced};
 use rho_term::{Op, Part, Term};
 use std::alloc::Global;
-use table_lines::{LineFault, number, unescape};
+use table_lines::{LineFault, first_field, number, unescape};
 use term_encoder::{encode_part, encode_term};
 use unfold::{unfold, unfold_body};
 
+/// The answer to a line of this kind with these fields.
+pub fn answer(alloc: Global, word: &str, fields: &str) -> Result<String, LineFault> {
+    match word {
+        "unfold" => offers(alloc, fields),
+        "unfold-body" => body_offers(alloc, fields),
+        _ => Err(LineFault::Kind),
+    }
+}
+
 /// The price of what a source offers to the empty state under the standard prices, and the codes of its rows; or its
 /// first fault.
-pub fn offers(alloc: Global, source: &str) -> Result<String, LineFault> {
+fn offers(alloc: Global, source: &str) -> Result<String, LineFault> {
     let seed = start_seed(alloc, source)?;
     let term = read_term(alloc, source)?;
     told(
@@ -28,13 +37,14 @@ pub fn offers(alloc: Global, source: &str) -> Result<String, LineFault> {
 
 /// The same of the body of a receive with values in place of its variables, under a cap. The seed is that of the
 /// receive's source. The fields are the cap, and the sources of the receive and of the values with ` <=> ` between them.
-pub fn body_offers(alloc: Global, fields: &str) -> Result<String, LineFault> {
-    let (cap, sources) = fields.split_once(' ').ok_or(LineFault::Field)?;
+fn body_offers(alloc: Global, fields: &str) -> Result<String, LineFault> {
+    let (cap, sources) = first_field(fields)?;
     let (receive, values) = sources.split_once(" <=> ").ok_or(LineFault::Field)?;
+    let cap = number(cap)?;
     let seed = start_seed(alloc, receive)?;
     let receive = read_term(alloc, receive)?;
     let values = read_values(alloc, values)?;
-    receive_offers(alloc, &receive, values.as_slice(), &seed, number(cap)?)
+    receive_offers(alloc, &receive, values.as_slice(), &seed, cap)
 }
 
 // The seed of a source from the empty state.
@@ -43,8 +53,8 @@ fn start_seed(alloc: Global, source: &str) -> Result<Seed, LineFault> {
     Ok(Seed::start(&Digest([0; 32]), &digest))
 }
 
-// The terms of sources with ` <=> ` between them.
-fn read_values(alloc: Global, sources: &str) -> Result<Vec<Term>, LineFault>
+/// The terms of sources with ` <=> ` between them.
+pub fn read_values(alloc: Global, sources: &str) -> Result<Vec<Term>, LineFault>
     ensures { IfOk result (λ v. All IsClosed v.items) }
 {
     let mut values = Vec::new(alloc);
@@ -100,19 +110,24 @@ fn part_offers(
 // A price and the codes of rows, or the first fault.
 fn told(alloc: Global, done: Result<Priced<Vec<Op>>, EvalStop>) -> Result<String, LineFault> {
     match done {
-        Ok(done) => {
-            let price = done.price;
-            let mut told = format!(in alloc; "price {price}")?;
-            for op in done.value {
-                push_row(alloc, &mut told, op)?;
-            }
-            Ok(told)
-        }
-        Err(EvalStop::Fault { kind, price }) => {
-            Ok(format!(in alloc; "Fault {{ kind: {kind:?}, price: {price} }}")?)
-        }
+        Ok(done) => told_rows(alloc, done),
         Err(stop) => Ok(format!(in alloc; "{stop:?}")?),
     }
+}
+
+fn told_rows(alloc: Global, done: Priced<Vec<Op>>) -> Result<String, LineFault> {
+    let mut told = format!(in alloc; "price {}", done.price)?;
+    match push_rows(alloc, &mut told, done.value) {
+        Ok(()) => Ok(told),
+        Err(fault) => Err(fault),
+    }
+}
+
+fn push_rows(alloc: Global, told: &mut String, rows: Vec<Op>) -> Result<(), LineFault> {
+    for row in rows {
+        push_row(alloc, told, row)?;
+    }
+    Ok(())
 }
 
 fn push_hex(alloc: Global, told: &mut String, bytes: &[u8]) -> Result<(), LineFault> {
@@ -120,42 +135,51 @@ fn push_hex(alloc: Global, told: &mut String, bytes: &[u8]) -> Result<(), LineFa
     Ok(())
 }
 
-fn push_row(alloc: Global, told: &mut String, op: Op) -> Result<(), LineFault> {
-    match op {
+fn push_row(alloc: Global, told: &mut String, row: Op) -> Result<(), LineFault> {
+    match row {
         Op::Produce {
             id,
             channel,
             args,
             persistent,
-        } => {
-            told.push_str(" 01")?;
-            push_hex(alloc, told, id.0.as_slice())?;
-            push_send(alloc, told, &channel, args.as_slice(), persistent)
-        }
+        } => push_send(alloc, told, &id, &channel, args.as_slice(), persistent),
         Op::Consume {
             id,
             kind,
             binds,
             body,
         } => {
-            told.push_str(" 02")?;
-            push_hex(alloc, told, id.0.as_slice())?;
             let code = encode_part(alloc, &Part::Receive { kind, binds, body })?;
-            match code.as_slice().split_first() {
-                Some((_, rest)) => push_hex(alloc, told, rest),
-                None => Err(LineFault::Field),
-            }
+            push_receive(alloc, told, &id, code.as_slice())
         }
+    }
+}
+
+// The id of a receive, and its code without the tag.
+fn push_receive(
+    alloc: Global,
+    told: &mut String,
+    id: &Digest,
+    code: &[u8],
+) -> Result<(), LineFault> {
+    told.push_str(" 02")?;
+    push_hex(alloc, told, id.0.as_slice())?;
+    match code.split_first() {
+        Some((_, rest)) => push_hex(alloc, told, rest),
+        None => Err(LineFault::Field),
     }
 }
 
 fn push_send(
     alloc: Global,
     told: &mut String,
+    id: &Digest,
     channel: &Term,
     args: &[Term],
     persistent: bool,
 ) -> Result<(), LineFault> {
+    told.push_str(" 01")?;
+    push_hex(alloc, told, id.0.as_slice())?;
     push_hex(alloc, told, encode_term(alloc, channel)?.as_slice())?;
     told.push_str(if persistent { "01" } else { "00" })?;
     let count = (args.len() as u64).to_be_bytes();

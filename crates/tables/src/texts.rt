@@ -2,7 +2,8 @@
 ghost use Rattle.std.specs.Prelude.{IfOk};
 ghost use Rattle.calculus.specs.Form.{IsClosed};
 
-use crate::offers::{body_offers, offers};
+use crate::offers::read_values;
+use crate::values;
 use rho_printer::print_term;
 use rho_term::{Part, Term};
 use sources::{SourceFault, read_source};
@@ -13,50 +14,18 @@ use term_encoder::{code_len, encode_term, group_key, shard_of};
 use term_order::cmp_terms;
 use term_sort::{put_size, substitute};
 
-#[derive(Clone, Copy)]
-pub enum TextKind {
-    Code,
-    Read,
-    Height,
-    Parts,
-    Order,
-    Shard,
-    GroupKey,
-    Put,
-    Offers,
-    BodyOffers,
-}
-
-impl TextKind {
-    pub fn named(word: &str) -> Option<TextKind> {
-        Some(match word {
-            "code" => TextKind::Code,
-            "read" => TextKind::Read,
-            "height" => TextKind::Height,
-            "parts" => TextKind::Parts,
-            "order" => TextKind::Order,
-            "shard" => TextKind::Shard,
-            "group-key" => TextKind::GroupKey,
-            "put" => TextKind::Put,
-            "unfold" => TextKind::Offers,
-            "unfold-body" => TextKind::BodyOffers,
-            _ => return None,
-        })
-    }
-}
-
-pub fn answer(alloc: Global, kind: TextKind, fields: &str) -> Result<String, LineFault> {
-    match kind {
-        TextKind::Code => code(alloc, fields),
-        TextKind::Read => read(alloc, fields),
-        TextKind::Height => height(alloc, fields),
-        TextKind::Parts => parts(alloc, fields),
-        TextKind::Order => order(alloc, fields),
-        TextKind::Shard => shard(alloc, fields),
-        TextKind::GroupKey => key(alloc, fields),
-        TextKind::Put => put(alloc, fields),
-        TextKind::Offers => offers(alloc, fields),
-        TextKind::BodyOffers => body_offers(alloc, fields),
+/// The answer to a line of this kind with these fields, of this file or of those that follow.
+pub fn answer(alloc: Global, word: &str, fields: &str) -> Result<String, LineFault> {
+    match word {
+        "code" => code(alloc, fields),
+        "read" => read(alloc, fields),
+        "height" => height(alloc, fields),
+        "parts" => parts(alloc, fields),
+        "order" => order(alloc, fields),
+        "shard" => shard(alloc, fields),
+        "group-key" => key(alloc, fields),
+        "put" => put(alloc, fields),
+        _ => values::answer(alloc, word, fields),
     }
 }
 
@@ -69,14 +38,29 @@ fn refusal(alloc: Global, fault: &SourceFault) -> Result<String, AllocError> {
     }
 }
 
+// Why a source is refused, which is told in the answer's place.
+fn refused(alloc: Global, fault: SourceFault) -> LineFault {
+    match refusal(alloc, &fault) {
+        Ok(told) => LineFault::Refused(told),
+        Err(_) => LineFault::NoMemory,
+    }
+}
+
+/// The term of a source.
+pub fn read_bytes(alloc: Global, source: &[u8]) -> Result<Term, LineFault>
+    ensures { IfOk result IsClosed }
+{
+    match read_source(alloc, source) {
+        Ok(term) => Ok(term),
+        Err(fault) => Err(refused(alloc, fault)),
+    }
+}
+
 /// The term of a source with escapes.
 pub fn read_term(alloc: Global, source: &str) -> Result<Term, LineFault>
     ensures { IfOk result IsClosed }
 {
-    match read_source(alloc, unescape(alloc, source)?.as_slice()) {
-        Ok(term) => Ok(term),
-        Err(fault) => Err(LineFault::Refused(refusal(alloc, &fault)?)),
-    }
+    read_bytes(alloc, unescape(alloc, source)?.as_slice())
 }
 
 /// The printed text of a term.
@@ -98,11 +82,12 @@ fn code(alloc: Global, source: &str) -> Result<String, LineFault> {
 
 /// Whether a text is a source, whose names may break a rule of scope.
 fn read(alloc: Global, source: &str) -> Result<String, LineFault> {
-    let told = match read_source(alloc, unescape(alloc, source)?.as_slice()) {
+    let text = unescape(alloc, source)?;
+    let answer = Box::new(alloc, read_source(alloc, text.as_slice()))?;
+    Ok(match &*answer {
         Ok(_) | Err(SourceFault::Scope(_)) => String::from_str(alloc, "read")?,
-        Err(fault) => refusal(alloc, &fault)?,
-    };
-    Ok(told)
+        Err(fault) => refusal(alloc, fault)?,
+    })
 }
 
 fn height(alloc: Global, source: &str) -> Result<String, LineFault> {
@@ -140,12 +125,9 @@ fn key(alloc: Global, source: &str) -> Result<String, LineFault> {
 
 /// The code of the body of a receive with values in place of its variables.
 fn put(alloc: Global, sources: &str) -> Result<String, LineFault> {
-    let mut sources = sources.split(" <=> ");
-    let receive = read_term(alloc, sources.next().ok_or(LineFault::Field)?)?;
-    let mut values = Vec::new(alloc);
-    for source in sources {
-        values.push(read_term(alloc, source)?)?;
-    }
+    let (receive, values) = sources.split_once(" <=> ").ok_or(LineFault::Field)?;
+    let receive = read_term(alloc, receive)?;
+    let values = read_values(alloc, values)?;
     put_into(alloc, receive.parts(), values.as_slice())
 }
 

@@ -5,7 +5,7 @@ use Rattle.std.proofs.lemmas.Nat.{le_or_l}
 use Rattle.std.proofs.lemmas.Nat.Bits.{bit_at_above}
 use Rattle.group_locks.specs.Seats.{held_by}
 use Rattle.play_hub.specs.declared.entry.PlayEntry.{PlayEntry}
-use Rattle.play_worker.specs.Turns.{HandCarries}
+use Rattle.play_draws.specs.Turns.{HandCarries}
 use Rattle.play_worker.proofs.Groups.{shown-held}
 use Rattle.play_worker.proofs.group.take_shown.Goals as goal
 

@@ -1,6 +1,6 @@
 use Rattle.std.proofs.Common.{◌≡◌, ◌-◌, ◌^◌, ℕ, [], None}
 use Rattle.group_locks.specs.Seats.{held_by}
-use Rattle.play_worker.specs.Turns.{IsSame}
+use Rattle.play_draws.specs.Turns.{IsSame}
 use Rattle.play_worker.proofs.group.take_shown.Given as goal
 
 abbrev pub invariant-loop-shown : goal.invariant-loop-shown

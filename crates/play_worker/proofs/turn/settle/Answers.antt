@@ -3,8 +3,8 @@ use Rattle.sent_rows.proofs.Crossing.{row-send, row-sync}
 use Rattle.std.proofs.Common.{◌∙◌, sym, ap, subst, length, drop, Option, ℕ}
 use Rattle.std.specs.List.{slice_get}
 use Rattle.group_locks.specs.Seats.{drawn_by}
-use Rattle.play_worker.specs.Making.{IsAgain}
-use Rattle.play_worker.proofs.Numbers.{last-at}
+use Rattle.play_draws.specs.Making.{IsAgain}
+use Rattle.play_draws.proofs.Numbers.{last-at}
 use Rattle.play_worker.proofs.Seats.{stays-on}
 use Rattle.play_worker.proofs.turn.settle.Goals as goal
 

@@ -2,7 +2,7 @@ use denote.Param.Send.{sendable}
 use Rattle.sent_rows.proofs.Crossing.{row-send, row-sync}
 use Rattle.std.proofs.Common.{ℕ, List, drop, length, subst, sym}
 use Rattle.play_hub.specs.declared.entry.PlayEntry.{PlayEntry}
-use Rattle.play_worker.specs.Making.{IsAgain}
+use Rattle.play_draws.specs.Making.{IsAgain}
 use Rattle.play_worker.proofs.worker.work_on.Goals as goal
 
 pub drawn-from-requires-send-S-Work : goal.drawn-from-requires-send-S-Work

@@ -1,7 +1,7 @@
 use Rattle.std.proofs.Common.{◌≡◌, ℕ, [], drop, None}
 use Rattle.group_locks.specs.Seats.{drawn_by, due_of, AtRest, HasLeave, HasRoom}
-use Rattle.play_worker.specs.Making.{IsAgain}
-use Rattle.play_worker.specs.Turns.{HasWork}
+use Rattle.play_draws.specs.Making.{IsAgain}
+use Rattle.play_draws.specs.Turns.{HasWork}
 use Rattle.play_worker.proofs.worker.work_on.Given as goal
 
 abbrev pub invariant-loop : goal.invariant-loop

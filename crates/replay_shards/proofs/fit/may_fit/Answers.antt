@@ -13,6 +13,6 @@ returns c before s after rig place e =
     let shown = all_shown (parts_of c.args.slots.now) in
     let full : has_full s shown ≡ false = ap (λ (z : Step). has_full z shown) e ∙ sym c.has_full_row.ensures ∙ c.if-has_full_row.false in
     let apart : differ s.data_ids ≡ true = ap (λ (z : Step). differ z.data_ids) e ∙ ap (λ (l : List Digest). differ (bytes_of l)) (sym c.as_slice.ensures.value) ∙ sym c.are_different.ensures ∙ c.if-not-are_different.false in
-    let repeats = c.repeat_of.ensures (before ++ s ∷ after) before s after rig refl place in
+    let repeats = c.is_repeat.ensures (before ++ s ∷ after) before s after rig refl place in
     let last : Bool = eqb s.repeat (count_by (same_meeting s) before) in
-    ap (eqb c.args.wanted.now.repeat) repeats ∙ ap (λ (z : Step). eqb z.repeat (count_by (same_meeting s) before)) (sym e) ∙ sym (ap (λ b. not b && (differ s.data_ids && last)) full ∙ ap (λ b. b && last) apart)
+    repeats ∙ ap (λ (z : Step). eqb z.repeat (count_by (same_meeting s) before)) (sym e) ∙ sym (ap (λ b. not b && (differ s.data_ids && last)) full ∙ ap (λ b. b && last) apart)

@@ -14,5 +14,5 @@ returns-clause-key c = λ all done h a. c.in_ok-key.ensures.key all done h (c.in
 pub returns-clause-finds : goal.returns-clause-finds
 returns-clause-finds c = λ all done next h a f.
     let low = subst (λ (x : List ℕ). IsBelowFirst x (seconds (pairs_left c.pass_below.new.self.left))) c.as_slice.ensures.value c.in_ok-pass_below.ensures.least in
-    c.in_ok-key.ensures.finds all done next h (c.in_ok-pass_below.ensures.agrees all done a) low
+    c.in_ok-key.ensures.finds low all done next h (c.in_ok-pass_below.ensures.agrees all done a)
     (c.in_ok-pass_below.ensures.finds all done (pair_of (row_of c.args.coded.now) ∷ next) (stands-at _ (row_of c.args.coded.now) next (c.as_slice.ensures.value ∙ h) f.next) f)

@@ -20,13 +20,13 @@ returns-clause-agrees c = λ all done h a.
     add-agrees c.args.self.now all done c.add.new.self (row_of c.args.coded.now) (subst (Has c.add.new.self) c.in_ok-key.ensures c.in_ok-add.ensures.here) c.in_ok-add.ensures.others c.in_ok-add.ensures.bare a
 
 pub returns-then-is_next-clause-finds : goal.returns-then-is_next-clause-finds
-returns-then-is_next-clause-finds c = λ all done next h a low f.
+returns-then-is_next-clause-finds c = λ low all done next h a f.
     let r = row_of c.args.coded.now in
     match-finds c.args.self.now all done c.pass.new.self (pair_of r) next
     (match-first c.args.self.now all done c.pass.new.self r c.pass.result.0 _ c.pass.ensures.pairs (c.is_next.ensures.code c.if-is_next.true ∙ c.as_slice.ensures.value ∙ h) c.known_storable.ensures a) f
 
 pub returns-clause-finds : goal.returns-clause-finds
-returns-clause-finds c = λ all done next h a low f.
+returns-clause-finds c = λ low all done next h a f.
     let r = row_of c.args.coded.now in
     let ps = pairs_left c.args.self.now.left in
     let none = new-none _ ps (subst (λ (x : List ℕ). IsBelowFirst x (seconds ps)) (sym c.as_slice.ensures.value) low) f.left (c.is_next.ensures.other c.if-is_next.false) in

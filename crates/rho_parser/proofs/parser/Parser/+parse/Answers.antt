@@ -73,20 +73,25 @@ binds_tail-returns-in_err-whole t c = record { reads = exit of_proc _ _ c.from_r
 pub binds_tail-returns-then-sees_bind : goal.binds_tail-returns-then-sees_bind
 binds_tail-returns-then-sees_bind t c = record { reads = let b : sees_bind (separator_of c.args.separator) c.args.more (view c.args.self.now.cursor.rest.now) ≡ true = sym c.sees_bind.ensures.is ∙ c.if-sees_bind.true in binds_on _ _ _ _ _ b (runs_sign c.in_ok-expect_separator.ensures.reads (runs_last (c.in_ok-left.ensures.reads _ _ _ (λ l. next_channel c.args.kind (separator_of c.args.separator) (c.args.more - 1) (map bind_written c.args.binds.value.items) c.args.binds.height (of_left l)) (mark_as _ _ _ _ (λ l. next_channel c.args.kind (separator_of c.args.separator) (c.args.more - 1) (map bind_written c.args.binds.value.items) c.args.binds.height (of_left l)) _ _ _ c.arrow_mark.ensures (under_read _ _ _ of_left (λ l. sign (arrow_mark c.args.kind) (next_channel c.args.kind (separator_of c.args.separator) (c.args.more - 1) (map bind_written c.args.binds.value.items) c.args.binds.height l)) _ c.left-pats.ensures.reads)) _ (c.in_ok-all.ensures.reads _ _ _ _ (λ bs k. last (Sort.BindsTail c.args.kind (separator_of c.args.separator) (c.args.more - 1) (map bind_written bs) k)) (appended _ _ _ _ bind_written (λ bs k. last (Sort.BindsTail c.args.kind (separator_of c.args.separator) (c.args.more - 1) bs k)) c.args.binds.value.items c.args.binds.height _ (c.bound-bind.ensures.reads _ _ _ _ (λ v. last (Sort.BindsTail c.args.kind (separator_of c.args.separator) (c.args.more - 1) ((map bind_written c.args.binds.value.items) ++ (v.tree ∷ [])) (max c.args.binds.height v.height))) (under_read _ _ _ of_name (λ n. last (Sort.BindsTail c.args.kind (separator_of c.args.separator) (c.args.more - 1) ((map bind_written c.args.binds.value.items) ++ ((bind_of (of_left c.in_ok-left.left) n).tree ∷ [])) (max c.args.binds.height (bind_of (of_left c.in_ok-left.left) n).height))) _ c.name.ensures.reads))) _ (runs_last c.binds_tail.ensures.reads))))); room = c.binds_tail.ensures.room; shorter = omega (arith, c.in_ok-expect_separator.ensures.shorter, c.left-pats.ensures.shorter, c.in_ok-left.ensures.shorter, c.name.ensures.shorter, c.binds_tail.ensures.shorter) }
 
-pub block-loop-self-init : goal.block-loop-self-init
-block-loop-self-init t c = record { turns = λ out h. let x0 : sees Colon (view c.args.self.now.cursor.rest.now) ≡ true = sym c.skip.ensures.is ∙ c.if-not-skip.false in rw x0 (runs_sign (c.skip.ensures.takes c.if-not-skip.false) (c.in_ok-pairs.ensures.reads _ _ _ _ (λ ps k. last (Sort.Pairs (pairs_written ps) k)) (c.paired-pair.ensures.reads _ _ _ _ (λ q k. last (Sort.Pairs (pairs_written (q ∷ [])) k)) (under_read _ _ _ of_proc (λ v. last (Sort.Pairs (pair_of (proc_written c.args.inner.value, v.tree) ∷ []) (max c.args.inner.height v.height))) _ c.par.ensures.reads)) out h)); room = omega (arith, c.in_ok-pairs.ensures.room (c.args.free - 1) (c.paired-pair.ensures.room (c.args.free - 1) (omega (arith, c.requires)) c.par.ensures.room), c.requires); shorter = omega (arith, c.skip.ensures.shorter, c.par.ensures.shorter) }
+pub block-each-init : goal.block-each-init
+block-each-init t c = record { turns = λ out h. let x0 : sees Colon (view c.args.self.now.cursor.rest.now) ≡ true = sym c.skip.ensures.is ∙ c.if-not-skip.false in rw x0 (runs_sign (c.skip.ensures.takes c.if-not-skip.false) (c.in_ok-pairs.ensures.reads _ _ _ _ (λ ps k. last (Sort.Pairs (pairs_written ps) k)) (c.paired-pair.ensures.reads _ _ _ _ (λ q k. last (Sort.Pairs (pairs_written (q ∷ [])) k)) (under_read _ _ _ of_proc (λ v. last (Sort.Pairs (pair_of (proc_written c.args.inner.value, v.tree) ∷ []) (max c.args.inner.height v.height))) _ c.par.ensures.reads)) out h)); room = omega (arith, c.in_ok-pairs.ensures.room (c.args.free - 1) (c.paired-pair.ensures.room (c.args.free - 1) (omega (arith, c.requires)) c.par.ensures.room), c.requires); shorter = omega (arith, c.skip.ensures.less c.if-not-skip.false, c.par.ensures.shorter) }
 
-pub block-loop-self-preserved : goal.block-loop-self-preserved
-block-loop-self-preserved t c = record { turns = λ out h. c.loop-self.invariant.turns _ (runs_last (let b : sees Comma (view c.loop-self.self.cursor.rest.now) ≡ true = sym c.sees.ensures ∙ c.loop-self-test.true in rw b (c.in_ok-pairs-2.ensures.reads out h))); room = c.in_ok-pairs-2.ensures.room; shorter = omega (arith, c.loop-self.invariant.shorter, c.in_ok-pairs-2.ensures.shorter) }
+pub block-each-preserved : goal.block-each-preserved
+block-each-preserved t c =
+    let k = if_read (λ p. p.height ≤ c.args.free - 1) _ c.in_ok-key.ensures.same c.par-found.ensures.room in
+    record { turns = λ out h. c.each.invariant.turns _ (runs_last (let b : sees Comma (view c.each.self.cursor.rest.now) ≡ true = sym c.skip-in-each.ensures.is ∙ c.each-test.true in rw b (runs_sign (c.skip-in-each.ensures.takes c.each-test.true) (c.in_ok-key.ensures.reads _ _ _ (λ k. pair_value processes Sort.Pairs (pairs_written c.each.pairs.value.items) c.each.pairs.height (of_proc k)) (under_read _ _ _ of_proc (λ k. sign Colon (pair_value processes Sort.Pairs (pairs_written c.each.pairs.value.items) c.each.pairs.height k)) _ c.par-found.ensures.reads) _ (c.in_ok-pairs-2.ensures.reads _ _ _ _ (λ ps k. last (Sort.Pairs (pairs_written ps) k)) (c.paired-next.ensures.reads _ _ _ _ (λ q k. last (Sort.Pairs (pairs_written (c.each.pairs.value.items ++ (q ∷ []))) (max c.each.pairs.height k))) (pair_grown _ _ _ proc_written pairs_written (λ ps k. last (Sort.Pairs ps k)) c.each.pairs.value.items c.each.pairs.height c.in_ok-key.key _ (λ v. pairs_pushed c.each.pairs.value.items (c.in_ok-key.key.value, v) c.in_ok-key.key.value v refl) c.par-value.ensures.reads)) out h))))); room = omega (arith, c.each.invariant.room, c.in_ok-pairs-2.ensures.room (c.args.free - 1) (omega (arith, c.each.invariant.room)) (c.paired-next.ensures.room (c.args.free - 1) k c.par-value.ensures.room)); shorter = omega (arith, c.each.invariant.shorter, c.skip-in-each.ensures.shorter, c.par-found.ensures.shorter, c.in_ok-key.ensures.shorter, c.par-value.ensures.shorter) }
 
 pub block-returns : goal.block-returns
-block-returns t c = record { reads = c.loop-self.invariant.turns _ (runs_last (let b : sees Comma (view c.loop-self.self.cursor.rest.now) ≡ false = sym c.sees.ensures ∙ c.loop-self-test.false in rw b (c.map_close.ensures.reads _))); room = fits _ c.map_close.ensures.height (omega (arith, c.loop-self.invariant.room)); shorter = omega (arith, c.loop-self.invariant.shorter, c.map_close.ensures.shorter) }
+block-returns t c = record { reads = c.each.invariant.turns _ (runs_last (let b : sees Comma (view c.each.self.cursor.rest.now) ≡ false = sym c.skip-in-each.ensures.is ∙ c.each-test.false in rw b (unmoved (c.skip-in-each.ensures.stays c.each-test.false) (c.map_close.ensures.reads _)))); room = fits _ c.map_close.ensures.height (omega (arith, c.each.invariant.room)); shorter = omega (arith, c.each.invariant.shorter, c.skip-in-each.ensures.shorter, c.map_close.ensures.shorter) }
+
+pub block-returns-in_err-key : goal.block-returns-in_err-key
+block-returns-in_err-key t c = record { reads = exit of_proc _ _ c.from_residual-in_err-key.ensures.1 (c.each.invariant.turns _ (runs_last (let b : sees Comma (view c.each.self.cursor.rest.now) ≡ true = sym c.skip-in-each.ensures.is ∙ c.each-test.true in rw b (runs_sign (c.skip-in-each.ensures.takes c.each-test.true) (c.in_err-key.ensures.reads _ _ _ (λ k. pair_value processes Sort.Pairs (pairs_written c.each.pairs.value.items) c.each.pairs.height (of_proc k)) (under_read _ _ _ of_proc (λ k. sign Colon (pair_value processes Sort.Pairs (pairs_written c.each.pairs.value.items) c.each.pairs.height k)) _ c.par-found.ensures.reads)))))); room = none_left c.args.free _ _ c.from_residual-in_err-key.ensures.1; shorter = omega (arith, c.each.invariant.shorter, c.skip-in-each.ensures.shorter, c.par-found.ensures.shorter, c.in_err-key.ensures.shorter) }
 
 pub block-returns-in_err-pairs : goal.block-returns-in_err-pairs
 block-returns-in_err-pairs t c = record { reads = exit of_proc _ _ c.from_residual.ensures.1 (let x0 : sees Colon (view c.args.self.now.cursor.rest.now) ≡ true = sym c.skip.ensures.is ∙ c.if-not-skip.false in rw x0 (runs_sign (c.skip.ensures.takes c.if-not-skip.false) (c.in_err-pairs.ensures.reads _ _ _ _ (λ ps k. last (Sort.Pairs (pairs_written ps) k)) (c.paired-pair.ensures.reads _ _ _ _ (λ q k. last (Sort.Pairs (pairs_written (q ∷ [])) k)) (under_read _ _ _ of_proc (λ v. last (Sort.Pairs (pair_of (proc_written c.args.inner.value, v.tree) ∷ []) (max c.args.inner.height v.height))) _ c.par.ensures.reads))))); room = none_left c.args.free _ _ c.from_residual.ensures.1; shorter = omega (arith, c.skip.ensures.shorter, c.par.ensures.shorter) }
 
 pub block-returns-in_err-pairs-2 : goal.block-returns-in_err-pairs-2
-block-returns-in_err-pairs-2 t c = record { reads = exit of_proc _ _ c.from_residual-in_err-pairs-2.ensures.1 (c.loop-self.invariant.turns _ (runs_last (let b : sees Comma (view c.loop-self.self.cursor.rest.now) ≡ true = sym c.sees.ensures ∙ c.loop-self-test.true in rw b (c.in_err-pairs-2.ensures.reads)))); room = none_left c.args.free _ _ c.from_residual-in_err-pairs-2.ensures.1; shorter = omega (arith, c.loop-self.invariant.shorter, c.in_err-pairs-2.ensures.shorter) }
+block-returns-in_err-pairs-2 t c = record { reads = exit of_proc _ _ c.from_residual-in_err-pairs-2.ensures.1 (c.each.invariant.turns _ (runs_last (let b : sees Comma (view c.each.self.cursor.rest.now) ≡ true = sym c.skip-in-each.ensures.is ∙ c.each-test.true in rw b (runs_sign (c.skip-in-each.ensures.takes c.each-test.true) (c.in_ok-key.ensures.reads _ _ _ (λ k. pair_value processes Sort.Pairs (pairs_written c.each.pairs.value.items) c.each.pairs.height (of_proc k)) (under_read _ _ _ of_proc (λ k. sign Colon (pair_value processes Sort.Pairs (pairs_written c.each.pairs.value.items) c.each.pairs.height k)) _ c.par-found.ensures.reads) _ (c.in_err-pairs-2.ensures.reads _ _ _ _ (λ ps k. last (Sort.Pairs (pairs_written ps) k)) (c.paired-next.ensures.reads _ _ _ _ (λ q k. last (Sort.Pairs (pairs_written (c.each.pairs.value.items ++ (q ∷ []))) (max c.each.pairs.height k))) (pair_grown _ _ _ proc_written pairs_written (λ ps k. last (Sort.Pairs ps k)) c.each.pairs.value.items c.each.pairs.height c.in_ok-key.key _ (λ v. pairs_pushed c.each.pairs.value.items (c.in_ok-key.key.value, v) c.in_ok-key.key.value v refl) c.par-value.ensures.reads)))))))); room = none_left c.args.free _ _ c.from_residual-in_err-pairs-2.ensures.1; shorter = omega (arith, c.each.invariant.shorter, c.skip-in-each.ensures.shorter, c.par-found.ensures.shorter, c.in_ok-key.ensures.shorter, c.par-value.ensures.shorter) }
 
 pub block-returns-then-not-skip : goal.block-returns-then-not-skip
 block-returns-then-not-skip t c = record { reads = let x0 : sees Colon (view c.args.self.now.cursor.rest.now) ≡ false = sym c.skip.ensures.is ∙ c.if-not-skip.true in rw x0 (unmoved (c.skip.ensures.stays c.if-not-skip.true) (c.brace_close.ensures.reads _)); room = fits _ c.brace_close.ensures.height (omega (arith, c.requires)); shorter = omega (arith, c.skip.ensures.shorter, c.brace_close.ensures.shorter) }
@@ -142,7 +147,14 @@ pub drop_form-dropped_quote-requires : goal.drop_form-dropped_quote-requires
 drop_form-dropped_quote-requires t c = grows _ c.drop_form-quoted.ensures.room (omega (arith, c.ranges.free))
 
 pub drop_form-members-requires : goal.drop_form-members-requires
-drop_form-members-requires t c = grows _ c.row-row.ensures.room (omega (arith, c.ranges.free))
+drop_form-members-requires t c = grows _ c.row-row-in-Ok-Members.ensures.room (omega (arith, c.ranges.free))
+
+pub drop_form-returns-else-not-skip : goal.drop_form-returns-else-not-skip
+drop_form-returns-else-not-skip t c =
+    let r = rw c.in-Ok-Group.field-0-is at c.in-Ok-Group.ensures.reads in
+    let m = rw c.in-Ok-Group.field-0-is at c.in-Ok-Group.ensures.room in
+    let s = rw c.in-Ok-Group.field-0-is at c.in-Ok-Group.ensures.shorter in
+    record { reads = r _ (runs_under c.in_ok-inner-in-Ok-Group.ensures.reads (runs_last (let x0 = sym c.skip.ensures.is ∙ c.if-not-skip.false in rw x0 (runs_sign (c.skip.ensures.takes c.if-not-skip.false) (c.tuple.ensures.reads _ _ _ c.row-row.ensures.reads))))); room = c.tuple.ensures.room c.args.free (omega (arith, c.in_ok-inner-in-Ok-Group.ensures.room, m)) (under_free _ c.row-row.ensures.room m); shorter = omega (arith, s, c.in_ok-inner-in-Ok-Group.ensures.shorter, c.skip.ensures.shorter, c.row-row.ensures.shorter) }
 
 pub drop_form-returns-in-Err : goal.drop_form-returns-in-Err
 drop_form-returns-in-Err t c = record { reads = c.in-Err.ensures.reads; room = tt; shorter = omega (arith, c.in-Err.ensures.shorter) }
@@ -159,7 +171,7 @@ drop_form-returns-in-Ok-Members t c =
     let r = rw c.in-Ok-Members.field-0-is at c.in-Ok-Members.ensures.reads in
     let m = rw c.in-Ok-Members.field-0-is at c.in-Ok-Members.ensures.room in
     let s = rw c.in-Ok-Members.field-0-is at c.in-Ok-Members.ensures.shorter in
-    record { reads = r _ (c.members.ensures.reads _ _ _ _ (under_read _ _ _ of_row (λ a. done (opened (members_of c.in-Ok-Members.bracket a.tree) a.height)) _ c.row-row.ensures.reads)); room = c.members.ensures.room c.args.free (under_free _ c.row-row.ensures.room m); shorter = omega (arith, s, c.row-row.ensures.shorter) }
+    record { reads = r _ (c.members.ensures.reads _ _ _ _ (under_read _ _ _ of_row (λ a. done (opened (members_of c.in-Ok-Members.bracket a.tree) a.height)) _ c.row-row-in-Ok-Members.ensures.reads)); room = c.members.ensures.room c.args.free (under_free _ c.row-row-in-Ok-Members.ensures.room m); shorter = omega (arith, s, c.row-row-in-Ok-Members.ensures.shorter) }
 
 pub drop_form-returns-in-Ok-Plain : goal.drop_form-returns-in-Ok-Plain
 drop_form-returns-in-Ok-Plain t c =
@@ -183,10 +195,17 @@ drop_form-returns-in_ok-first-in-Ok-Block-clause-reads t c =
     let r = rw c.in-Ok-Block.field-0-is at c.in-Ok-Block.ensures.reads in
     r _ (runs_under c.in_ok-first-in-Ok-Block.ensures.reads (runs_last c.block.ensures.reads))
 
-pub drop_form-returns-in_ok-inner-in-Ok-Group-clause-reads : goal.drop_form-returns-in_ok-inner-in-Ok-Group-clause-reads
-drop_form-returns-in_ok-inner-in-Ok-Group-clause-reads t c =
+pub drop_form-returns-then-not-skip : goal.drop_form-returns-then-not-skip
+drop_form-returns-then-not-skip t c =
     let r = rw c.in-Ok-Group.field-0-is at c.in-Ok-Group.ensures.reads in
-    r _ (runs_under c.in_ok-inner-in-Ok-Group.ensures.reads (runs_last c.group.ensures.reads))
+    let m = rw c.in-Ok-Group.field-0-is at c.in-Ok-Group.ensures.room in
+    let s = rw c.in-Ok-Group.field-0-is at c.in-Ok-Group.ensures.shorter in
+    record { reads = r _ (runs_under c.in_ok-inner-in-Ok-Group.ensures.reads (runs_last (let x0 = sym c.skip.ensures.is ∙ c.if-not-skip.true in rw x0 (unmoved (c.skip.ensures.stays c.if-not-skip.true) (c.group_close.ensures.reads _))))); room = fits _ c.group_close.ensures.height (omega (arith, c.in_ok-inner-in-Ok-Group.ensures.room, m)); shorter = omega (arith, s, c.in_ok-inner-in-Ok-Group.ensures.shorter, c.skip.ensures.shorter, c.group_close.ensures.shorter) }
+
+pub drop_form-tuple-requires : goal.drop_form-tuple-requires
+drop_form-tuple-requires t c =
+    let m = rw c.in-Ok-Group.field-0-is at c.in-Ok-Group.ensures.room in
+    record { first = omega (arith, c.in_ok-inner-in-Ok-Group.ensures.room, m, c.ranges.free); row = grows _ c.row-row.ensures.room (omega (arith, c.ranges.free)) }
 
 pub for_form-binds_tail-requires : goal.for_form-binds_tail-requires
 for_form-binds_tail-requires t c =
@@ -222,15 +241,6 @@ form-returns-in-Match t c = record { reads = rw c.in-Match.is c.match_form.ensur
 
 pub form-returns-in-New : goal.form-returns-in-New
 form-returns-in-New t c = record { reads = rw c.in-New.is c.new_form.ensures.reads; room = c.new_form.ensures.room; shorter = omega (arith, c.new_form.ensures.shorter) }
-
-pub group-returns-in-Err : goal.group-returns-in-Err
-group-returns-in-Err t c = record { reads = gives_up of_proc _ _ c.give_up.ensures (let x0 : sees Comma (view c.args.self.now.cursor.rest.now) ≡ true = sym c.skip.ensures.is ∙ c.if-not-skip.false in rw x0 (runs_sign (c.skip.ensures.takes c.if-not-skip.false) (no_under c.in-Err.ensures.reads))); room = none_given c.args.free _ _ c.give_up.ensures; shorter = omega (arith, c.skip.ensures.shorter, c.in-Err.ensures.shorter) }
-
-pub group-returns-in-Ok : goal.group-returns-in-Ok
-group-returns-in-Ok t c = record { reads = let x0 : sees Comma (view c.args.self.now.cursor.rest.now) ≡ true = sym c.skip.ensures.is ∙ c.if-not-skip.false in rw x0 (runs_sign (c.skip.ensures.takes c.if-not-skip.false) (runs_under c.in-Ok.ensures.reads (built proc_written _ _ c.tuple.ensures.tree c.tuple.ensures.height))); room = fits _ c.tuple.ensures.height (omega (arith, c.requires, c.in-Ok.ensures.room)); shorter = omega (arith, c.skip.ensures.shorter, c.in-Ok.ensures.shorter) }
-
-pub group-returns-then-not-skip : goal.group-returns-then-not-skip
-group-returns-then-not-skip t c = record { reads = let x0 : sees Comma (view c.args.self.now.cursor.rest.now) ≡ false = sym c.skip.ensures.is ∙ c.if-not-skip.true in rw x0 (unmoved (c.skip.ensures.stays c.if-not-skip.true) (c.group_close.ensures.reads _)); room = fits _ c.group_close.ensures.height (omega (arith, c.requires)); shorter = omega (arith, c.skip.ensures.shorter, c.group_close.ensures.shorter) }
 
 pub if_form-choice-requires : goal.if_form-choice-requires
 if_form-choice-requires t c =
@@ -406,17 +416,6 @@ new_form-returns-in_err-names t c = record { reads = exit of_proc _ _ c.from_res
 pub new_form-returns-in_err-opens : goal.new_form-returns-in_err-opens
 new_form-returns-in_err-opens t c = record { reads = exit of_proc _ _ c.from_residual.ensures.1 (no_opens c.in_err-opens.ensures.reads); room = none_left c.args.free _ _ c.from_residual.ensures.1; shorter = omega (arith, c.in_err-opens.ensures.shorter) }
 
-pub next_pair-returns : goal.next_pair-returns
-next_pair-returns t c =
-    let k = if_read (λ p. p.height ≤ c.args.free - 1) _ c.in_ok-key.ensures.same c.par-found.ensures.room in
-    record { reads = resume _ (λ p. last (Sort.Pairs (pairs_written p.value.items) p.height)) _ (λ out h. runs_sign c.in_ok-expect.ensures.reads (c.in_ok-key.ensures.reads _ _ _ (λ k. pair_value processes Sort.Pairs (pairs_written c.args.pairs.value.items) c.args.pairs.height (of_proc k)) (under_read _ _ _ of_proc (λ k. sign Colon (pair_value processes Sort.Pairs (pairs_written c.args.pairs.value.items) c.args.pairs.height k)) _ c.par-found.ensures.reads) out h)) (c.one_more.ensures.reads _ _ _ _ (λ ps k. last (Sort.Pairs (pairs_written ps) k)) (c.paired-pair.ensures.reads _ _ _ _ (λ q k. last (Sort.Pairs (pairs_written (c.args.pairs.value.items ++ (q ∷ []))) (max c.args.pairs.height k))) (pair_grown _ _ _ proc_written pairs_written (λ ps k. last (Sort.Pairs ps k)) c.args.pairs.value.items c.args.pairs.height c.in_ok-key.key _ (λ v. pairs_pushed c.args.pairs.value.items (c.in_ok-key.key.value, v) c.in_ok-key.key.value v refl) c.par.ensures.reads))); room = under_free _ (c.one_more.ensures.room (c.args.free - 1) (omega (arith, c.requires)) (c.paired-pair.ensures.room (c.args.free - 1) k c.par.ensures.room)) (omega (arith, c.requires)); shorter = less_both _ (omega (arith, c.in_ok-expect.ensures.shorter, c.par-found.ensures.shorter, c.in_ok-key.ensures.shorter, c.par.ensures.shorter)) }
-
-pub next_pair-returns-in_err-expect : goal.next_pair-returns-in_err-expect
-next_pair-returns-in_err-expect t c = record { reads = leave (λ p. last (Sort.Pairs (pairs_written p.value.items) p.height)) _ _ c.from_residual.ensures.1 (no_sign c.in_err-expect.ensures.reads); room = none_left_below c.args.free _ _ c.from_residual.ensures.1; shorter = less_left _ _ c.from_residual.ensures.1 (omega (arith, c.in_err-expect.ensures.shorter)) }
-
-pub next_pair-returns-in_err-key : goal.next_pair-returns-in_err-key
-next_pair-returns-in_err-key t c = record { reads = leave (λ p. last (Sort.Pairs (pairs_written p.value.items) p.height)) _ _ c.from_residual-in_err-key.ensures.1 (runs_sign c.in_ok-expect.ensures.reads (c.in_err-key.ensures.reads _ _ _ (λ k. pair_value processes Sort.Pairs (pairs_written c.args.pairs.value.items) c.args.pairs.height (of_proc k)) (under_read _ _ _ of_proc (λ k. sign Colon (pair_value processes Sort.Pairs (pairs_written c.args.pairs.value.items) c.args.pairs.height k)) _ c.par-found.ensures.reads))); room = none_left_below c.args.free _ _ c.from_residual-in_err-key.ensures.1; shorter = less_left _ _ c.from_residual-in_err-key.ensures.1 (omega (arith, c.in_ok-expect.ensures.shorter, c.par-found.ensures.shorter, c.in_err-key.ensures.shorter)) }
-
 pub one-returns-in-None : goal.one-returns-in-None
 one-returns-in-None t c = record { reads = as_rule _ _ c.in-None.ensures (runs_last c.two.ensures.reads); room = c.two.ensures.room; shorter = omega (arith, c.two.ensures.shorter) }
 
@@ -459,20 +458,29 @@ pattern_alternative-returns-in_err-left t c = record { reads = exit of_pat _ _ c
 pub pattern_alternative-returns-in_err-left-2 : goal.pattern_alternative-returns-in_err-left-2
 pattern_alternative-returns-in_err-left-2 t c = record { reads = exit of_pat _ _ c.from_residual-in_err-left-2.ensures.1 (forgets _ c.in_err-left-2.ensures.tree); room = none_left c.args.free _ _ c.from_residual-in_err-left-2.ensures.1; shorter = omega (arith, c.loop-self.invariant.shorter, c.in-Ok.ensures.shorter, c.in-Ok-pattern_conjunction.ensures.shorter) }
 
-pub pattern_block-loop-self-init : goal.pattern_block-loop-self-init
-pattern_block-loop-self-init t c = record { turns = λ out h. let x0 : sees Colon (view c.args.self.now.cursor.rest.now) ≡ true = sym c.skip.ensures.is ∙ c.if-not-skip.false in rw x0 (runs_sign (c.skip.ensures.takes c.if-not-skip.false) (c.in_ok-pairs.ensures.reads _ _ _ _ (λ ps k. last (Sort.PPairs (pat_pairs_written ps) k)) (c.paired-pair.ensures.reads _ _ _ _ (λ q k. last (Sort.PPairs (pat_pairs_written (q ∷ [])) k)) (under_read _ _ _ of_pat (λ v. last (Sort.PPairs (pair_of (pat_written c.args.first.value, v.tree) ∷ []) (max c.args.first.height v.height))) _ c.pattern_par.ensures.reads)) out h)); room = omega (arith, c.in_ok-pairs.ensures.room (c.args.free - 1) (c.paired-pair.ensures.room (c.args.free - 1) (omega (arith, c.requires)) c.pattern_par.ensures.room), c.requires); shorter = omega (arith, c.skip.ensures.shorter, c.pattern_par.ensures.shorter) }
+pub pattern_block-each-init : goal.pattern_block-each-init
+pattern_block-each-init t c = record { turns = λ out h. let x0 : sees Colon (view c.args.self.now.cursor.rest.now) ≡ true = sym c.skip.ensures.is ∙ c.if-not-skip.false in rw x0 (runs_sign (c.skip.ensures.takes c.if-not-skip.false) (c.in_ok-pairs.ensures.reads _ _ _ _ (λ ps k. last (Sort.PPairs (pat_pairs_written ps) k)) (c.paired-pair.ensures.reads _ _ _ _ (λ q k. last (Sort.PPairs (pat_pairs_written (q ∷ [])) k)) (under_read _ _ _ of_pat (λ v. last (Sort.PPairs (pair_of (pat_written c.args.first.value, v.tree) ∷ []) (max c.args.first.height v.height))) _ c.pattern_par.ensures.reads)) out h)); room = omega (arith, c.in_ok-pairs.ensures.room (c.args.free - 1) (c.paired-pair.ensures.room (c.args.free - 1) (omega (arith, c.requires)) c.pattern_par.ensures.room), c.requires); shorter = omega (arith, c.skip.ensures.less c.if-not-skip.false, c.pattern_par.ensures.shorter) }
 
-pub pattern_block-loop-self-preserved : goal.pattern_block-loop-self-preserved
-pattern_block-loop-self-preserved t c = record { turns = λ out h. c.loop-self.invariant.turns _ (runs_last (c.in_ok-pairs-2.ensures.reads out h)); room = c.in_ok-pairs-2.ensures.room; shorter = omega (arith, c.loop-self.invariant.shorter, c.in_ok-pairs-2.ensures.shorter) }
+pub pattern_block-each-preserved : goal.pattern_block-each-preserved
+pattern_block-each-preserved t c =
+    let k = if_read (λ p. p.height ≤ c.args.free - 1) _ c.in_ok-key.ensures.same c.pattern_par-found.ensures.room in
+    record { turns = λ out h. c.each.invariant.turns _ (runs_last (pairs_on _ _ _ _ (sym c.skip_comma.ensures.is ∙ c.each-test.true) (c.skip_comma.ensures.takes c.each-test.true) (c.in_ok-key.ensures.reads _ _ _ (λ k. pair_value patterns Sort.PPairs (pat_pairs_written c.each.pairs.value.items) c.each.pairs.height (of_pat k)) (under_read _ _ _ of_pat (λ k. sign Colon (pair_value patterns Sort.PPairs (pat_pairs_written c.each.pairs.value.items) c.each.pairs.height k)) _ c.pattern_par-found.ensures.reads) _ (c.in_ok-pairs-2.ensures.reads _ _ _ _ (λ ps k. last (Sort.PPairs (pat_pairs_written ps) k)) (c.paired-next.ensures.reads _ _ _ _ (λ q k. last (Sort.PPairs (pat_pairs_written (c.each.pairs.value.items ++ (q ∷ []))) (max c.each.pairs.height k))) (pair_grown _ _ _ pat_written pat_pairs_written (λ ps k. last (Sort.PPairs ps k)) c.each.pairs.value.items c.each.pairs.height c.in_ok-key.key _ (λ v. pat_pairs_pushed c.each.pairs.value.items (c.in_ok-key.key.value, v) c.in_ok-key.key.value v refl) c.pattern_par-value.ensures.reads)) out h)))); room = omega (arith, c.each.invariant.room, c.in_ok-pairs-2.ensures.room (c.args.free - 1) (omega (arith, c.each.invariant.room)) (c.paired-next.ensures.room (c.args.free - 1) k c.pattern_par-value.ensures.room)); shorter = omega (arith, c.each.invariant.shorter, c.skip_comma.ensures.shorter, c.pattern_par-found.ensures.shorter, c.in_ok-key.ensures.shorter, c.pattern_par-value.ensures.shorter) }
+
+pub pattern_block-pairs_end-requires : goal.pattern_block-pairs_end-requires
+pattern_block-pairs_end-requires t c =
+    record { member = ap sees_member (c.skip_comma.ensures.stays c.each-test.false) ∙ (sym c.skip_comma.ensures.is ∙ c.each-test.false); room = omega (arith, c.each.invariant.room, c.ranges.free) }
 
 pub pattern_block-returns : goal.pattern_block-returns
-pattern_block-returns t c = record { reads = c.loop-self.invariant.turns _ (runs_last (c.pairs_end.ensures.reads _)); room = fits _ c.pairs_end.ensures.height (omega (arith, c.loop-self.invariant.room)); shorter = omega (arith, c.loop-self.invariant.shorter, c.pairs_end.ensures.shorter) }
+pattern_block-returns t c = record { reads = c.each.invariant.turns _ (runs_last (unmoved_tail (Sort.PPairs _ _) (c.skip_comma.ensures.stays c.each-test.false) (c.pairs_end.ensures.reads _))); room = fits _ c.pairs_end.ensures.height (omega (arith, c.each.invariant.room)); shorter = omega (arith, c.each.invariant.shorter, c.skip_comma.ensures.shorter, c.pairs_end.ensures.shorter) }
+
+pub pattern_block-returns-in_err-key : goal.pattern_block-returns-in_err-key
+pattern_block-returns-in_err-key t c = record { reads = exit of_pat _ _ c.from_residual-in_err-key.ensures.1 (c.each.invariant.turns _ (runs_last (pairs_on _ _ _ _ (sym c.skip_comma.ensures.is ∙ c.each-test.true) (c.skip_comma.ensures.takes c.each-test.true) (c.in_err-key.ensures.reads _ _ _ (λ k. pair_value patterns Sort.PPairs (pat_pairs_written c.each.pairs.value.items) c.each.pairs.height (of_pat k)) (under_read _ _ _ of_pat (λ k. sign Colon (pair_value patterns Sort.PPairs (pat_pairs_written c.each.pairs.value.items) c.each.pairs.height k)) _ c.pattern_par-found.ensures.reads))))); room = none_left c.args.free _ _ c.from_residual-in_err-key.ensures.1; shorter = omega (arith, c.each.invariant.shorter, c.skip_comma.ensures.shorter, c.pattern_par-found.ensures.shorter, c.in_err-key.ensures.shorter) }
 
 pub pattern_block-returns-in_err-pairs : goal.pattern_block-returns-in_err-pairs
 pattern_block-returns-in_err-pairs t c = record { reads = exit of_pat _ _ c.from_residual.ensures.1 (let x0 : sees Colon (view c.args.self.now.cursor.rest.now) ≡ true = sym c.skip.ensures.is ∙ c.if-not-skip.false in rw x0 (runs_sign (c.skip.ensures.takes c.if-not-skip.false) (c.in_err-pairs.ensures.reads _ _ _ _ (λ ps k. last (Sort.PPairs (pat_pairs_written ps) k)) (c.paired-pair.ensures.reads _ _ _ _ (λ q k. last (Sort.PPairs (pat_pairs_written (q ∷ [])) k)) (under_read _ _ _ of_pat (λ v. last (Sort.PPairs (pair_of (pat_written c.args.first.value, v.tree) ∷ []) (max c.args.first.height v.height))) _ c.pattern_par.ensures.reads))))); room = none_left c.args.free _ _ c.from_residual.ensures.1; shorter = omega (arith, c.skip.ensures.shorter, c.pattern_par.ensures.shorter) }
 
 pub pattern_block-returns-in_err-pairs-2 : goal.pattern_block-returns-in_err-pairs-2
-pattern_block-returns-in_err-pairs-2 t c = record { reads = exit of_pat _ _ c.from_residual-in_err-pairs-2.ensures.1 (c.loop-self.invariant.turns _ (runs_last (c.in_err-pairs-2.ensures.reads))); room = none_left c.args.free _ _ c.from_residual-in_err-pairs-2.ensures.1; shorter = omega (arith, c.loop-self.invariant.shorter, c.in_err-pairs-2.ensures.shorter) }
+pattern_block-returns-in_err-pairs-2 t c = record { reads = exit of_pat _ _ c.from_residual-in_err-pairs-2.ensures.1 (c.each.invariant.turns _ (runs_last (pairs_on _ _ _ _ (sym c.skip_comma.ensures.is ∙ c.each-test.true) (c.skip_comma.ensures.takes c.each-test.true) (c.in_ok-key.ensures.reads _ _ _ (λ k. pair_value patterns Sort.PPairs (pat_pairs_written c.each.pairs.value.items) c.each.pairs.height (of_pat k)) (under_read _ _ _ of_pat (λ k. sign Colon (pair_value patterns Sort.PPairs (pat_pairs_written c.each.pairs.value.items) c.each.pairs.height k)) _ c.pattern_par-found.ensures.reads) _ (c.in_err-pairs-2.ensures.reads _ _ _ _ (λ ps k. last (Sort.PPairs (pat_pairs_written ps) k)) (c.paired-next.ensures.reads _ _ _ _ (λ q k. last (Sort.PPairs (pat_pairs_written (c.each.pairs.value.items ++ (q ∷ []))) (max c.each.pairs.height k))) (pair_grown _ _ _ pat_written pat_pairs_written (λ ps k. last (Sort.PPairs ps k)) c.each.pairs.value.items c.each.pairs.height c.in_ok-key.key _ (λ v. pat_pairs_pushed c.each.pairs.value.items (c.in_ok-key.key.value, v) c.in_ok-key.key.value v refl) c.pattern_par-value.ensures.reads))))))); room = none_left c.args.free _ _ c.from_residual-in_err-pairs-2.ensures.1; shorter = omega (arith, c.each.invariant.shorter, c.skip_comma.ensures.shorter, c.pattern_par-found.ensures.shorter, c.in_ok-key.ensures.shorter, c.pattern_par-value.ensures.shorter) }
 
 pub pattern_block-returns-then-not-skip : goal.pattern_block-returns-then-not-skip
 pattern_block-returns-then-not-skip t c = record { reads = let x0 : sees Colon (view c.args.self.now.cursor.rest.now) ≡ false = sym c.skip.ensures.is ∙ c.if-not-skip.true in rw x0 (unmoved (c.skip.ensures.stays c.if-not-skip.true) (c.pattern_brace_close.ensures.reads _)); room = fits _ c.pattern_brace_close.ensures.height (omega (arith, c.requires)); shorter = omega (arith, c.skip.ensures.shorter, c.pattern_brace_close.ensures.shorter) }
@@ -498,15 +506,6 @@ pattern_conjunction-returns-in_err-left t c = record { reads = exit of_pat _ _ c
 pub pattern_conjunction-returns-in_err-left-2 : goal.pattern_conjunction-returns-in_err-left-2
 pattern_conjunction-returns-in_err-left-2 t c = record { reads = exit of_pat _ _ c.from_residual-in_err-left-2.ensures.1 (forgets _ c.in_err-left-2.ensures.tree); room = none_left c.args.free _ _ c.from_residual-in_err-left-2.ensures.1; shorter = omega (arith, c.loop-self.invariant.shorter, c.in-Ok.ensures.shorter, c.in-Ok-pattern_not.ensures.shorter) }
 
-pub pattern_group-returns-in-Err : goal.pattern_group-returns-in-Err
-pattern_group-returns-in-Err t c = record { reads = gives_up of_pat _ _ c.give_up.ensures (let x0 : sees Comma (view c.args.self.now.cursor.rest.now) ≡ true = sym c.skip.ensures.is ∙ c.if-not-skip.false in rw x0 (runs_sign (c.skip.ensures.takes c.if-not-skip.false) (no_under c.in-Err.ensures.reads))); room = none_given c.args.free _ _ c.give_up.ensures; shorter = omega (arith, c.skip.ensures.shorter, c.in-Err.ensures.shorter) }
-
-pub pattern_group-returns-in-Ok : goal.pattern_group-returns-in-Ok
-pattern_group-returns-in-Ok t c = record { reads = let x0 : sees Comma (view c.args.self.now.cursor.rest.now) ≡ true = sym c.skip.ensures.is ∙ c.if-not-skip.false in rw x0 (runs_sign (c.skip.ensures.takes c.if-not-skip.false) (runs_under c.in-Ok.ensures.reads (built pat_written _ _ c.tuple_pat.ensures.tree c.tuple_pat.ensures.height))); room = fits _ c.tuple_pat.ensures.height (omega (arith, c.requires, c.in-Ok.ensures.room)); shorter = omega (arith, c.skip.ensures.shorter, c.in-Ok.ensures.shorter) }
-
-pub pattern_group-returns-then-not-skip : goal.pattern_group-returns-then-not-skip
-pattern_group-returns-then-not-skip t c = record { reads = let x0 : sees Comma (view c.args.self.now.cursor.rest.now) ≡ false = sym c.skip.ensures.is ∙ c.if-not-skip.true in rw x0 (unmoved (c.skip.ensures.stays c.if-not-skip.true) (c.pattern_close.ensures.reads _)); room = fits _ c.pattern_close.ensures.height (omega (arith, c.requires)); shorter = omega (arith, c.skip.ensures.shorter, c.pattern_close.ensures.shorter) }
-
 pub pattern_name-returns : goal.pattern_name-returns
 pattern_name-returns t c = record { reads = let x0 : sees Underscore (view c.args.self.now.cursor.rest.now) ≡ false = sym c.sees.ensures ∙ c.if-sees.false in let x1 : sees At (view c.args.self.now.cursor.rest.now) ≡ true = sym c.sees-2.ensures ∙ c.if-not-sees.false in rw (x0, x1) (runs_sign c.in_ok-expect.ensures.reads (runs_at c.in_ok-quoted.ensures.reads (built name_pat_written _ _ c.quote_pat.ensures.tree c.quote_pat.ensures.height))); room = fits _ c.quote_pat.ensures.height (omega (arith, c.in_ok-quoted.ensures.room)); shorter = omega (arith, c.in_ok-expect.ensures.shorter, c.in_ok-quoted.ensures.shorter) }
 
@@ -524,6 +523,13 @@ pattern_not-member_patterns-requires t c = grows _ c.pattern_sequence-sequence.e
 
 pub pattern_not-negated-requires : goal.pattern_not-negated-requires
 pattern_not-negated-requires t c = grows _ c.pattern_not-arg.ensures.room (omega (arith, c.ranges.free))
+
+pub pattern_not-returns-else-not-skip : goal.pattern_not-returns-else-not-skip
+pattern_not-returns-else-not-skip t c =
+    let r = rw c.in-Ok-Group.field-0-is at c.in-Ok-Group.ensures.reads in
+    let m = rw c.in-Ok-Group.field-0-is at c.in-Ok-Group.ensures.room in
+    let s = rw c.in-Ok-Group.field-0-is at c.in-Ok-Group.ensures.shorter in
+    record { reads = r _ (runs_under c.in_ok-inner-in-Ok-Group.ensures.reads (runs_last (let x0 = sym c.skip.ensures.is ∙ c.if-not-skip.false in rw x0 (runs_sign (c.skip.ensures.takes c.if-not-skip.false) (c.tuple_pattern.ensures.reads _ _ _ c.pattern_row-row.ensures.reads))))); room = c.tuple_pattern.ensures.room c.args.free (omega (arith, c.in_ok-inner-in-Ok-Group.ensures.room, m)) (under_free _ c.pattern_row-row.ensures.room m); shorter = omega (arith, s, c.in_ok-inner-in-Ok-Group.ensures.shorter, c.skip.ensures.shorter, c.pattern_row-row.ensures.shorter) }
 
 pub pattern_not-returns-in-Err : goal.pattern_not-returns-in-Err
 pattern_not-returns-in-Err t c = record { reads = c.in-Err.ensures.reads; room = tt; shorter = omega (arith, c.in-Err.ensures.shorter) }
@@ -571,19 +577,20 @@ pattern_not-returns-in_ok-first-in-Ok-Block-clause-reads t c =
     let r = rw c.in-Ok-Block.field-0-is at c.in-Ok-Block.ensures.reads in
     r _ (runs_under c.in_ok-first-in-Ok-Block.ensures.reads (runs_last c.pattern_block.ensures.reads))
 
-pub pattern_not-returns-in_ok-inner-in-Ok-Group-clause-reads : goal.pattern_not-returns-in_ok-inner-in-Ok-Group-clause-reads
-pattern_not-returns-in_ok-inner-in-Ok-Group-clause-reads t c =
+pub pattern_not-returns-then-not-skip : goal.pattern_not-returns-then-not-skip
+pattern_not-returns-then-not-skip t c =
     let r = rw c.in-Ok-Group.field-0-is at c.in-Ok-Group.ensures.reads in
-    r _ (runs_under c.in_ok-inner-in-Ok-Group.ensures.reads (runs_last c.pattern_group.ensures.reads))
+    let m = rw c.in-Ok-Group.field-0-is at c.in-Ok-Group.ensures.room in
+    let s = rw c.in-Ok-Group.field-0-is at c.in-Ok-Group.ensures.shorter in
+    record { reads = r _ (runs_under c.in_ok-inner-in-Ok-Group.ensures.reads (runs_last (let x0 = sym c.skip.ensures.is ∙ c.if-not-skip.true in rw x0 (unmoved (c.skip.ensures.stays c.if-not-skip.true) (c.pattern_close.ensures.reads _))))); room = fits _ c.pattern_close.ensures.height (omega (arith, c.in_ok-inner-in-Ok-Group.ensures.room, m)); shorter = omega (arith, s, c.in_ok-inner-in-Ok-Group.ensures.shorter, c.skip.ensures.shorter, c.pattern_close.ensures.shorter) }
+
+pub pattern_not-tuple_pattern-requires : goal.pattern_not-tuple_pattern-requires
+pattern_not-tuple_pattern-requires t c =
+    let m = rw c.in-Ok-Group.field-0-is at c.in-Ok-Group.ensures.room in
+    record { first = omega (arith, c.in_ok-inner-in-Ok-Group.ensures.room, m, c.ranges.free); row = grows _ c.pattern_row-row.ensures.room (omega (arith, c.ranges.free)) }
 
 pub pattern_one-close_bundle_pattern-requires : goal.pattern_one-close_bundle_pattern-requires
 pattern_one-close_bundle_pattern-requires t c = grows _ c.pattern_par-body.ensures.room (omega (arith, c.ranges.free))
-
-pub pattern_one-pattern_sent-requires : goal.pattern_one-pattern_sent-requires
-pattern_one-pattern_sent-requires t c =
-    let m = rw c.in-Ok-Quoted.field-0-is at c.in-Ok-Quoted.ensures.room in
-    let s = rw c.in-Ok-Quoted.field-0-is at c.in-Ok-Quoted.ensures.shorter in
-    omega (arith, c.in_ok-channel-in-Ok-Quoted.ensures.room c.args.free (under_free _ c.pattern_alternative-quoted.ensures.room m), s, c.pattern_alternative-quoted.ensures.shorter, c.in_ok-channel-in-Ok-Quoted.ensures.shorter)
 
 pub pattern_one-returns-in-Err : goal.pattern_one-returns-in-Err
 pattern_one-returns-in-Err t c = record { reads = c.in-Err.ensures.reads; room = tt; shorter = omega (arith, c.in-Err.ensures.shorter) }
@@ -616,23 +623,31 @@ pattern_one-returns-in_err-channel-in-Ok-Quoted t c =
     let s = rw c.in-Ok-Quoted.field-0-is at c.in-Ok-Quoted.ensures.shorter in
     record { reads = exit of_pat _ _ c.from_residual.ensures.1 (r _ (c.in_err-channel-in-Ok-Quoted.ensures.reads _ _ _ (under_read _ _ _ of_pat (λ a. last (Sort.SentTail patterns (spelt (quoted_of a.tree) a.height))) _ c.pattern_alternative-quoted.ensures.reads))); room = none_left c.args.free _ _ c.from_residual.ensures.1; shorter = omega (arith, s, c.pattern_alternative-quoted.ensures.shorter, c.in_err-channel-in-Ok-Quoted.ensures.shorter) }
 
+pub pattern_one-returns-in_ok-any-in-Ok-AnySend : goal.pattern_one-returns-in_ok-any-in-Ok-AnySend
+pattern_one-returns-in_ok-any-in-Ok-AnySend t c =
+    let r = rw c.in-Ok-AnySend.field-0-is at c.in-Ok-AnySend.ensures.reads in
+    let s = rw c.in-Ok-AnySend.field-0-is at c.in-Ok-AnySend.ensures.shorter in
+    record { reads = r _ (c.in_ok-any-in-Ok-AnySend.ensures.reads _ (c.sent_pattern-in-Ok-AnySend.ensures.reads _ _ _ c.pattern_row-args-in-Ok-AnySend.ensures.reads)); room = c.sent_pattern-in-Ok-AnySend.ensures.room c.args.free c.in_ok-any-in-Ok-AnySend.ensures.room (under_free _ c.pattern_row-args-in-Ok-AnySend.ensures.room (omega (arith, c.in_ok-any-in-Ok-AnySend.ensures.room))); shorter = omega (arith, s, c.in_ok-any-in-Ok-AnySend.ensures.shorter, c.pattern_row-args-in-Ok-AnySend.ensures.shorter) }
+
 pub pattern_one-returns-in_ok-channel-in-Ok-Quoted : goal.pattern_one-returns-in_ok-channel-in-Ok-Quoted
 pattern_one-returns-in_ok-channel-in-Ok-Quoted t c =
     let r = rw c.in-Ok-Quoted.field-0-is at c.in-Ok-Quoted.ensures.reads in
     let m = rw c.in-Ok-Quoted.field-0-is at c.in-Ok-Quoted.ensures.room in
     let s = rw c.in-Ok-Quoted.field-0-is at c.in-Ok-Quoted.ensures.shorter in
-    record { reads = r _ (c.in_ok-channel-in-Ok-Quoted.ensures.reads _ _ _ (under_read _ _ _ of_pat (λ a. last (Sort.SentTail patterns (spelt (quoted_of a.tree) a.height))) _ c.pattern_alternative-quoted.ensures.reads) _ c.pattern_sent.ensures.reads); room = c.pattern_sent.ensures.room; shorter = omega (arith, s, c.pattern_alternative-quoted.ensures.shorter, c.in_ok-channel-in-Ok-Quoted.ensures.shorter, c.pattern_sent.ensures.shorter) }
+    let h = c.in_ok-channel-in-Ok-Quoted.ensures.room c.args.free (under_free _ c.pattern_alternative-quoted.ensures.room m) in
+    record { reads = r _ (c.in_ok-channel-in-Ok-Quoted.ensures.reads _ _ _ (under_read _ _ _ of_pat (λ a. last (Sort.SentTail patterns (spelt (quoted_of a.tree) a.height))) _ c.pattern_alternative-quoted.ensures.reads) _ (c.sent_pattern.ensures.reads _ _ _ c.pattern_row-args.ensures.reads)); room = c.sent_pattern.ensures.room c.args.free h (under_free _ c.pattern_row-args.ensures.room (omega (arith, h))); shorter = omega (arith, s, c.pattern_alternative-quoted.ensures.shorter, c.in_ok-channel-in-Ok-Quoted.ensures.shorter, c.pattern_row-args.ensures.shorter) }
 
-pub pattern_pairs_more-returns : goal.pattern_pairs_more-returns
-pattern_pairs_more-returns t c =
-    let k = if_read (λ p. p.height ≤ c.args.free - 1) _ c.in_ok-key.ensures.same c.pattern_par-found.ensures.room in
-    record { reads = resume _ (λ p. last (Sort.PPairs (pat_pairs_written p.value.items) p.height)) _ (λ out h. pairs_on _ _ _ _ c.requires.member c.in_ok-expect.ensures.reads (c.in_ok-key.ensures.reads _ _ _ (λ k. pair_value patterns Sort.PPairs (pat_pairs_written c.args.pairs.value.items) c.args.pairs.height (of_pat k)) (under_read _ _ _ of_pat (λ k. sign Colon (pair_value patterns Sort.PPairs (pat_pairs_written c.args.pairs.value.items) c.args.pairs.height k)) _ c.pattern_par-found.ensures.reads) out h)) (c.one_more.ensures.reads _ _ _ _ (λ ps k. last (Sort.PPairs (pat_pairs_written ps) k)) (c.paired-pair.ensures.reads _ _ _ _ (λ q k. last (Sort.PPairs (pat_pairs_written (c.args.pairs.value.items ++ (q ∷ []))) (max c.args.pairs.height k))) (pair_grown _ _ _ pat_written pat_pairs_written (λ ps k. last (Sort.PPairs ps k)) c.args.pairs.value.items c.args.pairs.height c.in_ok-key.key _ (λ v. pat_pairs_pushed c.args.pairs.value.items (c.in_ok-key.key.value, v) c.in_ok-key.key.value v refl) c.pattern_par.ensures.reads))); room = under_free _ (c.one_more.ensures.room (c.args.free - 1) (omega (arith, c.requires.room)) (c.paired-pair.ensures.room (c.args.free - 1) k c.pattern_par.ensures.room)) (omega (arith, c.requires.room)); shorter = less_both _ (omega (arith, c.in_ok-expect.ensures.shorter, c.pattern_par-found.ensures.shorter, c.in_ok-key.ensures.shorter, c.pattern_par.ensures.shorter)) }
+pub pattern_one-returns-in_ok-sending-in-Ok-Send : goal.pattern_one-returns-in_ok-sending-in-Ok-Send
+pattern_one-returns-in_ok-sending-in-Ok-Send t c =
+    let r = rw c.in-Ok-Send.field-0-is at c.in-Ok-Send.ensures.reads in
+    let s = rw c.in-Ok-Send.field-0-is at c.in-Ok-Send.ensures.shorter in
+    record { reads = r _ (c.in_ok-sending-in-Ok-Send.ensures.reads _ (c.sent_pattern-in-Ok-Send.ensures.reads _ _ _ c.pattern_row-args-in-Ok-Send.ensures.reads)); room = c.sent_pattern-in-Ok-Send.ensures.room c.args.free c.in_ok-sending-in-Ok-Send.ensures.room (under_free _ c.pattern_row-args-in-Ok-Send.ensures.room (omega (arith, c.in_ok-sending-in-Ok-Send.ensures.room))); shorter = omega (arith, s, c.in_ok-sending-in-Ok-Send.ensures.shorter, c.pattern_row-args-in-Ok-Send.ensures.shorter) }
 
-pub pattern_pairs_more-returns-in_err-expect : goal.pattern_pairs_more-returns-in_err-expect
-pattern_pairs_more-returns-in_err-expect t c = record { reads = leave (λ p. last (Sort.PPairs (pat_pairs_written p.value.items) p.height)) _ _ c.from_residual.ensures.1 (no_comma c.requires.member c.in_err-expect.ensures.reads); room = none_left_below c.args.free _ _ c.from_residual.ensures.1; shorter = less_left _ _ c.from_residual.ensures.1 (omega (arith, c.in_err-expect.ensures.shorter)) }
-
-pub pattern_pairs_more-returns-in_err-key : goal.pattern_pairs_more-returns-in_err-key
-pattern_pairs_more-returns-in_err-key t c = record { reads = leave (λ p. last (Sort.PPairs (pat_pairs_written p.value.items) p.height)) _ _ c.from_residual-in_err-key.ensures.1 (pairs_on _ _ _ _ c.requires.member c.in_ok-expect.ensures.reads (c.in_err-key.ensures.reads _ _ _ (λ k. pair_value patterns Sort.PPairs (pat_pairs_written c.args.pairs.value.items) c.args.pairs.height (of_pat k)) (under_read _ _ _ of_pat (λ k. sign Colon (pair_value patterns Sort.PPairs (pat_pairs_written c.args.pairs.value.items) c.args.pairs.height k)) _ c.pattern_par-found.ensures.reads))); room = none_left_below c.args.free _ _ c.from_residual-in_err-key.ensures.1; shorter = less_left _ _ c.from_residual-in_err-key.ensures.1 (omega (arith, c.in_ok-expect.ensures.shorter, c.pattern_par-found.ensures.shorter, c.in_err-key.ensures.shorter)) }
+pub pattern_one-sent_pattern-requires : goal.pattern_one-sent_pattern-requires
+pattern_one-sent_pattern-requires t c =
+    let m = rw c.in-Ok-Quoted.field-0-is at c.in-Ok-Quoted.ensures.room in
+    let h = c.in_ok-channel-in-Ok-Quoted.ensures.room c.args.free (under_free _ c.pattern_alternative-quoted.ensures.room m) in
+    record { channel = omega (arith, h, c.ranges.free); args = grows _ c.pattern_row-args.ensures.room (omega (arith, c.ranges.free)) }
 
 pub pattern_par-each-init : goal.pattern_par-each-init
 pattern_par-each-init t c = record { turns = λ out h. c.in_ok-parts.ensures.reads _ _ _ _ (λ ps k. last (Sort.ParTail patterns (map pat_written ps) k)) (begun _ _ pat_written (λ ps k. last (Sort.ParTail patterns ps k)) _ c.pattern_one-first.ensures.reads) out h; room = c.in_ok-parts.ensures.room _ c.pattern_one-first.ensures.room; shorter = c.pattern_one-first.ensures.shorter }
@@ -666,12 +681,6 @@ pattern_row-returns-in_err-members-2 t c = record { reads = exit of_pat_row _ _ 
 
 pub pattern_row-returns-then-sees_closing : goal.pattern_row-returns-then-sees_closing
 pattern_row-returns-then-sees_closing t c = record { reads = let x0 : sees (closing (bracket_of c.args.bracket)) (view c.args.self.now.cursor.rest.now) ≡ true = sym c.sees_closing.ensures ∙ c.if-sees_closing.true in rw x0 (c.pattern_row_none.ensures.reads _); room = fits _ c.pattern_row_none.ensures.height (omega arith); shorter = omega (arith, c.pattern_row_none.ensures.shorter) }
-
-pub pattern_sent-returns-in-Err : goal.pattern_sent-returns-in-Err
-pattern_sent-returns-in-Err t c = record { reads = gives_up of_pat _ _ c.give_up.ensures (no_under c.in-Err.ensures.reads); room = none_given c.args.free _ _ c.give_up.ensures; shorter = omega (arith, c.in-Err.ensures.shorter) }
-
-pub pattern_sent-returns-in-Ok : goal.pattern_sent-returns-in-Ok
-pattern_sent-returns-in-Ok t c = record { reads = runs_under c.in-Ok.ensures.reads (ends _ _ c.send_pat.ensures.tree c.send_pat.ensures.height); room = omega (arith, c.send_pat.ensures.height, c.requires, c.in-Ok.ensures.room); shorter = omega (arith, c.in-Ok.ensures.shorter) }
 
 pub pattern_sequence-each-init : goal.pattern_sequence-each-init
 pattern_sequence-each-init t c = record { turns = λ out h. c.in_ok-pats.ensures.reads _ _ _ _ (λ ps k. last (Sort.SeqTail (bracket_of c.args.bracket) (map pat_written ps) k)) (begun _ _ pat_written (λ ps k. last (Sort.SeqTail (bracket_of c.args.bracket) ps k)) _ c.pattern_par-first.ensures.reads) out h; room = c.in_ok-pats.ensures.room _ c.pattern_par-first.ensures.room; shorter = c.pattern_par-first.ensures.shorter }
@@ -734,12 +743,6 @@ row-returns-in_err-members-2 t c = record { reads = exit of_row _ _ c.from_resid
 pub row-returns-then-sees_closing : goal.row-returns-then-sees_closing
 row-returns-then-sees_closing t c = record { reads = let x0 : sees (closing (bracket_of c.args.bracket)) (view c.args.self.now.cursor.rest.now) ≡ true = sym c.sees_closing.ensures ∙ c.if-sees_closing.true in rw x0 (c.row_none.ensures.reads _); room = fits _ c.row_none.ensures.height (omega arith); shorter = omega (arith, c.row_none.ensures.shorter) }
 
-pub sent-returns-in-Err : goal.sent-returns-in-Err
-sent-returns-in-Err t c = record { reads = gives_up of_proc _ _ c.give_up.ensures (no_under c.in-Err.ensures.reads); room = none_given c.args.free _ _ c.give_up.ensures; shorter = omega (arith, c.in-Err.ensures.shorter) }
-
-pub sent-returns-in-Ok : goal.sent-returns-in-Ok
-sent-returns-in-Ok t c = record { reads = runs_under c.in-Ok.ensures.reads (ends _ _ c.send.ensures.tree c.send.ensures.height); room = omega (arith, c.send.ensures.height, c.requires, c.in-Ok.ensures.room); shorter = omega (arith, c.in-Ok.ensures.shorter) }
-
 pub two-close_bundle-requires : goal.two-close_bundle-requires
 two-close_bundle-requires t c = grows _ c.par-body.ensures.room (omega (arith, c.ranges.free))
 
@@ -777,10 +780,17 @@ two-returns-in_ok-channel-in-Ok-Quoted t c =
     let r = rw c.in-Ok-Quoted.field-0-is at c.in-Ok-Quoted.ensures.reads in
     let m = rw c.in-Ok-Quoted.field-0-is at c.in-Ok-Quoted.ensures.room in
     let s = rw c.in-Ok-Quoted.field-0-is at c.in-Ok-Quoted.ensures.shorter in
-    record { reads = r _ (c.in_ok-channel-in-Ok-Quoted.ensures.reads _ _ _ (under_read _ _ _ of_proc (λ a. last (Sort.SentTail processes (spelt (quote_of a.tree) a.height))) _ c.drop_form-quoted.ensures.reads) _ c.sent.ensures.reads); room = c.sent.ensures.room; shorter = omega (arith, s, c.drop_form-quoted.ensures.shorter, c.in_ok-channel-in-Ok-Quoted.ensures.shorter, c.sent.ensures.shorter) }
+    let h = c.in_ok-channel-in-Ok-Quoted.ensures.room c.args.free (under_free _ c.drop_form-quoted.ensures.room m) in
+    record { reads = r _ (c.in_ok-channel-in-Ok-Quoted.ensures.reads _ _ _ (under_read _ _ _ of_proc (λ a. last (Sort.SentTail processes (spelt (quote_of a.tree) a.height))) _ c.drop_form-quoted.ensures.reads) _ (c.sent.ensures.reads _ _ _ c.row-args.ensures.reads)); room = c.sent.ensures.room c.args.free h (under_free _ c.row-args.ensures.room (omega (arith, h))); shorter = omega (arith, s, c.drop_form-quoted.ensures.shorter, c.in_ok-channel-in-Ok-Quoted.ensures.shorter, c.row-args.ensures.shorter) }
+
+pub two-returns-in_ok-sending-in-Ok-Send : goal.two-returns-in_ok-sending-in-Ok-Send
+two-returns-in_ok-sending-in-Ok-Send t c =
+    let r = rw c.in-Ok-Send.field-0-is at c.in-Ok-Send.ensures.reads in
+    let s = rw c.in-Ok-Send.field-0-is at c.in-Ok-Send.ensures.shorter in
+    record { reads = r _ (c.in_ok-sending-in-Ok-Send.ensures.reads _ (c.sent-in-Ok-Send.ensures.reads _ _ _ c.row-args-in-Ok-Send.ensures.reads)); room = c.sent-in-Ok-Send.ensures.room c.args.free c.in_ok-sending-in-Ok-Send.ensures.room (under_free _ c.row-args-in-Ok-Send.ensures.room (omega (arith, c.in_ok-sending-in-Ok-Send.ensures.room))); shorter = omega (arith, s, c.in_ok-sending-in-Ok-Send.ensures.shorter, c.row-args-in-Ok-Send.ensures.shorter) }
 
 pub two-sent-requires : goal.two-sent-requires
 two-sent-requires t c =
     let m = rw c.in-Ok-Quoted.field-0-is at c.in-Ok-Quoted.ensures.room in
-    let s = rw c.in-Ok-Quoted.field-0-is at c.in-Ok-Quoted.ensures.shorter in
-    omega (arith, c.in_ok-channel-in-Ok-Quoted.ensures.room c.args.free (under_free _ c.drop_form-quoted.ensures.room m), s, c.drop_form-quoted.ensures.shorter, c.in_ok-channel-in-Ok-Quoted.ensures.shorter)
+    let h = c.in_ok-channel-in-Ok-Quoted.ensures.room c.args.free (under_free _ c.drop_form-quoted.ensures.room m) in
+    record { channel = omega (arith, h, c.ranges.free); args = grows _ c.row-args.ensures.room (omega (arith, c.ranges.free)) }

@@ -18,8 +18,8 @@ decreases-binds_tail l = 128 * length l.self.now.cursor.rest.now + 3
 abbrev pub decreases-block : goal.decreases-block
 decreases-block l = 128 * length l.self.now.cursor.rest.now + 2
 
-abbrev pub decreases-block-loop-self : goal.decreases-block-loop-self
-decreases-block-loop-self l = length l.self.cursor.rest.now
+abbrev pub decreases-block-each : goal.decreases-block-each
+decreases-block-each l = length l.self.cursor.rest.now
 
 abbrev pub decreases-case : goal.decreases-case
 decreases-case l = 128 * length l.self.now.cursor.rest.now + 120
@@ -35,9 +35,6 @@ decreases-for_form l = 128 * length l.self.now.cursor.rest.now + 34
 
 abbrev pub decreases-form : goal.decreases-form
 decreases-form l = 128 * length l.self.now.cursor.rest.now + 35
-
-abbrev pub decreases-group : goal.decreases-group
-decreases-group l = 128 * length l.self.now.cursor.rest.now + 1
 
 abbrev pub decreases-if_form : goal.decreases-if_form
 decreases-if_form l = 128 * length l.self.now.cursor.rest.now + 34
@@ -72,9 +69,6 @@ decreases-name l = 128 * length l.self.now.cursor.rest.now + 2
 abbrev pub decreases-new_form : goal.decreases-new_form
 decreases-new_form l = 128 * length l.self.now.cursor.rest.now + 34
 
-abbrev pub decreases-next_pair : goal.decreases-next_pair
-decreases-next_pair l = 128 * length l.self.now.cursor.rest.now + 1
-
 abbrev pub decreases-one : goal.decreases-one
 decreases-one l = 128 * length l.self.now.cursor.rest.now + 37
 
@@ -93,17 +87,14 @@ decreases-pattern_alternative-loop-self l = length l.self.cursor.rest.now
 abbrev pub decreases-pattern_block : goal.decreases-pattern_block
 decreases-pattern_block l = 128 * length l.self.now.cursor.rest.now + 87
 
-abbrev pub decreases-pattern_block-loop-self : goal.decreases-pattern_block-loop-self
-decreases-pattern_block-loop-self l = length l.self.cursor.rest.now
+abbrev pub decreases-pattern_block-each : goal.decreases-pattern_block-each
+decreases-pattern_block-each l = length l.self.cursor.rest.now
 
 abbrev pub decreases-pattern_conjunction : goal.decreases-pattern_conjunction
 decreases-pattern_conjunction l = 128 * length l.self.now.cursor.rest.now + 68
 
 abbrev pub decreases-pattern_conjunction-loop-self : goal.decreases-pattern_conjunction-loop-self
 decreases-pattern_conjunction-loop-self l = length l.self.cursor.rest.now
-
-abbrev pub decreases-pattern_group : goal.decreases-pattern_group
-decreases-pattern_group l = 128 * length l.self.now.cursor.rest.now + 1
 
 abbrev pub decreases-pattern_name : goal.decreases-pattern_name
 decreases-pattern_name l = 128 * length l.self.now.cursor.rest.now + 93
@@ -113,9 +104,6 @@ decreases-pattern_not l = 128 * length l.self.now.cursor.rest.now + 66
 
 abbrev pub decreases-pattern_one : goal.decreases-pattern_one
 decreases-pattern_one l = 128 * length l.self.now.cursor.rest.now + 75
-
-abbrev pub decreases-pattern_pairs_more : goal.decreases-pattern_pairs_more
-decreases-pattern_pairs_more l = 128 * length l.self.now.cursor.rest.now + 86
 
 abbrev pub decreases-pattern_par : goal.decreases-pattern_par
 decreases-pattern_par l = 128 * length l.self.now.cursor.rest.now + 80
@@ -128,9 +116,6 @@ decreases-pattern_row l = 128 * length l.self.now.cursor.rest.now + 90
 
 abbrev pub decreases-pattern_row-each : goal.decreases-pattern_row-each
 decreases-pattern_row-each l = length l.self.cursor.rest.now
-
-abbrev pub decreases-pattern_sent : goal.decreases-pattern_sent
-decreases-pattern_sent l = 128 * length l.self.now.cursor.rest.now + 91
 
 abbrev pub decreases-pattern_sequence : goal.decreases-pattern_sequence
 decreases-pattern_sequence l = 128 * length l.self.now.cursor.rest.now + 90
@@ -147,17 +132,14 @@ decreases-row l = 128 * length l.self.now.cursor.rest.now + 40
 abbrev pub decreases-row-each : goal.decreases-row-each
 decreases-row-each l = length l.self.cursor.rest.now
 
-abbrev pub decreases-sent : goal.decreases-sent
-decreases-sent l = 128 * length l.self.now.cursor.rest.now + 41
-
 abbrev pub decreases-two : goal.decreases-two
 decreases-two l = 128 * length l.self.now.cursor.rest.now + 36
 
-abbrev pub invariant-block-loop-self : goal.invariant-block-loop-self
-invariant-block-loop-self l = record {
+abbrev pub invariant-block-each : goal.invariant-block-each
+invariant-block-each l = record {
   turns : (out : Outcome) → Runs Tutorial l.free (last (Sort.Pairs (pairs_written l.pairs.value.items) l.pairs.height)) (view l.self.cursor.rest.now) out → Runs Tutorial l.free (rule Tutorial (choose (Sort.BraceTail (of_proc l.fn.inner)) (view l.fn.self.cursor.rest.now))) (view l.fn.self.cursor.rest.now) out;
   room : l.pairs.height < l.free;
-  shorter : length l.self.cursor.rest.now ≤ length l.fn.self.cursor.rest.now;
+  shorter : length l.self.cursor.rest.now < length l.fn.self.cursor.rest.now;
 }
 
 abbrev pub invariant-left-each : goal.invariant-left-each
@@ -202,11 +184,11 @@ invariant-pattern_alternative-loop-self l = record {
   shorter : length l.self.cursor.rest.now ≤ length l.fn.self.cursor.rest.now;
 }
 
-abbrev pub invariant-pattern_block-loop-self : goal.invariant-pattern_block-loop-self
-invariant-pattern_block-loop-self l = record {
+abbrev pub invariant-pattern_block-each : goal.invariant-pattern_block-each
+invariant-pattern_block-each l = record {
   turns : (out : Outcome) → Runs Tutorial l.free (last (Sort.PPairs (pat_pairs_written l.pairs.value.items) l.pairs.height)) (view l.self.cursor.rest.now) out → Runs Tutorial l.free (rule Tutorial (choose (Sort.PBraceTail (of_pat l.fn.first)) (view l.fn.self.cursor.rest.now))) (view l.fn.self.cursor.rest.now) out;
   room : l.pairs.height < l.free;
-  shorter : length l.self.cursor.rest.now ≤ length l.fn.self.cursor.rest.now;
+  shorter : length l.self.cursor.rest.now < length l.fn.self.cursor.rest.now;
 }
 
 abbrev pub invariant-pattern_conjunction-loop-self : goal.invariant-pattern_conjunction-loop-self
