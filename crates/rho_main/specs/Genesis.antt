@@ -37,6 +37,6 @@ FoundsAll name a b = (b.files ≡ with_files (entries_of name) a.files) × GrewB
 pub record IsGenesis (name : List ℕ) (a b : World) (s : Status) : Type 0 where
   pub ends : EndsGenesis s
   pub all : s ≡ Done → FoundsAll name a b
-  pub part : OnHalt s (StopsOnTheWay (entries_of name) empty_line a.files b.files a.keeps b.keeps a.bytes b.bytes)
+  pub part : OnHalt s (StopsOnTheWay (entries_of name) empty_line a b)
   pub write_fault : s ≡ WriteFault → Rose a.keeps b.keeps ⊎ Rose a.puts b.puts
   pub complete : ¬ (Rose a.keeps b.keeps) → ¬ (Rose a.puts b.puts) → (s ≡ Done) ⊎ (s ≡ NoMemory)

@@ -1,6 +1,6 @@
 ghost use Rattle.std.specs.Prelude.{◌≡◌, ◌⊎◌};
 ghost use Rattle.rho_outside.specs.Causes.{Rose};
-ghost use Rattle.run_reports.specs.Stops.{StopsOnTheWay};
+ghost use Rattle.run_reports.specs.Stops.{StopsOnTheWay, WriteFailed};
 ghost use Rattle.run_status.specs.Endings.{OnHalt};
 ghost use Rattle.rho_main.specs.Genesis.{IsGenesis, EndsGenesis, FoundsAll, empty_line, entries_of};
 ghost use Rattle.run_reports.specs.World.{world};
@@ -35,10 +35,10 @@ fn genesis_made<S: Shelf, O: Sink>(alloc: Global, name: &str, shelf: &mut S, out
     ensures all { result ≡ Status.Done → FoundsAll name.now
         (world (S.files shelf.old) (S.fetch_faults shelf.old) (S.keep_faults shelf.old) (O.written out.old) (O.faults out.old))
         (world (S.files shelf.new) (S.fetch_faults shelf.new) (S.keep_faults shelf.new) (O.written out.new) (O.faults out.new)) }
-    ensures part { OnHalt result (StopsOnTheWay (entries_of name.now) empty_line (S.files shelf.old) (S.files shelf.new)
-        (S.keep_faults shelf.old) (S.keep_faults shelf.new) (O.written out.old) (O.written out.new)) }
-    ensures write_fault { result ≡ Status.WriteFault → Rose (S.keep_faults shelf.old) (S.keep_faults shelf.new) ⊎
-        Rose (O.faults out.old) (O.faults out.new) }
+    ensures part { OnHalt result (StopsOnTheWay (entries_of name.now) empty_line
+        (world (S.files shelf.old) (S.fetch_faults shelf.old) (S.keep_faults shelf.old) (O.written out.old) (O.faults out.old))
+        (world (S.files shelf.new) (S.fetch_faults shelf.new) (S.keep_faults shelf.new) (O.written out.new) (O.faults out.new))) }
+    ensures write_fault { result ≡ Status.WriteFault → WriteFailed S.keep_faults shelf.old shelf.new O.faults out.old out.new }
     ensures complete { ¬ (Rose (S.keep_faults shelf.old) (S.keep_faults shelf.new)) → ¬ (Rose (O.faults out.old) (O.faults out.new))
         → (result ≡ Status.Done) ⊎ (result ≡ Status.NoMemory) }
 {

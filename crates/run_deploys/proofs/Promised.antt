@@ -53,8 +53,8 @@ earlier-ends told names limit before mid now l (status.Replay f) h = absurd h
 module _ (names : RunRequest) (limit : ℕ) where
   -- what the inputs are refused for is said, and a deploy that is refused nothing ended
   pub is_deploy : (a b : World) (s : Status) → DeployEnds a.files names limit a.fetches b.fetches s → OnRefusal s ((b.files ≡ a.files) × (b.bytes ≡ a.bytes))
-      → (s ≡ status.WriteFault → Rose a.keeps b.keeps ⊎ Rose a.puts b.puts) → OnVerdict s (Leaves s names limit a.files b.files a.bytes b.bytes)
-      → OnHalt s (LeavesInPart names limit a.files b.files a.keeps b.keeps a.bytes b.bytes) → IsDeploy names limit a b s
+      → (s ≡ status.WriteFault → Rose a.keeps b.keeps ⊎ Rose a.puts b.puts) → OnVerdict s (Leaves s names limit a b)
+      → OnHalt s (LeavesInPart names limit a b) → IsDeploy names limit a b s
   is_deploy a b s ends stays write_fault verdict part =
       let told = a.files in
       let before = a.fetches in
@@ -77,7 +77,7 @@ module _ (names : RunRequest) (limit : ℕ) where
   pub refused_deploy : (a b : World) → HasFetched a b → (s : Status) → RefusedFor a.files names limit a.fetches b.fetches s → IsDeploy names limit a b s
   refused_deploy a b f s h =
       let x = on_refused (λ (r : Status). RefusedFor a.files names limit a.fetches b.fetches r) (λ n. n) (λ n. n) (λ n. n) (λ n. n)
-      ((b.files ≡ a.files) × (b.bytes ≡ a.bytes)) (Leaves s names limit a.files b.files a.bytes b.bytes) (LeavesInPart names limit a.files b.files a.keeps b.keeps a.bytes b.bytes)
+      ((b.files ≡ a.files) × (b.bytes ≡ a.bytes)) (Leaves s names limit a b) (LeavesInPart names limit a b)
       (Rose a.keeps b.keeps ⊎ Rose a.puts b.puts) (f.files, f.bytes) (λ files e. inl (f.files, f.bytes)) s h in
       is_deploy a b s (refused_ends a.files names limit a.fetches b.fetches s h) x.0 x.1.1.1 x.1.0 x.1.1.0
 

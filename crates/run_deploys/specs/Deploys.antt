@@ -29,5 +29,5 @@ pub record IsDeploy (names : RunRequest) (limit : ℕ) (a b : World) (s : Status
       → ¬ (Rose a.fetches b.fetches) → ¬ (Rose a.keeps b.keeps) → ¬ (Rose a.puts b.puts) → HasEnded s))
   pub stays : OnRefusal s ((b.files ≡ a.files) × (b.bytes ≡ a.bytes))
   pub write_fault : s ≡ WriteFault → Rose a.keeps b.keeps ⊎ Rose a.puts b.puts
-  pub verdict : OnVerdict s (Leaves s names limit a.files b.files a.bytes b.bytes)
-  pub part : OnHalt s (LeavesInPart names limit a.files b.files a.keeps b.keeps a.bytes b.bytes)
+  pub verdict : OnVerdict s (Leaves s names limit a b)
+  pub part : OnHalt s (LeavesInPart names limit a b)

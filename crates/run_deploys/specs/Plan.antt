@@ -1,5 +1,5 @@
 -- What a plan of a deploy holds.
-use Rattle.std.specs.Prelude.{◌≡◌, ◌≢◌, ◌++◌, ℕ, List, length}
+use Rattle.std.specs.Prelude.{◌≡◌, ◌≢◌, ◌++◌, ℕ, List, [], ◌∷◌, length}
 use Rattle.calculus.specs.Log.{log_text}
 use Rattle.calculus.specs.Root.{root}
 use Rattle.calculus.specs.Rows.{Row}
@@ -11,10 +11,15 @@ use Rattle.run_verdict.specs.View.{verdict_of}
 use Rattle.run_verdict.specs.declared.verdict.Verdict.TheVariants.{Done}
 use Rattle.play_outcome.specs.declared.played.Played.{Played}
 use Rattle.run_reports.specs.Report.{report_line}
+use Rattle.command_words.specs.Commands.{RunRequest}
 use Rattle.run_inputs.specs.Inputs.{Task}
 use Rattle.run_deploys.specs.Runs.{Left, header_of, printed, IsLeftBySource}
 use Rattle.run_deploys.specs.Ends.{bytes_of}
 use Rattle.run_deploys.specs.declared.deploys.Plan.{Plan}
+
+-- the files of a plan under these names, in the order in which they are kept
+abbrev pub planned : RunRequest → Plan → List (List ℕ × List ℕ)
+planned names p = (names.log, p.log.items) ∷ (names.next, p.next.items) ∷ []
 
 -- the bytes of a log, of a next state and of what is put that a run of this task left under this limit
 pub record IsPlan (limit : ℕ) (task : Task) (p : Plan) : Type 0 where

@@ -1,11 +1,9 @@
-ghost use Rattle.std.specs.Prelude.{◌≡◌, ◌≤◌, ◌⊎◌, ◌∷◌, [], All, IfOk, OnOk, OnErr, IsErrOf, length, string_bytes};
+ghost use Rattle.std.specs.Prelude.{◌≡◌, ◌≤◌, All, IfOk, OnOk, OnErr, IsErrOf, length};
 ghost use Rattle.calculus.specs.Form.{IsClosed};
 ghost use Rattle.calculus.specs.Limits.{most_limit as greatest_limit};
 ghost use Rattle.sources.specs.Sources.{IsSourceOf};
-ghost use Rattle.rho_outside.specs.Causes.{Rose};
 ghost use Rattle.rho_outside.specs.Put.{GrewBy};
-ghost use Rattle.rho_outside.specs.Kept.{with_files};
-ghost use Rattle.run_reports.specs.Stops.{StopsOnTheWay};
+ghost use Rattle.run_reports.specs.Stops.{SetsAll, StopsOnTheWay, WriteFailed};
 ghost use Rattle.command_words.specs.Answers.{run_of};
 ghost use Rattle.event_log.specs.View.{TakesInRange};
 ghost use Rattle.run_inputs.specs.Given.{task_of, AreAccepted, IsBase};
@@ -13,7 +11,7 @@ ghost use Rattle.run_inputs.specs.Ended.{DeployEnds};
 ghost use Rattle.run_status.specs.Endings.{OnRefusal, OnHalt, OnVerdict};
 ghost use Rattle.run_deploys.specs.Deploys.{IsDeploy};
 ghost use Rattle.run_deploys.specs.Ends.{Leaves, LeavesInPart};
-ghost use Rattle.run_deploys.specs.Plan.{IsMade, IsPlan};
+ghost use Rattle.run_deploys.specs.Plan.{IsMade, IsPlan, planned};
 ghost use Rattle.run_reports.specs.World.{world};
 
 use crate::next::{next_state, printed};
@@ -124,16 +122,12 @@ fn write_plan<S: Shelf, O: Sink>(
     shelf: &mut S,
     out: &mut O,
 ) -> Result<(), Halt>
-    ensures kept { OnOk result (S.files shelf.new ≡ with_files
-        ((string_bytes run.now.log, plan.now.log.items) ∷ (string_bytes run.now.next, plan.now.next.items) ∷ [])
-        (S.files shelf.old)) }
+    ensures kept { OnOk result (SetsAll (planned (run_of run.now) plan.now) S.files shelf.old shelf.new) }
     ensures put { OnOk result (GrewBy plan.now.bytes.items (O.written out.old) (O.written out.new)) }
-    ensures part { OnErr result (StopsOnTheWay ((string_bytes run.now.log, plan.now.log.items) ∷
-        (string_bytes run.now.next, plan.now.next.items) ∷ []) plan.now.bytes.items (S.files shelf.old)
-        (S.files shelf.new) (S.keep_faults shelf.old) (S.keep_faults shelf.new) (O.written out.old)
-        (O.written out.new)) }
-    ensures cause { IsErrOf result Halt.WriteFault → Rose (S.keep_faults shelf.old) (S.keep_faults shelf.new) ⊎
-        Rose (O.faults out.old) (O.faults out.new) }
+    ensures part { OnErr result (StopsOnTheWay (planned (run_of run.now) plan.now) plan.now.bytes.items
+        (world (S.files shelf.old) (S.fetch_faults shelf.old) (S.keep_faults shelf.old) (O.written out.old) (O.faults out.old))
+        (world (S.files shelf.new) (S.fetch_faults shelf.new) (S.keep_faults shelf.new) (O.written out.new) (O.faults out.new))) }
+    ensures cause { IsErrOf result Halt.WriteFault → WriteFailed S.keep_faults shelf.old shelf.new O.faults out.old out.new }
     ensures fetch_faults { S.fetch_faults shelf.new ≡ S.fetch_faults shelf.old }
 {
     let log = (run.log.as_str(), plan.log.as_slice());
@@ -163,12 +157,13 @@ fn deploy_run<R: Threads + Wait + Sync, S: Shelf, O: Sink, G: Gate + Sync>(
     requires inputs { AreAccepted (S.files shelf.now) (run_of run.now) limit inputs }
     ensures ends { DeployEnds (S.files shelf.old) (run_of run.now) limit (S.fetch_faults shelf.old) (S.fetch_faults shelf.new) result }
     ensures stays { OnRefusal result ((S.files shelf.new ≡ S.files shelf.old) × (O.written out.new ≡ O.written out.old)) }
-    ensures write_fault { result ≡ Status.WriteFault → Rose (S.keep_faults shelf.old) (S.keep_faults shelf.new) ⊎
-        Rose (O.faults out.old) (O.faults out.new) }
-    ensures verdict { OnVerdict result (Leaves result (run_of run.now) limit (S.files shelf.old) (S.files shelf.new)
-        (O.written out.old) (O.written out.new)) }
-    ensures part { OnHalt result (LeavesInPart (run_of run.now) limit (S.files shelf.old) (S.files shelf.new)
-        (S.keep_faults shelf.old) (S.keep_faults shelf.new) (O.written out.old) (O.written out.new)) }
+    ensures write_fault { result ≡ Status.WriteFault → WriteFailed S.keep_faults shelf.old shelf.new O.faults out.old out.new }
+    ensures verdict { OnVerdict result (Leaves result (run_of run.now) limit
+        (world (S.files shelf.old) (S.fetch_faults shelf.old) (S.keep_faults shelf.old) (O.written out.old) (O.faults out.old))
+        (world (S.files shelf.new) (S.fetch_faults shelf.new) (S.keep_faults shelf.new) (O.written out.new) (O.faults out.new))) }
+    ensures part { OnHalt result (LeavesInPart (run_of run.now) limit
+        (world (S.files shelf.old) (S.fetch_faults shelf.old) (S.keep_faults shelf.old) (O.written out.old) (O.faults out.old))
+        (world (S.files shelf.new) (S.fetch_faults shelf.new) (S.keep_faults shelf.new) (O.written out.new) (O.faults out.new))) }
 {
     let plan = match make_plan(rt, alloc, gate, worker_count(run.workers), inputs, limit) {
         Ok(plan) => plan,

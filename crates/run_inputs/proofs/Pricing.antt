@@ -7,7 +7,8 @@ use Rattle.phlo_meter.specs.PriceTable.{prices_of}
 use Rattle.phlo_meter.specs.declared.fault.PriceFault.{PriceFault}
 use Rattle.phlo_meter.specs.declared.fault.PriceFault.TheVariants as faults
 use Rattle.run_inputs.specs.Inputs.{bad_prices, or_refused}
-use Rattle.run_inputs.specs.Refused.{price_refusal, PriceCause, PriceStatusOf}
+use Rattle.run_inputs.specs.Refused.{PriceCause}
+use Rattle.run_status.specs.Statuses.{price_refusal, PriceStatusOf}
 use Rattle.run_status.specs.declared.status.Status.{Status}
 
 -- a fault that is a refusal is that of the text

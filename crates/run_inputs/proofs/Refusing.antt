@@ -1,6 +1,9 @@
 -- Why inputs are refused, from what each call found.
-use Rattle.std.proofs.Common.{◌≡◌, ℕ, List, Result, Ok, Err, Option, Some, None, IfSome, sym, ap, subst}
+use Rattle.std.proofs.Common.{◌≡◌, ◌⊎◌, inl, inr, ℕ, List, Result, Ok, Err, Option, Some, None, IfSome, sym, ap, subst}
 use Rattle.std.specs.Result.{IfOk}
+use Rattle.event_log.specs.Reading.{log_of}
+use Rattle.event_log.specs.declared.fault.LogFault.{LogFault}
+use Rattle.event_log.specs.declared.fault.LogFault.TheVariants as logged
 use Rattle.rho_outside.specs.FileMap.{FileMap}
 use Rattle.sources.specs.Faults.{refusal_of}
 use Rattle.sources.specs.Sources as sources
@@ -12,11 +15,13 @@ use Rattle.state_reader.specs.Refused.{IsRefused}
 use Rattle.state_reader.specs.declared.fault.StateFault.{StateFault}
 use Rattle.state_reader.specs.declared.fault.StateFault.TheVariants as stated
 use Rattle.run_inputs.specs.Runnable.{MayHaveState}
-use Rattle.run_inputs.specs.Refused.{SourceCause, StateCause, StateStatusOf, StatusOf}
+use Rattle.run_inputs.specs.Refused.{SourceCause, StateCause}
+use Rattle.run_inputs.specs.Given.{LogCause}
+use Rattle.run_status.specs.Statuses.{LogStatusOf, SourceStatusOf, StateStatusOf}
 use Rattle.run_status.specs.declared.status.Status.{Status}
 
 -- a fault of a source is why it is refused
-pub fault_cause : (source : List ℕ) (f : SourceFault) (o : Option sources.Refusal) (s : Status) → refusal_of f ≡ o → IfSome o (sources.IsRefused source) → StatusOf f o s → SourceCause source s
+pub fault_cause : (source : List ℕ) (f : SourceFault) (o : Option sources.Refusal) (s : Status) → refusal_of f ≡ o → IfSome o (sources.IsRefused source) → SourceStatusOf f o s → SourceCause source s
 fault_cause source f None s e h k = let P = λ (x : Status). SourceCause source x in subst P (sym k) tt
 fault_cause source f (Some r) s e h k = let P = λ (x : Status). SourceCause source x in subst P (sym k) (r, (e, h))
 
@@ -27,6 +32,18 @@ state_cause bytes (stated.NotCanonical at) s h k = subst (StateCause bytes) (sym
 state_cause bytes (stated.WrongRoot stored found) s h k = subst (StateCause bytes) (sym k) (λ e. cc, h)
 state_cause bytes (stated.Reducible cont taken) s h k = subst (StateCause bytes) (sym k) (λ e. cc, h)
 state_cause bytes stated.NoMemory s h k = subst (StateCause bytes) (sym k) tt
+
+-- a fault of a log is why its bytes are refused
+pub log_cause : (bytes : List ℕ) (f : LogFault) (s : Status) → (f ≡ logged.NoMemory) ⊎ (log_of bytes ≡ Err f) → LogStatusOf f s → LogCause bytes s
+log_cause bytes logged.NoMemory s h k = subst (LogCause bytes) (sym k) tt
+log_cause bytes (logged.Short at) s (inl e) k = absurd cc
+log_cause bytes (logged.Short at) s (inr h) k = subst (LogCause bytes) (sym k) h
+log_cause bytes (logged.Bad at) s (inl e) k = absurd cc
+log_cause bytes (logged.Bad at) s (inr h) k = subst (LogCause bytes) (sym k) h
+log_cause bytes (logged.Version found) s (inl e) k = absurd cc
+log_cause bytes (logged.Version found) s (inr h) k = subst (LogCause bytes) (sym k) h
+log_cause bytes (logged.TooLong entries) s (inl e) k = absurd cc
+log_cause bytes (logged.TooLong entries) s (inr h) k = subst (LogCause bytes) (sym k) h
 
 -- what is refused first stays refused
 pub bind-err : {A B : Type 0} (r : Result A Refusal) (f : A → Result B Refusal) (x : Refusal) → r ≡ Err x → (r >>= f) ≡ Err x

@@ -1,20 +1,18 @@
 -- When a deploy ends before it runs.
-use Rattle.std.specs.Prelude.{◌≡◌, ℕ, ◌<◌, ◌⊎◌, List, IsOk, IsOkAnd, Err, Option, Some, None, ⊤, string_bytes}
+use Rattle.std.specs.Prelude.{◌≡◌, ℕ, ◌<◌, ◌⊎◌, List, IsOk, IsOkAnd, Err, Option, Some, ⊤}
 use Rattle.base_states.specs.Bases.{IsNoState}
-use Rattle.phlo_meter.specs.PriceTable as meter
 use Rattle.phlo_meter.specs.declared.fault.PriceFault.{PriceFault}
-use Rattle.phlo_meter.specs.declared.fault.PriceFault.TheVariants as faults
 use Rattle.sources.specs.Faults.{refusal_of}
 use Rattle.sources.specs.Sources as sources
 use Rattle.sources.specs.declared.fault.SourceFault.{SourceFault}
 use Rattle.state_reader.specs.declared.fault.StateFault.{StateFault}
-use Rattle.state_reader.specs.declared.fault.StateFault.TheVariants as stated
 use Rattle.rho_outside.specs.FileMap.{FileMap, Lacks, GivesAtLeast}
 use Rattle.rho_outside.specs.Causes.{Rose}
 use Rattle.rho_outside.specs.Told.{Told}
 use Rattle.command_words.specs.Commands.{RunRequest}
 use Rattle.run_inputs.specs.Inputs.{Refusal, missing, too_large, bad_prices, bad_limit, priced, name_of, size_limit, accepted_state, accepted_prices, accepted_limit, accepted}
 use Rattle.run_inputs.specs.Runnable.{HasState, MayHaveState}
+use Rattle.run_status.specs.Statuses.{price_refusal}
 use Rattle.run_status.specs.declared.status.Input.{Input}
 use Rattle.run_status.specs.declared.status.Input.TheVariants.{State, Prices, Source}
 use Rattle.run_status.specs.declared.status.Status.{Status}
@@ -26,15 +24,6 @@ InputCause told name max input before now (status.ReadFault i) = (i ≡ input) �
 InputCause told name max input before now (status.TooLarge i seen most) = (i ≡ input) × ((most ≡ max) × ((max < seen) × GivesAtLeast told name seen))
 InputCause told name max input before now status.NoMemory = ⊤
 InputCause told name max input before now _ = ⊥
-
--- what a price text is refused for that has this fault; nothing where memory ran out
-abbrev pub price_refusal : PriceFault → Option meter.Refusal
-price_refusal faults.NotToml = Some meter.not_toml
-price_refusal (faults.MissingKey key) = Some (meter.missing (string_bytes key))
-price_refusal (faults.NotInteger key) = Some (meter.not_integer (string_bytes key))
-price_refusal (faults.OutOfRange key value) = Some (meter.out_of_range (string_bytes key) value)
-price_refusal (faults.UnknownKey key) = Some (meter.unknown (string_bytes key))
-price_refusal faults.NoMemory = None
 
 -- a refusal of files is that of a price text with this fault
 abbrev pub IsPriceFault : PriceFault → Refusal → Type 0
@@ -120,21 +109,6 @@ abbrev pub SaysNoState : Status → Type 0
 SaysNoState (status.State f) = ⊤
 SaysNoState status.NoMemory = ⊤
 SaysNoState _ = ⊥
-
--- the status of a fault of a state, which may be want of memory
-abbrev pub StateStatusOf : StateFault → Status → Type 0
-StateStatusOf stated.NoMemory s = s ≡ status.NoMemory
-StateStatusOf f s = s ≡ status.State f
-
--- the status of a fault of a source: want of memory where it says no refusal
-abbrev pub StatusOf : SourceFault → Option sources.Refusal → Status → Type 0
-StatusOf f None s = s ≡ status.NoMemory
-StatusOf f (Some r) s = s ≡ status.Source f
-
--- the status of a fault of a price text: want of memory where it says no refusal
-abbrev pub PriceStatusOf : PriceFault → Option meter.Refusal → Status → Type 0
-PriceStatusOf f None s = s ≡ status.NoMemory
-PriceStatusOf f (Some r) s = s ≡ status.Prices f
 
 -- a status says this refusal of a source; want of memory may stand in its place
 abbrev pub SaysSource : sources.Refusal → Status → Type 0

@@ -1,13 +1,12 @@
 ghost use Rattle.std.specs.Prelude.{◌≡◌, ◌≤◌, Ok, IsOkAnd, IfOk, IfErr, length, map};
 ghost use Rattle.event_log.specs.Reading.{log_of};
 ghost use Rattle.event_log.specs.View.{header_of, step_of, IsWritable};
-ghost use Rattle.sources.specs.Faults.{refusal_of};
 ghost use Rattle.calculus.specs.Form.{IsClosed};
 ghost use Rattle.calculus.specs.Limits.{most_limit as greatest_limit};
 ghost use Rattle.rho_outside.specs.Told.{Told};
 ghost use Rattle.command_words.specs.Answers.{run_of};
 ghost use Rattle.run_inputs.specs.Inputs.{accepted_source};
-ghost use Rattle.run_inputs.specs.Refused.{RefusedFor, SourceCause, StatusOf};
+ghost use Rattle.run_inputs.specs.Refused.{RefusedFor, SourceCause};
 ghost use Rattle.run_inputs.specs.Replaying.{ReplayRefusedFor};
 ghost use Rattle.run_inputs.specs.Runnable.{HasState};
 ghost use Rattle.run_inputs.specs.Given.{task_of, IsBase, AreAccepted, AreReplayAccepted, LogCause};
@@ -15,16 +14,13 @@ ghost use Rattle.sources.specs.Sources.{IsSourceOf};
 
 use crate::fetch::{Base, accept_limit, accept_prices, take};
 use command_words::Run;
-use event_log::{Log, LogFault, read_log};
+use event_log::{Log, read_log};
 use price_table::Prices;
 use readable_logs::laws::read_logs_are_writable;
-use rho_lexer::LexFault;
 use rho_outside::Shelf;
-use rho_parser::ParseFault;
 use rho_term::Term;
 use run_status::{Input, Status};
-use scope_check::ScopeFault;
-use sources::{SourceFault, read_source};
+use sources::read_source;
 use std::alloc::Global;
 
 /// The greatest number of bytes of a source.
@@ -49,28 +45,13 @@ pub struct ReplayInputs {
     pub log: Log,
 }
 
-/// The status of what a source is refused for, or that memory is wanted.
-fn status_of_fault(fault: SourceFault) -> Status
-    ensures { StatusOf fault (refusal_of fault) result }
-{
-    match fault {
-        SourceFault::Lex(LexFault::NoMemory) => Status::NoMemory,
-        SourceFault::Parse(ParseFault::NoMemory) => Status::NoMemory,
-        SourceFault::Scope(ScopeFault::NoMemory) => Status::NoMemory,
-        fault => Status::Source(fault),
-    }
-}
-
 /// The process of a source.
 fn accept_term(alloc: Global, source: &[u8]) -> Result<Term, Status>
     ensures term { IfOk result (IsSourceOf source.now) }
     ensures closed { IfOk result IsClosed }
     ensures cause { IfErr result (SourceCause source.now) }
 {
-    match read_source(alloc, source) {
-        Ok(term) => Ok(term),
-        Err(fault) => Err(status_of_fault(fault)),
-    }
+    Ok(read_source(alloc, source)?)
 }
 
 /// The inputs of a state, prices and a source's bytes.
@@ -128,18 +109,14 @@ fn accept_replay_source<S: Shelf>(alloc: Global, shelf: &mut S, run: &Run) -> Re
     inputs_of(alloc, base, prices, source)
 }
 
-/// The log of these bytes. Want of memory has a status of its own.
+/// The log of these bytes.
 fn log_of_bytes(alloc: Global, bytes: &[u8]) -> Result<Log, Status>
     ensures read { IfOk result (λ log. log_of bytes.now ≡ Ok (header_of log.header, map step_of log.steps.items)) }
     ensures writable { IfOk result IsWritable }
     ensures refused { IfErr result (LogCause bytes.now) }
 {
     read_logs_are_writable();
-    match read_log(alloc, bytes) {
-        Ok(log) => Ok(log),
-        Err(LogFault::NoMemory) => Err(Status::NoMemory),
-        Err(fault) => Err(Status::Log(fault)),
-    }
+    Ok(read_log(alloc, bytes)?)
 }
 
 /// Fetches and checks what a replay needs: the state, the prices, the source and the log.

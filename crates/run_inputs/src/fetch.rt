@@ -6,13 +6,13 @@ ghost use Rattle.rho_outside.specs.Told.{Told};
 ghost use Rattle.command_words.specs.Answers.{run_of};
 ghost use Rattle.run_inputs.specs.Inputs.{priced, accepted_state, accepted_prices, accepted_limit};
 ghost use Rattle.run_inputs.specs.Given.{IsBase};
-ghost use Rattle.run_inputs.specs.Refused.{price_refusal, InputCause, PriceCause, PriceStatusOf, PricesRefusedFor, RefusedFor, StateCause, StateStatusOf};
+ghost use Rattle.run_inputs.specs.Refused.{InputCause, PriceCause, PricesRefusedFor, RefusedFor, StateCause};
 ghost use Rattle.run_inputs.specs.Runnable.{HasState};
 
-use base_states::{StateFault, read_base};
+use base_states::read_base;
 use checkpoint::Checkpoint;
 use command_words::Run;
-use phlo_meter::{PriceFault, read_prices};
+use phlo_meter::read_prices;
 use price_table::{Prices, most_limit};
 use rho_outside::{FetchFault, Shelf};
 use run_status::{Input, Status};
@@ -53,26 +53,14 @@ pub(crate) fn take<S: Shelf>(
     }
 }
 
-/// The status of what the bytes of a state are refused for, or that memory is wanted.
-fn status_of_state_fault(fault: StateFault) -> Status
-    ensures { StateStatusOf fault result }
-{
-    match fault {
-        StateFault::NoMemory => Status::NoMemory,
-        fault => Status::State(fault),
-    }
-}
-
 /// The state whose text these bytes are.
 fn base_of(alloc: Global, text: Vec<u8>) -> Result<Base, Status>
     ensures text { IfOk result (λ base. base.text.items ≡ text.items) }
     ensures state { IfOk result IsBase }
     ensures cause { IfErr result (StateCause text.items) }
 {
-    match read_base(alloc, text.as_slice()) {
-        Ok(checkpoint) => Ok(Base { text, checkpoint }),
-        Err(fault) => Err(status_of_state_fault(fault)),
-    }
+    let checkpoint = read_base(alloc, text.as_slice())?;
+    Ok(Base { text, checkpoint })
 }
 
 /// Fetches and checks the state.
@@ -90,25 +78,12 @@ fn accept_state<S: Shelf>(alloc: Global, shelf: &mut S, run: &Run) -> Result<Bas
     base_of(alloc, text)
 }
 
-/// The status of what a price text is refused for, or that memory is wanted.
-fn status_of_price_fault(fault: PriceFault) -> Status
-    ensures { PriceStatusOf fault (price_refusal fault) result }
-{
-    match fault {
-        PriceFault::NoMemory => Status::NoMemory,
-        fault => Status::Prices(fault),
-    }
-}
-
 /// The prices that a text gives.
 fn prices_in(alloc: Global, text: &[u8]) -> Result<Prices, Status>
     ensures prices { IfOk result (λ prices. priced text.now ≡ Ok prices) }
     ensures refused { IfErr result (PriceCause text.now) }
 {
-    match read_prices(alloc, text) {
-        Ok(prices) => Ok(prices),
-        Err(fault) => Err(status_of_price_fault(fault)),
-    }
+    Ok(read_prices(alloc, text)?)
 }
 
 /// Fetches and checks the prices, after the state. Gives the state with them.

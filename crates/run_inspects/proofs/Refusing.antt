@@ -6,7 +6,7 @@ use Rattle.state_reader.specs.declared.fault.StateFault.TheVariants as fault
 use Rattle.state_reader.specs.Refused.{IsRefused}
 use Rattle.run_status.specs.declared.status.Status.{Status}
 use Rattle.run_status.specs.declared.status.Status.TheVariants as status
-use Rattle.run_inspects.specs.Faults.{IsStatusOf}
+use Rattle.run_status.specs.Statuses.{StateStatusOf}
 use Rattle.run_inspects.specs.Inspects.{AreGiven, RefusedFor, InspectEnds}
 
 module _ (told : Option FileMap) (name : List ℕ) (before now : ℕ) where
@@ -15,7 +15,7 @@ module _ (told : Option FileMap) (name : List ℕ) (before now : ℕ) where
   refused bytes f s g n h e = subst (RefusedFor told name before now) (sym e) (bytes, (g, (n, h)))
 
   -- bytes of the file that are refused are why the file is
-  pub fault_refuses : (bytes : List ℕ) (f : StateFault) (s : Status) → AreGiven told name bytes → IsRefused bytes f → IsStatusOf f s → RefusedFor told name before now s
+  pub fault_refuses : (bytes : List ℕ) (f : StateFault) (s : Status) → AreGiven told name bytes → IsRefused bytes f → StateStatusOf f s → RefusedFor told name before now s
   fault_refuses bytes fault.NoMemory s g h e = subst (RefusedFor told name before now) (sym e) tt
   fault_refuses bytes (fault.Short at) s g h e = refused bytes (fault.Short at) s g (λ x. cc) h e
   fault_refuses bytes (fault.NotCanonical at) s g h e = refused bytes (fault.NotCanonical at) s g (λ x. cc) h e

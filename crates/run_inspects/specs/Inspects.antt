@@ -78,6 +78,14 @@ pub record InspectIsExact (name : List ℕ) (a b : World) (s : Status) : Type 0 
   pub no_state : ¬ (Rose a.fetches b.fetches) → OnBytes a.files name (λ bytes. length bytes ≤ most → HasOwnIds bytes → (f : StateFault) → IsNoState bytes f → SaysNoState bytes s)
   pub complete : ¬ (Rose a.fetches b.fetches) → ¬ (Rose a.puts b.puts) → OnBytes a.files name (λ bytes. length bytes ≤ most → HasOwnIds bytes → IsState bytes → (s ≡ Done) ⊎ (s ≡ NoMemory))
 
+-- the output grew by the listing of the state in this file
+abbrev pub Shows : Option FileMap → List ℕ → Option (List ℕ) → Option (List ℕ) → Type 0
+Shows told name before after = WithRows told name (λ rows. GrewBy (listing rows) before after)
+
+-- nothing was put, or a part of that listing
+abbrev pub ShowsInPart : Option FileMap → List ℕ → Option (List ℕ) → Option (List ℕ) → Type 0
+ShowsInPart told name before after = (after ≡ before) ⊎ WithRows told name (λ rows. GrewByPart (listing rows) before after)
+
 -- the showing of the state in a file, from one world to the next: each end has its cause, and what the file holds is said; no file changes; where it is done the output grew by the listing of the file's state, and where it stopped on its way by a part of that, or nothing was put; a refusal puts nothing; and a write fault comes only where a put failed
 pub record IsInspect (name : List ℕ) (a b : World) (s : Status) : Type 0 where
   pub ends : InspectEnds a.files name a.fetches b.fetches s
@@ -85,6 +93,6 @@ pub record IsInspect (name : List ℕ) (a b : World) (s : Status) : Type 0 where
   pub files : b.files ≡ a.files
   pub keeps : b.keeps ≡ a.keeps
   pub stays : OnRefusal s (b.bytes ≡ a.bytes)
-  pub all : s ≡ Done → WithRows a.files name (λ rows. GrewBy (listing rows) a.bytes b.bytes)
-  pub part : OnHalt s ((b.bytes ≡ a.bytes) ⊎ WithRows a.files name (λ rows. GrewByPart (listing rows) a.bytes b.bytes))
+  pub all : s ≡ Done → Shows a.files name a.bytes b.bytes
+  pub part : OnHalt s (ShowsInPart a.files name a.bytes b.bytes)
   pub write_fault : s ≡ WriteFault → Rose a.puts b.puts

@@ -1,2 +1,1 @@
 pub mod Inspects
-pub mod Faults

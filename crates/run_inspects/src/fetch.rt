@@ -1,8 +1,7 @@
 ghost use Rattle.std.specs.Prelude.{◌≡◌, IfOk, IfErr};
-ghost use Rattle.run_inspects.specs.Faults.{IsStatusOf};
 ghost use Rattle.run_inspects.specs.Inspects.{AreGiven, HasRows, RefusedFor};
 
-use base_states::{StateFault, read_base};
+use base_states::read_base;
 use checkpoint::Checkpoint;
 use rho_outside::{FetchFault, Shelf};
 use run_status::{Input, Status};
@@ -32,16 +31,6 @@ fn fetch_text<S: Shelf>(alloc: Global, shelf: &mut S, name: &str) -> Result<Vec<
     }
 }
 
-/// The status of what the bytes of a state are refused for, or that memory is wanted.
-fn status_of(fault: StateFault) -> Status
-    ensures { IsStatusOf fault result }
-{
-    match fault {
-        StateFault::NoMemory => Status::NoMemory,
-        fault => Status::State(fault),
-    }
-}
-
 /// The state in the file of this name. Each refusal has its status.
 pub(crate) fn fetch_state<S: Shelf>(
     alloc: Global,
@@ -54,8 +43,5 @@ pub(crate) fn fetch_state<S: Shelf>(
     ensures cause { IfErr result (RefusedFor (S.files shelf.old) name.now (S.fetch_faults shelf.old) (S.fetch_faults shelf.new)) }
 {
     let text = fetch_text(alloc, shelf, name)?;
-    match read_base(alloc, text.as_slice()) {
-        Ok(checkpoint) => Ok(checkpoint),
-        Err(fault) => Err(status_of(fault)),
-    }
+    Ok(read_base(alloc, text.as_slice())?)
 }

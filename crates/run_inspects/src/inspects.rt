@@ -1,10 +1,8 @@
-ghost use Rattle.std.specs.Prelude.{◌≡◌, ◌⊎◌};
+ghost use Rattle.std.specs.Prelude.{◌≡◌};
 ghost use Rattle.rho_outside.specs.Causes.{Rose};
-ghost use Rattle.rho_outside.specs.Put.{GrewBy, GrewByPart};
-ghost use Rattle.run_inspects.specs.Inspects.{InspectEnds, IsInspect, WithRows};
+ghost use Rattle.run_inspects.specs.Inspects.{InspectEnds, IsInspect, Shows, ShowsInPart};
 ghost use Rattle.run_reports.specs.World.{world};
 ghost use Rattle.run_status.specs.Endings.{OnHalt, OnRefusal};
-ghost use Rattle.state_listing.specs.Listing.{listing};
 
 use crate::fetch::fetch_state;
 use rho_outside::{KeepFault, Shelf, Sink};
@@ -27,11 +25,8 @@ fn show_state<S: Shelf, O: Sink>(alloc: Global, name: &str, shelf: &mut S, out: 
     ensures files { S.files shelf.new ≡ S.files shelf.old }
     ensures keep_faults { S.keep_faults shelf.new ≡ S.keep_faults shelf.old }
     ensures stays { OnRefusal result (O.written out.new ≡ O.written out.old) }
-    ensures all { result ≡ Status.Done → WithRows (S.files shelf.old) name.now
-        (λ rows. GrewBy (listing rows) (O.written out.old) (O.written out.new)) }
-    ensures part { OnHalt result ((O.written out.new ≡ O.written out.old) ⊎
-        WithRows (S.files shelf.old) name.now (λ rows. GrewByPart (listing rows) (O.written out.old)
-        (O.written out.new))) }
+    ensures all { result ≡ Status.Done → Shows (S.files shelf.old) name.now (O.written out.old) (O.written out.new) }
+    ensures part { OnHalt result (ShowsInPart (S.files shelf.old) name.now (O.written out.old) (O.written out.new)) }
     ensures write_fault { result ≡ Status.WriteFault → Rose (O.faults out.old) (O.faults out.new) }
 {
     let checkpoint = match fetch_state(alloc, shelf, name) {

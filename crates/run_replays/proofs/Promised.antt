@@ -44,8 +44,8 @@ earlier-ends More told names before mid now l (status.Usage u) h = absurd h
 module _ (names : RunRequest) where
   -- what the inputs and the log are refused for is said, and a replay that is refused nothing ended
   pub is_replay : (a b : World) (s : Status) → ReplayEnds IsSettled a.files names a.fetches b.fetches s → OnRefusal s ((b.files ≡ a.files) × (b.bytes ≡ a.bytes))
-      → (s ≡ status.WriteFault → Rose a.keeps b.keeps ⊎ Rose a.puts b.puts) → OnVerdict s (ReplayLeaves s names a.files b.files a.bytes b.bytes)
-      → OnHalt s (ReplayLeavesInPart names a.files b.files a.keeps b.keeps a.bytes b.bytes) → IsReplay names a b s
+      → (s ≡ status.WriteFault → Rose a.keeps b.keeps ⊎ Rose a.puts b.puts) → OnVerdict s (ReplayLeaves s names a b)
+      → OnHalt s (ReplayLeavesInPart names a b) → IsReplay names a b s
   is_replay a b s ends stays write_fault verdict part =
       let told = a.files in
       let before = a.fetches in
@@ -70,7 +70,7 @@ module _ (names : RunRequest) where
   pub refused_replay : (a b : World) → HasFetched a b → (s : Status) → ReplayRefusedFor a.files names a.fetches b.fetches s → IsReplay names a b s
   refused_replay a b f s h =
       let x = on_refused (λ (r : Status). ReplayRefusedFor a.files names a.fetches b.fetches r) (λ n. n) (λ n. n) (λ n. n) (λ n. n)
-      ((b.files ≡ a.files) × (b.bytes ≡ a.bytes)) (ReplayLeaves s names a.files b.files a.bytes b.bytes) (ReplayLeavesInPart names a.files b.files a.keeps b.keeps a.bytes b.bytes)
+      ((b.files ≡ a.files) × (b.bytes ≡ a.bytes)) (ReplayLeaves s names a b) (ReplayLeavesInPart names a b)
       (Rose a.keeps b.keeps ⊎ Rose a.puts b.puts) (f.files, f.bytes) (λ files e. inl (f.files, f.bytes)) s h in
       is_replay a b s (replay_refused_ends a.files names a.fetches b.fetches s h) x.0 x.1.1.1 x.1.0 x.1.1.0
 

@@ -16,12 +16,13 @@ use Rattle.run_inputs.specs.Replaying.{ReplayRefusedFor}
 use Rattle.run_inputs.specs.Ended.{IsReplayable, IsReplayAccepted, ReplayEnds}
 use Rattle.run_inputs.specs.declared.acceptance.ReplayInputs.{ReplayInputs}
 use Rattle.run_reports.specs.Stops.{StopsOnTheWay}
+use Rattle.run_reports.specs.World.{World, world}
 use Rattle.run_status.specs.Endings.{status_of}
 use Rattle.run_status.specs.declared.status.Status.{Status}
 use Rattle.run_status.specs.declared.status.Status.TheVariants as status
 use Rattle.run_deploys.specs.Ends.{bytes_of}
 use Rattle.run_replays.specs.Replaying.{IsSettled, ReplayLeavesAll, ReplayLeavesSome}
-use Rattle.run_replays.specs.ReplayPlans.{IsReplayStop, IsReplayPlan}
+use Rattle.run_replays.specs.ReplayPlans.{IsReplayStop, IsReplayPlan, planned_replay}
 use Rattle.run_replays.specs.declared.replaying.ReplayPlan.{ReplayPlan}
 use Rattle.run_replays.proofs.Answering.{settled_refusal, settled_fault, settled_verdict, left_by_replay}
 
@@ -97,20 +98,20 @@ module _ (told : Option FileMap) (names : RunRequest) (before now : ℕ) where
           go ending.Exhausted k = known ending.Exhausted k
           go (ending.Faulted step kind) k = known (ending.Faulted step kind) k
 
-      module _ (new : Option FileMap) (output after : Option (List ℕ)) where
+      module _ (fetches keeps : ℕ) (output : Option (List ℕ)) (puts : ℕ) (b : World) where
         -- a plan that was written is all that a replay leaves
-        pub replay_leaves_all : (s : Status) → s ≡ status_of p.verdict → new ≡ with_files ((names.next, p.next.items) ∷ []) told → GrewBy p.bytes.items output after
-            → Told told (λ files. IsOkAnd (accepted_log names files) (ReplayLeavesAll s names told new output after))
+        pub replay_leaves_all : (s : Status) → s ≡ status_of p.verdict → b.files ≡ with_files (planned_replay names p) told → GrewBy p.bytes.items output b.bytes
+            → Told told (λ files. IsOkAnd (accepted_log names files) (ReplayLeavesAll s names (world told fetches keeps output puts) b))
         replay_leaves_all s e kept put files h =
-            let there : new ≡ with_files ((names.next, plan.left.next) ∷ []) told = kept ∙ ap (λ n. with_files ((names.next, n) ∷ []) told) plan.next in
-            ok_more (IsGiven r) (ReplayLeavesAll s names told new output after) (accepted_log names files) (λ inputs i.
-            (plan.left, (record { replay = left_by_replay rows r inputs i given.state given.term p plan; verdict = e ∙ ap status_of plan.verdict }, (there, subst (λ (l : List ℕ). GrewBy l output after) plan.bytes put)))) (given.accepted files h)
+            let there : b.files ≡ with_files ((names.next, plan.left.next) ∷ []) told = kept ∙ ap (λ n. with_files ((names.next, n) ∷ []) told) plan.next in
+            ok_more (IsGiven r) (ReplayLeavesAll s names (world told fetches keeps output puts) b) (accepted_log names files) (λ inputs i.
+            (plan.left, (record { replay = left_by_replay rows r inputs i given.state given.term p plan; verdict = e ∙ ap status_of plan.verdict }, (there, subst (λ (l : List ℕ). GrewBy l output b.bytes) plan.bytes put)))) (given.accepted files h)
 
         -- and one that was written in part is some of it
-        pub replay_leaves_some : (f h : ℕ) → StopsOnTheWay ((names.next, p.next.items) ∷ []) p.bytes.items told new f h output after
-            → Told told (λ files. IsOkAnd (accepted_log names files) (ReplayLeavesSome names told new f h output after))
-        replay_leaves_some f h stops files e =
-            let F = λ (n bytes : List ℕ). StopsOnTheWay ((names.next, n) ∷ []) bytes told new f h output after in
-            let all : F plan.left.next (bytes_of plan.left) = subst (λ b. F plan.left.next b) plan.bytes (subst (λ n. F n p.bytes.items) plan.next stops) in
-            ok_more (IsGiven r) (ReplayLeavesSome names told new f h output after) (accepted_log names files) (λ inputs i.
+        pub replay_leaves_some : StopsOnTheWay (planned_replay names p) p.bytes.items (world told fetches keeps output puts) b
+            → Told told (λ files. IsOkAnd (accepted_log names files) (ReplayLeavesSome names (world told fetches keeps output puts) b))
+        replay_leaves_some stops files e =
+            let F = λ (n bytes : List ℕ). StopsOnTheWay ((names.next, n) ∷ []) bytes (world told fetches keeps output puts) b in
+            let all : F plan.left.next (bytes_of plan.left) = subst (λ y. F plan.left.next y) plan.bytes (subst (λ n. F n p.bytes.items) plan.next stops) in
+            ok_more (IsGiven r) (ReplayLeavesSome names (world told fetches keeps output puts) b) (accepted_log names files) (λ inputs i.
             (plan.left, (left_by_replay rows r inputs i given.state given.term p plan, all))) (given.accepted files e)

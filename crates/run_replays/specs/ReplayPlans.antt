@@ -1,5 +1,5 @@
 -- What a plan of a replay holds.
-use Rattle.std.specs.Prelude.{◌≡◌, ◌≢◌, ◌⊎◌, ◌++◌, ℕ, List, [], length, map, Option, Some, None, ⊤}
+use Rattle.std.specs.Prelude.{◌≡◌, ◌≢◌, ◌⊎◌, ◌++◌, ℕ, List, [], ◌∷◌, length, map, Option, Some, None, ⊤}
 use Rattle.calculus.specs.Log.{Step, Header}
 use Rattle.calculus.specs.Root.{root}
 use Rattle.calculus.specs.Rows.{Row}
@@ -12,6 +12,7 @@ use Rattle.replay_answers.specs.Answers.{Clashes}
 use Rattle.replay_answers.specs.declared.replayed.Replayed.{Replayed}
 use Rattle.run_verdict.specs.View.{verdict_of}
 use Rattle.run_verdict.specs.declared.verdict.Verdict.TheVariants.{Done}
+use Rattle.command_words.specs.Commands.{RunRequest}
 use Rattle.run_inputs.specs.Given.{task_of}
 use Rattle.run_inputs.specs.declared.acceptance.ReplayInputs.{ReplayInputs}
 use Rattle.run_reports.specs.Report.{report_line}
@@ -21,6 +22,10 @@ use Rattle.run_deploys.specs.Ends.{bytes_of}
 use Rattle.run_replays.specs.Replaying.{given_in, IsLeftByAnswer}
 use Rattle.run_deploys.specs.Runs.{Left, printed}
 use Rattle.run_replays.specs.declared.replaying.ReplayPlan.{ReplayPlan}
+
+-- the file of a plan under these names
+abbrev pub planned_replay : RunRequest → ReplayPlan → List (List ℕ × List ℕ)
+planned_replay names p = (names.next, p.next.items) ∷ []
 
 -- what is given to the replay of these inputs from these rows
 abbrev pub given_of : List Row → ReplayInputs → Given

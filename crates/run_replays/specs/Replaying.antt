@@ -1,5 +1,5 @@
 -- The answer to a log, and what its replay leaves.
-use Rattle.std.specs.Prelude.{◌≡◌, ◌≢◌, ◌⊎◌, ℕ, List, [], ◌∷◌, length, Ok, IsOkAnd, Option, Some, None, ⊤}
+use Rattle.std.specs.Prelude.{◌≡◌, ◌≢◌, ◌⊎◌, ℕ, List, [], ◌∷◌, length, Ok, IsOkAnd, Some, None, ⊤}
 use Rattle.sha2.specs.Sha256.{sha256}
 use Rattle.calculus.specs.Tree.{Tree}
 use Rattle.calculus.specs.Log.{Header, Step}
@@ -15,7 +15,6 @@ use Rattle.run_verdict.specs.declared.verdict.Verdict.TheVariants as ending
 use Rattle.replay_faults.specs.Refusals.{refusal_of}
 use Rattle.replay_answers.specs.Answers.{Clashes}
 use Rattle.replay_answers.specs.Bases.{asked}
-use Rattle.rho_outside.specs.FileMap.{FileMap}
 use Rattle.rho_outside.specs.Told.{Told}
 use Rattle.rho_outside.specs.Put.{GrewBy}
 use Rattle.rho_outside.specs.Kept.{with_files}
@@ -23,6 +22,7 @@ use Rattle.command_words.specs.Commands.{RunRequest}
 use Rattle.run_inputs.specs.Inputs.{Task, accepted_log}
 use Rattle.base_states.specs.Bases.{IsStateOf}
 use Rattle.run_reports.specs.Stops.{StopsOnTheWay}
+use Rattle.run_reports.specs.World.{World}
 use Rattle.run_status.specs.Endings.{status_of}
 use Rattle.run_status.specs.declared.status.Status.{Status}
 use Rattle.run_status.specs.declared.status.Status.TheVariants as status
@@ -109,21 +109,21 @@ pub record IsReplayedBy (s : Status) (inputs : Task × List ℕ) (left : Left) :
   pub replay : IsLeftByReplay inputs left
   pub verdict : s ≡ status_of left.report.verdict
 
--- the files and bytes are those that a replay leaves which ended with this status: the entry was set, and all bytes were put
-abbrev pub ReplayLeavesAll : Status → RunRequest → Option FileMap → Option FileMap → Option (List ℕ) → Option (List ℕ) → Task × List ℕ → Type 0
-ReplayLeavesAll s names old new before after inputs = (left : Left)
-    × (IsReplayedBy s inputs left × ((new ≡ with_files (replay_entries names left) old) × GrewBy (bytes_of left) before after))
+-- from one world to the next a replay left all that it leaves which ended with this status: the entry was set, and all bytes were put
+abbrev pub ReplayLeavesAll : Status → RunRequest → World → World → Task × List ℕ → Type 0
+ReplayLeavesAll s names a b inputs = (left : Left)
+    × (IsReplayedBy s inputs left × ((b.files ≡ with_files (replay_entries names left) a.files) × GrewBy (bytes_of left) a.bytes b.bytes))
 
--- the files and bytes are those that a replay leaves which stopped on its way
-abbrev pub ReplayLeavesSome : RunRequest → Option FileMap → Option FileMap → ℕ → ℕ → Option (List ℕ) → Option (List ℕ) → Task × List ℕ → Type 0
-ReplayLeavesSome names old new faults_before faults_after before after inputs = (left : Left)
-    × (IsLeftByReplay inputs left × StopsOnTheWay (replay_entries names left) (bytes_of left) old new faults_before faults_after before after)
+-- from one world to the next a replay left what it leaves which stopped on its way
+abbrev pub ReplayLeavesSome : RunRequest → World → World → Task × List ℕ → Type 0
+ReplayLeavesSome names a b inputs = (left : Left)
+    × (IsLeftByReplay inputs left × StopsOnTheWay (replay_entries names left) (bytes_of left) a b)
 
--- where files are told, they are accepted, and what is left is all that a replay leaves
-abbrev pub ReplayLeaves : Status → RunRequest → Option FileMap → Option FileMap → Option (List ℕ) → Option (List ℕ) → Type 0
-ReplayLeaves s names old new before after = Told old (λ files. IsOkAnd (accepted_log names files) (ReplayLeavesAll s names old new before after))
+-- where the first world's files are told, they are accepted, and what is left in the next is all that a replay leaves
+abbrev pub ReplayLeaves : Status → RunRequest → World → World → Type 0
+ReplayLeaves s names a b = Told a.files (λ files. IsOkAnd (accepted_log names files) (ReplayLeavesAll s names a b))
 
--- where files are told, all is as it was, or they are accepted and some of what a replay leaves is there
-abbrev pub ReplayLeavesInPart : RunRequest → Option FileMap → Option FileMap → ℕ → ℕ → Option (List ℕ) → Option (List ℕ) → Type 0
-ReplayLeavesInPart names old new faults_before faults_after before after = Told old (λ files.
-    ((new ≡ old) × (after ≡ before)) ⊎ IsOkAnd (accepted_log names files) (ReplayLeavesSome names old new faults_before faults_after before after))
+-- where the first world's files are told, all is as it was, or they are accepted and some of what a replay leaves is there
+abbrev pub ReplayLeavesInPart : RunRequest → World → World → Type 0
+ReplayLeavesInPart names a b = Told a.files (λ files.
+    ((b.files ≡ a.files) × (b.bytes ≡ a.bytes)) ⊎ IsOkAnd (accepted_log names files) (ReplayLeavesSome names a b))

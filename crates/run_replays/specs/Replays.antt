@@ -45,5 +45,5 @@ pub record IsReplay (names : RunRequest) (a b : World) (s : Status) : Type 0 whe
       → ¬ (Rose a.fetches b.fetches) → ¬ (Rose a.keeps b.keeps) → ¬ (Rose a.puts b.puts) → EndsIfRun inputs s))
   pub stays : OnRefusal s ((b.files ≡ a.files) × (b.bytes ≡ a.bytes))
   pub write_fault : s ≡ WriteFault → Rose a.keeps b.keeps ⊎ Rose a.puts b.puts
-  pub verdict : OnVerdict s (ReplayLeaves s names a.files b.files a.bytes b.bytes)
-  pub part : OnHalt s (ReplayLeavesInPart names a.files b.files a.keeps b.keeps a.bytes b.bytes)
+  pub verdict : OnVerdict s (ReplayLeaves s names a b)
+  pub part : OnHalt s (ReplayLeavesInPart names a b)

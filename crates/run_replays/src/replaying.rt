@@ -1,9 +1,7 @@
-ghost use Rattle.std.specs.Prelude.{◌≡◌, ◌≤◌, ◌⊎◌, ◌∷◌, [], length, IfOk, IfErr, OnOk, OnErr, IsErrOf, string_bytes};
+ghost use Rattle.std.specs.Prelude.{◌≡◌, ◌≤◌, length, IfOk, IfErr, OnOk, OnErr, IsErrOf};
 ghost use Rattle.calculus.specs.Form.{IsClosed};
-ghost use Rattle.rho_outside.specs.Causes.{Rose};
 ghost use Rattle.rho_outside.specs.Put.{GrewBy};
-ghost use Rattle.rho_outside.specs.Kept.{with_files};
-ghost use Rattle.run_reports.specs.Stops.{StopsOnTheWay};
+ghost use Rattle.run_reports.specs.Stops.{SetsAll, StopsOnTheWay, WriteFailed};
 ghost use Rattle.sources.specs.Sources.{IsSourceOf};
 ghost use Rattle.replay_faults.specs.Refusals.{refusal_of};
 ghost use Rattle.command_words.specs.Answers.{run_of};
@@ -12,7 +10,7 @@ ghost use Rattle.run_inputs.specs.Ended.{ReplayEnds};
 ghost use Rattle.run_inputs.specs.Given.{AreReplayAccepted, IsBase};
 ghost use Rattle.run_status.specs.Endings.{OnRefusal, OnHalt, OnVerdict};
 ghost use Rattle.run_replays.specs.Replaying.{IsSettled, ReplayLeaves, ReplayLeavesInPart};
-ghost use Rattle.run_replays.specs.ReplayPlans.{IsPlanned, IsReplayPlan, IsReplayStop, ReplayStatusOf};
+ghost use Rattle.run_replays.specs.ReplayPlans.{IsPlanned, IsReplayPlan, IsReplayStop, ReplayStatusOf, planned_replay};
 ghost use Rattle.run_replays.specs.Replays.{IsReplay};
 ghost use Rattle.run_reports.specs.World.{world};
 
@@ -133,14 +131,12 @@ fn write_replay<S: Shelf, O: Sink>(
     shelf: &mut S,
     out: &mut O,
 ) -> Result<(), Halt>
-    ensures kept { OnOk result (S.files shelf.new ≡ with_files ((string_bytes run.now.next, plan.now.next.items) ∷ [])
-        (S.files shelf.old)) }
+    ensures kept { OnOk result (SetsAll (planned_replay (run_of run.now) plan.now) S.files shelf.old shelf.new) }
     ensures put { OnOk result (GrewBy plan.now.bytes.items (O.written out.old) (O.written out.new)) }
-    ensures part { OnErr result (StopsOnTheWay ((string_bytes run.now.next, plan.now.next.items) ∷ [])
-        plan.now.bytes.items (S.files shelf.old) (S.files shelf.new) (S.keep_faults shelf.old) (S.keep_faults shelf.new)
-        (O.written out.old) (O.written out.new)) }
-    ensures cause { IsErrOf result Halt.WriteFault → Rose (S.keep_faults shelf.old) (S.keep_faults shelf.new) ⊎
-        Rose (O.faults out.old) (O.faults out.new) }
+    ensures part { OnErr result (StopsOnTheWay (planned_replay (run_of run.now) plan.now) plan.now.bytes.items
+        (world (S.files shelf.old) (S.fetch_faults shelf.old) (S.keep_faults shelf.old) (O.written out.old) (O.faults out.old))
+        (world (S.files shelf.new) (S.fetch_faults shelf.new) (S.keep_faults shelf.new) (O.written out.new) (O.faults out.new))) }
+    ensures cause { IsErrOf result Halt.WriteFault → WriteFailed S.keep_faults shelf.old shelf.new O.faults out.old out.new }
     ensures fetch_faults { S.fetch_faults shelf.new ≡ S.fetch_faults shelf.old }
 {
     let next = (run.next.as_str(), plan.next.as_slice());
@@ -160,12 +156,13 @@ fn replay_run<R: Threads + Wait + Sync, S: Shelf, O: Sink, G: Gate + Sync>(
     requires inputs { AreReplayAccepted (S.files shelf.now) (run_of run.now) inputs }
     ensures ends { ReplayEnds IsSettled (S.files shelf.old) (run_of run.now) (S.fetch_faults shelf.old) (S.fetch_faults shelf.new) result }
     ensures stays { OnRefusal result ((S.files shelf.new ≡ S.files shelf.old) × (O.written out.new ≡ O.written out.old)) }
-    ensures write_fault { result ≡ Status.WriteFault → Rose (S.keep_faults shelf.old) (S.keep_faults shelf.new) ⊎
-        Rose (O.faults out.old) (O.faults out.new) }
-    ensures verdict { OnVerdict result (ReplayLeaves result (run_of run.now) (S.files shelf.old) (S.files shelf.new)
-        (O.written out.old) (O.written out.new)) }
-    ensures part { OnHalt result (ReplayLeavesInPart (run_of run.now) (S.files shelf.old) (S.files shelf.new)
-        (S.keep_faults shelf.old) (S.keep_faults shelf.new) (O.written out.old) (O.written out.new)) }
+    ensures write_fault { result ≡ Status.WriteFault → WriteFailed S.keep_faults shelf.old shelf.new O.faults out.old out.new }
+    ensures verdict { OnVerdict result (ReplayLeaves result (run_of run.now)
+        (world (S.files shelf.old) (S.fetch_faults shelf.old) (S.keep_faults shelf.old) (O.written out.old) (O.faults out.old))
+        (world (S.files shelf.new) (S.fetch_faults shelf.new) (S.keep_faults shelf.new) (O.written out.new) (O.faults out.new))) }
+    ensures part { OnHalt result (ReplayLeavesInPart (run_of run.now)
+        (world (S.files shelf.old) (S.fetch_faults shelf.old) (S.keep_faults shelf.old) (O.written out.old) (O.faults out.old))
+        (world (S.files shelf.new) (S.fetch_faults shelf.new) (S.keep_faults shelf.new) (O.written out.new) (O.faults out.new))) }
 {
     let plan = match make_replay_plan(rt, alloc, gate, worker_count(run.workers), inputs) {
         Ok(plan) => plan,

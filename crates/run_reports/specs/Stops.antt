@@ -5,6 +5,7 @@ use Rattle.rho_outside.specs.Causes.{Rose}
 use Rattle.rho_outside.specs.FileMap.{FileMap}
 use Rattle.rho_outside.specs.Put.{GrewByPart}
 use Rattle.rho_outside.specs.Kept.{with_files, PrefixSet, PartSet}
+use Rattle.run_reports.specs.World.{World}
 
 -- some of these entries were set, from the counts of failed keeps before and after: the first so many of them, and where a keep failed maybe something under the name of the next one
 pub record AreSetInPart (entries : List (List ℕ × List ℕ)) (old new : Option FileMap) (faults_before faults_after : ℕ) : Type 0 where
@@ -19,11 +20,11 @@ SetsAll entries files before after = files after ≡ with_files entries (files b
 abbrev pub SetsInPart : {S : Type 0} → List (List ℕ × List ℕ) → (S → Option FileMap) → (S → ℕ) → S → S → Type 0
 SetsInPart entries files keep_faults before after = AreSetInPart entries (files before) (files after) (keep_faults before) (keep_faults after)
 
--- the writing of these entries and then of these bytes stopped on its way: before anything was put, or at the put, with all entries set
-abbrev pub StopsOnTheWay : List (List ℕ × List ℕ) → List ℕ → Option FileMap → Option FileMap → ℕ → ℕ → Option (List ℕ) → Option (List ℕ) → Type 0
-StopsOnTheWay entries bytes old new faults_before faults_after before after =
-    (AreSetInPart entries old new faults_before faults_after × (after ≡ before))
-    ⊎ ((new ≡ with_files entries old) × GrewByPart bytes before after)
+-- from one world to the next the writing of these entries and then of these bytes stopped on its way: before anything was put, or at the put, with all entries set
+abbrev pub StopsOnTheWay : List (List ℕ × List ℕ) → List ℕ → World → World → Type 0
+StopsOnTheWay entries bytes a b =
+    (AreSetInPart entries a.files b.files a.keeps b.keeps × (b.bytes ≡ a.bytes))
+    ⊎ ((b.files ≡ with_files entries a.files) × GrewByPart bytes a.bytes b.bytes)
 
 -- a file, which is its name and its bytes
 abbrev pub file_of : Bor (List ℕ) × Bor (List ℕ) → List ℕ × List ℕ

@@ -2,6 +2,7 @@ ghost use Rattle.std.specs.Prelude.{◌≡◌, ◌≤◌, ◌∷◌, [], OnOk, O
 ghost use Rattle.rho_outside.specs.Causes.{Rose};
 ghost use Rattle.rho_outside.specs.Put.{GrewBy, GrewByPart};
 ghost use Rattle.run_reports.specs.Stops.{file_of, SetsAll, SetsInPart, StopsOnTheWay, WriteFailed};
+ghost use Rattle.run_reports.specs.World.{world};
 ghost use Rattle.run_reports.specs.Halts.{halt_of};
 
 use rho_outside::{KeepFault, Shelf, Sink};
@@ -71,9 +72,9 @@ pub fn keep_and_put<S: Shelf, O: Sink>(
 ) -> Result<(), Halt>
     ensures kept { OnOk result (SetsAll (file_of file.entry ∷ []) S.files shelf.old shelf.new) }
     ensures put { OnOk result (GrewBy bytes.now (O.written out.old) (O.written out.new)) }
-    ensures part { OnErr result (StopsOnTheWay (file_of file.entry ∷ []) bytes.now (S.files shelf.old)
-        (S.files shelf.new) (S.keep_faults shelf.old) (S.keep_faults shelf.new) (O.written out.old)
-        (O.written out.new)) }
+    ensures part { OnErr result (StopsOnTheWay (file_of file.entry ∷ []) bytes.now
+        (world (S.files shelf.old) (S.fetch_faults shelf.old) (S.keep_faults shelf.old) (O.written out.old) (O.faults out.old))
+        (world (S.files shelf.new) (S.fetch_faults shelf.new) (S.keep_faults shelf.new) (O.written out.new) (O.faults out.new))) }
     ensures cause { IsErrOf result Halt.WriteFault → WriteFailed S.keep_faults shelf.old shelf.new O.faults out.old out.new }
     ensures fetch_faults { S.fetch_faults shelf.new ≡ S.fetch_faults shelf.old }
 {
@@ -93,8 +94,8 @@ pub fn keep_both_and_put<S: Shelf, O: Sink>(
     ensures kept { OnOk result (SetsAll (file_of first.entry ∷ file_of second.entry ∷ []) S.files shelf.old shelf.new) }
     ensures put { OnOk result (GrewBy bytes.now (O.written out.old) (O.written out.new)) }
     ensures part { OnErr result (StopsOnTheWay (file_of first.entry ∷ file_of second.entry ∷ []) bytes.now
-        (S.files shelf.old) (S.files shelf.new) (S.keep_faults shelf.old) (S.keep_faults shelf.new) (O.written out.old)
-        (O.written out.new)) }
+        (world (S.files shelf.old) (S.fetch_faults shelf.old) (S.keep_faults shelf.old) (O.written out.old) (O.faults out.old))
+        (world (S.files shelf.new) (S.fetch_faults shelf.new) (S.keep_faults shelf.new) (O.written out.new) (O.faults out.new))) }
     ensures cause { IsErrOf result Halt.WriteFault → WriteFailed S.keep_faults shelf.old shelf.new O.faults out.old out.new }
     ensures fetch_faults { S.fetch_faults shelf.new ≡ S.fetch_faults shelf.old }
 {

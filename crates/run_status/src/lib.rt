@@ -1,6 +1,7 @@
 //! How a call of the interpreter ended: its status, the exit status of the program, and the line for standard error.
 #![tactic(auto)]
 
+mod causes;
 pub mod status;
 mod wording;
 

@@ -24,7 +24,7 @@ module _ (steps : ℕ) (log : List ℕ) (a b : World) (w : Work) (work : IsWork 
       (work.left, (work.is, (e ∙ ap status_of work.verdict, (kept ∙ ap (λ es. with_files es a.files) same-entries, subst (λ (l : List ℕ). GrewBy l a.bytes b.bytes) work.line put))))
 
   -- work that was written in part is a part of that
-  pub leaves_part : StopsOnTheWay ((log, w.log.items) ∷ []) w.line.items a.files b.files a.keeps b.keeps a.bytes b.bytes → LeavesInPart steps log a b
+  pub leaves_part : StopsOnTheWay ((log, w.log.items) ∷ []) w.line.items a b → LeavesInPart steps log a b
   leaves_part stops =
-      let F = λ (es : List (List ℕ × List ℕ)) (l : List ℕ). StopsOnTheWay es l a.files b.files a.keeps b.keeps a.bytes b.bytes in
+      let F = λ (es : List (List ℕ × List ℕ)) (l : List ℕ). StopsOnTheWay es l a b in
       inr (work.left, (work.is, subst (F (entries_of log steps work.left)) work.line (subst (λ es. F es w.line.items) same-entries stops)))

@@ -54,4 +54,4 @@ LeavesAll steps log a b s = (left : Left) × (IsLeftByWorkload steps left × ((s
 -- all is as it was, or the writing of what a workload leaves stopped on its way
 abbrev pub LeavesInPart : ℕ → List ℕ → World → World → Type 0
 LeavesInPart steps log a b = ((b.files ≡ a.files) × (b.bytes ≡ a.bytes)) ⊎ ((left : Left) × (IsLeftByWorkload steps left
-    × StopsOnTheWay (entries_of log steps left) (report_line left.report) a.files b.files a.keeps b.keeps a.bytes b.bytes))
+    × StopsOnTheWay (entries_of log steps left) (report_line left.report) a b))

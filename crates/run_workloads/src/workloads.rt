@@ -1,8 +1,6 @@
-ghost use Rattle.std.specs.Prelude.{◌≡◌, ◌≤◌, ◌⊎◌, ◌∷◌, [], OnOk, OnErr, IsErrOf, string_bytes};
-ghost use Rattle.rho_outside.specs.Causes.{Rose};
-ghost use Rattle.rho_outside.specs.Kept.{with_files};
+ghost use Rattle.std.specs.Prelude.{◌≡◌, ◌∷◌, [], OnOk, OnErr, IsErrOf, string_bytes};
 ghost use Rattle.rho_outside.specs.Put.{GrewBy};
-ghost use Rattle.run_reports.specs.Stops.{StopsOnTheWay};
+ghost use Rattle.run_reports.specs.Stops.{SetsAll, StopsOnTheWay, WriteFailed};
 ghost use Rattle.run_reports.specs.World.{world};
 ghost use Rattle.run_status.specs.Endings.{OnHalt, OnRefusal, OnVerdict};
 ghost use Rattle.run_workloads.specs.Left.{LeavesAll, LeavesInPart};
@@ -43,14 +41,12 @@ fn write_work<S: Shelf, O: Sink>(
     shelf: &mut S,
     out: &mut O,
 ) -> Result<(), Halt>
-    ensures kept { OnOk result (S.files shelf.new ≡ with_files ((string_bytes asked.now.log, work.now.log.items) ∷ [])
-        (S.files shelf.old)) }
+    ensures kept { OnOk result (SetsAll ((string_bytes asked.now.log, work.now.log.items) ∷ []) S.files shelf.old shelf.new) }
     ensures put { OnOk result (GrewBy work.now.line.items (O.written out.old) (O.written out.new)) }
-    ensures part { OnErr result (StopsOnTheWay ((string_bytes asked.now.log, work.now.log.items) ∷ [])
-        work.now.line.items (S.files shelf.old) (S.files shelf.new) (S.keep_faults shelf.old) (S.keep_faults shelf.new)
-        (O.written out.old) (O.written out.new)) }
-    ensures cause { IsErrOf result Halt.WriteFault → Rose (S.keep_faults shelf.old) (S.keep_faults shelf.new) ⊎
-        Rose (O.faults out.old) (O.faults out.new) }
+    ensures part { OnErr result (StopsOnTheWay ((string_bytes asked.now.log, work.now.log.items) ∷ []) work.now.line.items
+        (world (S.files shelf.old) (S.fetch_faults shelf.old) (S.keep_faults shelf.old) (O.written out.old) (O.faults out.old))
+        (world (S.files shelf.new) (S.fetch_faults shelf.new) (S.keep_faults shelf.new) (O.written out.new) (O.faults out.new))) }
+    ensures cause { IsErrOf result Halt.WriteFault → WriteFailed S.keep_faults shelf.old shelf.new O.faults out.old out.new }
     ensures fetch_faults { S.fetch_faults shelf.new ≡ S.fetch_faults shelf.old }
 {
     let log = (asked.log.as_str(), work.log.as_slice());
@@ -69,8 +65,7 @@ fn run_made<R: Threads + Wait + Sync, S: Shelf, O: Sink, G: Gate + Sync>(
     ensures ends { WorkloadEnds asked.now.steps result }
     ensures fetch_faults { S.fetch_faults shelf.new ≡ S.fetch_faults shelf.old }
     ensures stays { OnRefusal result ((S.files shelf.new ≡ S.files shelf.old) × (O.written out.new ≡ O.written out.old)) }
-    ensures write_fault { result ≡ Status.WriteFault → Rose (S.keep_faults shelf.old) (S.keep_faults shelf.new) ⊎
-        Rose (O.faults out.old) (O.faults out.new) }
+    ensures write_fault { result ≡ Status.WriteFault → WriteFailed S.keep_faults shelf.old shelf.new O.faults out.old out.new }
     ensures verdict { OnVerdict result (LeavesAll asked.now.steps (string_bytes asked.now.log)
         (world (S.files shelf.old) (S.fetch_faults shelf.old) (S.keep_faults shelf.old) (O.written out.old) (O.faults out.old))
         (world (S.files shelf.new) (S.fetch_faults shelf.new) (S.keep_faults shelf.new) (O.written out.new) (O.faults out.new)) result) }

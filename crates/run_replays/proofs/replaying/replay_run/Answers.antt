@@ -1,5 +1,6 @@
 use Rattle.std.proofs.Common.{inr}
 use Rattle.command_words.specs.Answers.{run_of}
+use Rattle.run_reports.specs.World.{World, world}
 use Rattle.run_replays.specs.Replaying.{ReplayLeaves}
 use Rattle.run_deploys.proofs.Leaving.{on_verdict}
 use Rattle.run_replays.proofs.ReplayEnding.{stop_ends, fault_ends, replay_verdict_ends, replay_leaves_all, replay_leaves_some}
@@ -22,29 +23,35 @@ returns-in-Err-WriteFault-clause-ends g c = fault_ends (g.S.Shelf.files c.args.s
 pub returns-in-Ok-write_replay-clause-verdict : goal.returns-in-Ok-write_replay-clause-verdict
 returns-in-Ok-write_replay-clause-verdict g c =
     let names = run_of c.args.run.now in
-    let old = g.S.Shelf.files c.args.shelf.now in
-    let new = g.S.Shelf.files c.write_replay.new.shelf in
-    let before = g.O.Sink.written c.args.out.now in
-    let after = g.O.Sink.written c.write_replay.new.out in
+    let told = g.S.Shelf.files c.args.shelf.now in
+    let fetches = g.S.Shelf.fetch_faults c.args.shelf.now in
+    let keeps = g.S.Shelf.keep_faults c.args.shelf.now in
+    let output = g.O.Sink.written c.args.out.now in
+    let puts = g.O.Sink.faults c.args.out.now in
+    let b : World = world (g.S.Shelf.files c.write_replay.new.shelf) (g.S.Shelf.fetch_faults c.write_replay.new.shelf) (g.S.Shelf.keep_faults c.write_replay.new.shelf) (g.O.Sink.written c.write_replay.new.out) (g.O.Sink.faults c.write_replay.new.out) in
     let s = c.status_of.result in
     let w = c.in-Ok-write_replay.ensures in
-    on_verdict s (ReplayLeaves s names old new before after)
-    (replay_leaves_all old names 0 0 c.args.inputs c.requires.inputs c.in-Ok.plan c.in-Ok.ensures.plan new before after s c.status_of.ensures w.kept w.put)
+    on_verdict s (ReplayLeaves s names (world told fetches keeps output puts) b)
+    (replay_leaves_all told names 0 0 c.args.inputs c.requires.inputs c.in-Ok.plan c.in-Ok.ensures.plan fetches keeps output puts b s c.status_of.ensures w.kept w.put)
 
 pub returns-in-Err-WriteFault-clause-part : goal.returns-in-Err-WriteFault-clause-part
 returns-in-Err-WriteFault-clause-part g c =
     let names = run_of c.args.run.now in
-    let old = g.S.Shelf.files c.args.shelf.now in
-    let new = g.S.Shelf.files c.write_replay.new.shelf in
-    let before = g.O.Sink.written c.args.out.now in
-    let after = g.O.Sink.written c.write_replay.new.out in
-    λ files h. inr (replay_leaves_some old names 0 0 c.args.inputs c.requires.inputs c.in-Ok.plan c.in-Ok.ensures.plan new before after _ _ c.in-Err-WriteFault.ensures.part files h)
+    let told = g.S.Shelf.files c.args.shelf.now in
+    let fetches = g.S.Shelf.fetch_faults c.args.shelf.now in
+    let keeps = g.S.Shelf.keep_faults c.args.shelf.now in
+    let output = g.O.Sink.written c.args.out.now in
+    let puts = g.O.Sink.faults c.args.out.now in
+    let b : World = world (g.S.Shelf.files c.write_replay.new.shelf) (g.S.Shelf.fetch_faults c.write_replay.new.shelf) (g.S.Shelf.keep_faults c.write_replay.new.shelf) (g.O.Sink.written c.write_replay.new.out) (g.O.Sink.faults c.write_replay.new.out) in
+    λ files h. inr (replay_leaves_some told names 0 0 c.args.inputs c.requires.inputs c.in-Ok.plan c.in-Ok.ensures.plan fetches keeps output puts b c.in-Err-WriteFault.ensures.part files h)
 
 pub returns-clause-part : goal.returns-clause-part
 returns-clause-part g c =
     let names = run_of c.args.run.now in
-    let old = g.S.Shelf.files c.args.shelf.now in
-    let new = g.S.Shelf.files c.write_replay.new.shelf in
-    let before = g.O.Sink.written c.args.out.now in
-    let after = g.O.Sink.written c.write_replay.new.out in
-    λ files h. inr (replay_leaves_some old names 0 0 c.args.inputs c.requires.inputs c.in-Ok.plan c.in-Ok.ensures.plan new before after _ _ c.in-Err-NoMemory.ensures.part files h)
+    let told = g.S.Shelf.files c.args.shelf.now in
+    let fetches = g.S.Shelf.fetch_faults c.args.shelf.now in
+    let keeps = g.S.Shelf.keep_faults c.args.shelf.now in
+    let output = g.O.Sink.written c.args.out.now in
+    let puts = g.O.Sink.faults c.args.out.now in
+    let b : World = world (g.S.Shelf.files c.write_replay.new.shelf) (g.S.Shelf.fetch_faults c.write_replay.new.shelf) (g.S.Shelf.keep_faults c.write_replay.new.shelf) (g.O.Sink.written c.write_replay.new.out) (g.O.Sink.faults c.write_replay.new.out) in
+    λ files h. inr (replay_leaves_some told names 0 0 c.args.inputs c.requires.inputs c.in-Ok.plan c.in-Ok.ensures.plan fetches keeps output puts b c.in-Err-NoMemory.ensures.part files h)

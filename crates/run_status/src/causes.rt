@@ -1,0 +1,82 @@
+// The causes that a verb hands on by `?`: each has its status, and want of memory has one of its own.
+ghost use Rattle.std.specs.Prelude.{◌≡◌};
+ghost use Rattle.replay_faults.specs.Refusals.{refusal_of as replay_refusal};
+ghost use Rattle.sources.specs.Faults.{refusal_of as source_refusal};
+ghost use Rattle.run_status.specs.Statuses.{price_refusal, LogStatusOf, PriceStatusOf, ReplayStatusOf, SourceStatusOf, StateStatusOf};
+ghost use Rattle.run_status.specs.declared.status.Status.TheVariants.{NoMemory};
+
+use crate::status::Status;
+use event_log::LogFault;
+use phlo_meter::PriceFault;
+use replay_faults::ReplayFault;
+use rho_lexer::LexFault;
+use rho_parser::ParseFault;
+use scope_check::ScopeFault;
+use sources::SourceFault;
+use state_reader::StateFault;
+use std::alloc::AllocError;
+
+impl From<AllocError> for Status {
+    ghost from_gives = { λ _ s. s ≡ NoMemory };
+
+    fn from(_error: AllocError) -> Self {
+        Status::NoMemory
+    }
+}
+
+impl From<StateFault> for Status {
+    ghost from_gives = { λ fault s. StateStatusOf fault s };
+
+    fn from(fault: StateFault) -> Self {
+        match fault {
+            StateFault::NoMemory => Status::NoMemory,
+            fault => Status::State(fault),
+        }
+    }
+}
+
+impl From<LogFault> for Status {
+    ghost from_gives = { λ fault s. LogStatusOf fault s };
+
+    fn from(fault: LogFault) -> Self {
+        match fault {
+            LogFault::NoMemory => Status::NoMemory,
+            fault => Status::Log(fault),
+        }
+    }
+}
+
+impl From<PriceFault> for Status {
+    ghost from_gives = { λ fault s. PriceStatusOf fault (price_refusal fault) s };
+
+    fn from(fault: PriceFault) -> Self {
+        match fault {
+            PriceFault::NoMemory => Status::NoMemory,
+            fault => Status::Prices(fault),
+        }
+    }
+}
+
+impl From<SourceFault> for Status {
+    ghost from_gives = { λ fault s. SourceStatusOf fault (source_refusal fault) s };
+
+    fn from(fault: SourceFault) -> Self {
+        match fault {
+            SourceFault::Lex(LexFault::NoMemory) => Status::NoMemory,
+            SourceFault::Parse(ParseFault::NoMemory) => Status::NoMemory,
+            SourceFault::Scope(ScopeFault::NoMemory) => Status::NoMemory,
+            fault => Status::Source(fault),
+        }
+    }
+}
+
+impl From<ReplayFault> for Status {
+    ghost from_gives = { λ fault s. ReplayStatusOf fault (replay_refusal fault) s };
+
+    fn from(fault: ReplayFault) -> Self {
+        match fault {
+            ReplayFault::NoMemory => Status::NoMemory,
+            fault => Status::Replay(fault),
+        }
+    }
+}
