@@ -1,6 +1,6 @@
 //! Calls with given words and files.
 use crate::files::{Files, told_bytes};
-use crate::program::Ended;
+use program_calls::Ended;
 use std::alloc::Global;
 use std::sync::Wait;
 use std::thread::Threads;

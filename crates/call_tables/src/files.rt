@@ -1,5 +1,5 @@
 //! Files and an output in memory, and how their bytes are told.
-use crate::program::{Ended, call};
+use program_calls::{Ended, call};
 use rho_outside::{MemShelf, MemSink, OpenGate, Shelf};
 use sha2::{Digest as _, Sha256};
 use std::alloc::Global;

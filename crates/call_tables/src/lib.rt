@@ -4,10 +4,8 @@
 
 mod calls;
 mod files;
-mod program;
 mod runs;
 
-pub use program::{Ended, call};
 use std::alloc::Global;
 use std::sync::Wait;
 use std::thread::Threads;

@@ -1,7 +1,7 @@
 //! Deploys and replays of given sources. The state is `s`, the prices `p`, the source `d`, the log `l`, and the next states
 //! are `n` of a deploy and `m` of a replay.
 use crate::files::{Files, text_of};
-use crate::program::Ended;
+use program_calls::Ended;
 use rho_outside::{MemSink, Shelf};
 use std::alloc::Global;
 use std::sync::Wait;

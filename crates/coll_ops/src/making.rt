@@ -5,9 +5,9 @@ ghost use Rattle.rho_term.specs.Parts.{pair_tree};
 ghost use Rattle.value_ops.specs.Answers.{IsOperand};
 
 use crate::merge::last_of_each;
+use code_order::with_order;
 use rho_term::{Part, Term};
 use std::alloc::{AllocError, Global};
-use term_sort::with_order;
 
 /// The set of these members, each kept once. They are closed, and their codes shorter than 2^32 bytes.
 /// Want of memory is the one error.

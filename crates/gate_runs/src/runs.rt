@@ -2,7 +2,7 @@
 use crate::channels::{apart, receives, sends};
 use crate::direct::replayed;
 use crate::meeting::Meeting;
-use call_tables::call;
+use program_calls::call;
 use replay_runs::Replayed;
 use rho_outside::{Gate, MemShelf, MemSink, OpenGate, Shelf};
 use std::alloc::Global;

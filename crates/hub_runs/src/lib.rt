@@ -1,5 +1,20 @@
-//! A hub whose shards are numbers, worked on by seats in threads. The crate has tests alone.
+//! Runs hubs over the scene of numbers, and tells what they leave: of lines, a kind of hub and how much is done, and of cases.
 #![tactic(auto)]
 
-#[cfg(test)]
-mod tests;
+mod cases;
+mod runs;
+
+pub use runs::answer;
+use std::alloc::Global;
+use std::sync::Wait;
+use std::thread::Threads;
+use table_lines::LineFault;
+
+/// A line of each case.
+pub fn told<R: Threads + Wait + Sync>(rt: &R, alloc: Global) -> Result<String, LineFault> {
+    let mut text = String::new(alloc);
+    match cases::put_all(rt, alloc, &mut text) {
+        Ok(()) => Ok(text),
+        Err(fault) => Err(fault),
+    }
+}

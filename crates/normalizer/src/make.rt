@@ -3,17 +3,16 @@
 ghost use Rattle.std.specs.Prelude.{◌≡◌, ◌≤◌, ◌-◌, length, drop, map, IfOk, OnOk};
 ghost use Rattle.calculus.specs.Meaning.{proc_written, name_written, pat_written, name_pat_written, bind_written, case_written};
 ghost use Rattle.rho_term.specs.Parts.{part_tree, pat_part_tree, pair_tree, bind_tree, case_tree};
-ghost use Rattle.scope_check.specs.Pairs.{proc_pair, pat_pair};
-ghost use Rattle.normalizer.specs.Made.{normal_in, all_in, parts_in, pattern_parts_in, all_parts, all_pattern_parts};
+ghost use Rattle.open_processes.specs.Pairs.{proc_pair, pat_pair};
+ghost use Rattle.normal_parts.specs.Made.{normal_in, all_in, parts_in, pattern_parts_in, all_parts, all_pattern_parts};
 
-use crate::bind::{bind_binds, bind_declared, bind_pattern};
-use crate::ground::{copy_ground, origins, rest_of};
-use crate::parts::{closed_parts, one_part, one_pat_part};
 use bound_names::Names;
 use calculus::{Bind, Case, Name, NamePat, Pat, Proc};
+use code_order::make_par;
+use normal_parts::{closed_parts, copy_ground, one_part, one_pat_part, origins, rest_of};
+use pattern_names::{bind_binds, bind_declared, bind_pattern};
 use rho_term::{Part, PatPart, Term, TermBind, TermCase, TermPat};
 use std::alloc::{AllocError, Global};
-use term_sort::make_par;
 
 /// The term of a process.
 #[cycle(make)]

@@ -1,16 +1,23 @@
 -- Parts that are offered, and what is found of one before its limits are tested.
-use Rattle.std.specs.Prelude.{◌≡◌, ℕ, List, ⊤, Option, Some, None}
+use Rattle.std.specs.Prelude.{◌≡◌, ℕ, List, [], ◌∷◌, map, ⊤, Option, Some, None, Result, MatchResult}
 use Rattle.calculus.specs.declared.fault.FaultKind.{FaultKind}
 use Rattle.calculus.specs.declared.plain.Rights.{Rights}
-use Rattle.calculus.specs.Tree.{par, bundle, Tree, node, none, also}
-use Rattle.calculus.specs.Shape.{one, only}
-use Rattle.calculus.specs.Outcome.{Answer, fails}
+use Rattle.calculus.specs.Tree.{par, row, bundle, receive, Tree, node, none, also}
+use Rattle.calculus.specs.Shape.{one, two, many, only}
+use Rattle.calculus.specs.Outcome.{Answer, fails, Outcome}
 use Rattle.calculus.specs.Rows.{Row}
-use Rattle.calculus.specs.Unfolding.{Product, Channel, row_limits}
+use Rattle.calculus.specs.Unfolding.{Product, Channel, a_row, row_limits}
+use Rattle.capped_work.specs.declared.budget.Budget.{Budget}
+use Rattle.capped_work.specs.declared.stop.EvalStop.{EvalStop}
+use Rattle.capped_work.specs.declared.stop.Priced.{Priced}
+use Rattle.capped_work.specs.Outcomes.{Came, Stopped}
+use Rattle.rho_term.specs.declared.op.Op.{Op}
 use Rattle.rho_term.specs.declared.term.Part.{Part}
 use Rattle.rho_term.specs.declared.term.Part.TheVariants as part
-use Rattle.rho_term.specs.Parts.{part_tree}
+use Rattle.rho_term.specs.Parts.{part_tree, bind_tree}
+use Rattle.rho_term.specs.Rows.{row_of_op}
 use Rattle.offered_rows.specs.declared.opened.Opened.{Opened}
+use Rattle.offered_rows.specs.declared.receive.Receive.{Receive}
 
 -- a part that is offered: a send or a receive
 abbrev pub IsOffered : Part → Type 0
@@ -30,6 +37,14 @@ row_of id t = record { id = id; part = t }
 abbrev pub tested : Option FaultKind → Row → Answer (List Product)
 tested None r = row_limits r
 tested (Some k) r = fails k
+
+-- a receive, as the part that it is
+abbrev pub receive_tree : Receive → Tree
+receive_tree r = two (receive r.kind) (many row (map bind_tree r.binds.now.items)) r.body.now
+
+-- a result is that of work of this outcome that offers one row within this budget
+abbrev pub ComesToRow : Result (Priced Op) EvalStop → Budget → Outcome (List Product) → Type 0
+ComesToRow result b o = MatchResult result (λ p. Came b.cap b.price p.price (a_row (row_of_op p.value) ∷ []) o) (λ e. Stopped b.cap b.price o e)
 
 -- what was opened, as a channel
 abbrev pub channel_of : Opened → Channel

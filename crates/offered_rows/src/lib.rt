@@ -8,5 +8,5 @@ mod receive;
 mod row;
 mod send;
 
-pub use receive::offer_receive;
+pub use receive::{Receive, offer_receive};
 pub use send::offer_send;

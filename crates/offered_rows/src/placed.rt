@@ -8,8 +8,8 @@ ghost use Rattle.offered_rows.specs.Binds.{keyed_of, placed_of, with_channel_cod
 use code_order::in_order;
 use rho_term::TermBind;
 use std::alloc::{AllocError, Global};
+use term_bounds::bind_bound;
 use term_encoder::encode_term;
-use term_sort::bind_bound;
 
 /// A bind and the places of its variables among all that the binds of its receive bind.
 #[derive(Drop)]

@@ -1,28 +1,32 @@
 // A receive.
-ghost use Rattle.std.specs.Prelude.{◌≡◌, ◌≤◌, ◌<◌, ◌-◌, ◌^◌, true, [], ◌∷◌, length, map, All, IfOk, MatchResult};
+ghost use Rattle.std.specs.Prelude.{◌≡◌, true, length, map, All, IfOk};
 ghost use Rattle.calculus.specs.Form.{IsClosed};
-ghost use Rattle.calculus.specs.Shape.{two, many, only};
+ghost use Rattle.calculus.specs.Shape.{only};
 ghost use Rattle.calculus.specs.Substitution.{renumber};
-ghost use Rattle.calculus.specs.Tree.{receive as receives, row};
-ghost use Rattle.calculus.specs.Unfolding.{a_row, from_on, opened, new_index, sorted_receive, receive_offered};
-ghost use Rattle.rho_eval.specs.Outcomes.{Came, Stopped};
+ghost use Rattle.calculus.specs.Unfolding.{from_on, opened, new_index, sorted_receive, receive_offered};
 ghost use Rattle.rho_term.specs.Parts.{part_tree, bind_tree};
-ghost use Rattle.rho_term.specs.Rows.{row_of_op};
 ghost use Rattle.value_ops.specs.Answers.{IsOperand};
 ghost use Rattle.offered_rows.specs.Binds.{binds_on, HasScope};
-ghost use Rattle.offered_rows.specs.Offers.{IsOffered};
+ghost use Rattle.offered_rows.specs.Offers.{ComesToRow, IsOffered, receive_tree};
 
 use crate::names::{names_fault, opened_names};
 use crate::placed::sorted;
 use crate::row::offer_part;
 use calculus::{Digest, Kind};
-use price_table::Prices;
-use rho_eval::{EvalStop, Priced};
+use capped_work::{Budget, EvalStop, Priced};
 use rho_term::{Op, Part, Term, TermBind, TermPat};
 use std::alloc::{AllocError, Global};
-use term_sort::renumber_body;
+use substitution::renumber_body;
 
-/// What a receive with this id offers, with what was added up to it. Its channels are evaluated.
+/// A receive: its kind, its binds and its body.
+#[derive(Clone, Copy)]
+pub struct Receive<'a> {
+    pub kind: Kind,
+    pub binds: &'a Vec<TermBind>,
+    pub body: &'a Term,
+}
+
+/// What a receive with this id offers on these channels, with what was added up to it. They are evaluated.
 ///
 /// The price of a receive is added, and one for each byte of the row. Then comes NotReadable where a bundle
 /// around a channel does not let read, then SameChannel where two channels are congruent, then TooDeep and
@@ -31,48 +35,35 @@ use term_sort::renumber_body;
 pub fn offer_receive(
     alloc: Global,
     id: Digest,
-    kind: Kind,
     channels: Vec<Term>,
-    binds: &Vec<TermBind>,
-    body: &Term,
-    prices: &Prices,
-    cap: u64,
-    price: u64,
+    receive: Receive,
+    budget: Budget,
 ) -> Result<Priced<Op>, EvalStop>
-    requires cap { cap < 2 ^ 64 - 1 }
-    requires price { price ≤ cap }
     requires channels { All IsOperand channels.items }
-    requires same_number { length channels.items ≡ length binds.now.items }
-    requires closed { IsClosed (only (two (receives kind) (many row (map bind_tree binds.now.items)) body.now)) }
-    ensures { MatchResult result (λ p. Came cap price p.price (a_row (row_of_op p.value) ∷ [])
-        (receive_offered prices.now id.0 kind (map opened channels.items) (map bind_tree binds.now.items) body.now))
-        (λ e. Stopped cap price (receive_offered prices.now id.0 kind (map opened channels.items)
-        (map bind_tree binds.now.items) body.now) e) }
+    requires same_number { length channels.items ≡ length receive.binds.now.items }
+    requires closed { IsClosed (only (receive_tree receive)) }
+    ensures { ComesToRow result budget.entry (receive_offered budget.entry.prices.now id.0 receive.entry.kind
+        (map opened channels.items) (map bind_tree receive.entry.binds.now.items) receive.entry.body.now) }
 {
     let names = opened_names(alloc, channels)?;
     let fault = names_fault(&names);
-    let part = receive_part(alloc, kind, names.names, binds, body)?;
-    offer_part(alloc, id, part, fault, prices.receive(), prices, cap, price)
+    let part = receive_part(alloc, names.names, receive)?;
+    offer_part(alloc, id, part, fault, budget.prices.receive(), budget)
 }
 
-// A receive of these binds on these names and of this body, its binds in order. Want of memory is the one
-// error.
-fn receive_part(
-    alloc: Global,
-    kind: Kind,
-    names: Vec<Term>,
-    binds: &Vec<TermBind>,
-    body: &Term,
-) -> Result<Part, AllocError>
+// A receive whose binds stand on these names, in order. Want of memory is the one error.
+fn receive_part(alloc: Global, names: Vec<Term>, receive: Receive) -> Result<Part, AllocError>
     requires names { All IsOperand names.items }
-    requires same_number { length names.items ≡ length binds.now.items }
-    requires closed { IsClosed (only (two (receives kind) (many row (map bind_tree binds.now.items)) body.now)) }
-    ensures part { IfOk result (λ p. part_tree p ≡ sorted_receive kind (binds_on names.items (map bind_tree binds.now.items)) body.now) }
+    requires same_number { length names.items ≡ length receive.binds.now.items }
+    requires closed { IsClosed (only (receive_tree receive)) }
+    ensures part { IfOk result (λ p. part_tree p ≡ sorted_receive receive.entry.kind
+        (binds_on names.items (map bind_tree receive.entry.binds.now.items)) receive.entry.body.now) }
     ensures offered { IfOk result IsOffered }
 {
-    let named = binds_with(alloc, names, binds)?;
+    let named = binds_with(alloc, names, receive.binds)?;
     let sorted = sorted(alloc, named)?;
-    let body = renumbered(alloc, body, sorted.places.as_slice())?;
+    let body = renumbered(alloc, receive.body, sorted.places.as_slice())?;
+    let kind = receive.kind;
     let binds = sorted.binds;
     Ok(Part::Receive { kind, binds, body })
 }

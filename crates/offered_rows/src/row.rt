@@ -1,18 +1,16 @@
 // The row of a part that is offered: its price, the tests in their order, and what is offered.
-ghost use Rattle.std.specs.Prelude.{◌≡◌, ◌≤◌, ◌<◌, ◌+◌, ◌*◌, ◌-◌, ◌^◌, [], ◌∷◌, MatchResult, ℕ};
-ghost use Rattle.calculus.specs.Rows.{row_length};
+ghost use Rattle.std.specs.Prelude.{◌≡◌, ◌≤◌, ◌<◌, ◌+◌, ◌*◌, [], ◌∷◌, MatchResult, ℕ};
 ghost use Rattle.calculus.specs.Shape.{at, held};
 ghost use Rattle.calculus.specs.Unfolding.{a_row, offered, row_limits};
 ghost use Rattle.calculus.specs.Outcome.{free};
 ghost use Rattle.rho_term.specs.Parts.{part_tree};
 ghost use Rattle.rho_term.specs.Rows.{row_of_op};
-ghost use Rattle.rho_eval.specs.Outcomes.{Came, Stopped};
+ghost use Rattle.capped_work.specs.Outcomes.{Came, Stopped};
 ghost use Rattle.term_encoder.specs.Sizes.{in_u64};
-ghost use Rattle.offered_rows.specs.Offers.{IsOffered, IsOneOffered, row_of, tested};
+ghost use Rattle.offered_rows.specs.Offers.{ComesToRow, IsOffered, IsOneOffered, row_of, tested};
 
 use calculus::{Digest, FaultKind};
-use price_table::Prices;
-use rho_eval::{EvalStop, Priced};
+use capped_work::{Budget, EvalStop, Priced};
 use rho_term::{MOST_BYTES, MOST_HEIGHT, Op, Part, Term};
 use std::alloc::Global;
 use term_encoder::code_len;
@@ -21,17 +19,16 @@ use term_encoder::code_len;
 const ROW_BYTES: u64 = 28;
 
 /// The price so far, this price and one for each of so many bytes, where they do not pass the cap.
-fn charge(base: u64, byte: u64, bytes: u64, price: u64, cap: u64) -> Result<u64, EvalStop>
-    requires { cap < 2 ^ 64 - 1 }
-    ensures { MatchResult result (λ n. (l : ℕ) → bytes ≡ in_u64 l → (n ≡ price + (base + byte * l)) × (n ≤ cap))
-        (λ e. (e ≡ EvalStop.Over) × ((l : ℕ) → bytes ≡ in_u64 l → cap < price + (base + byte * l))) }
+fn charge(base: u64, bytes: u64, budget: Budget) -> Result<u64, EvalStop>
+    ensures { MatchResult result (λ n. (l : ℕ) → bytes ≡ in_u64 l →
+        (n ≡ budget.entry.price + (base + budget.entry.prices.now.byte * l)) × (n ≤ budget.entry.cap))
+        (λ e. (e ≡ EvalStop.Over) × ((l : ℕ) → bytes ≡ in_u64 l →
+        budget.entry.cap < budget.entry.price + (base + budget.entry.prices.now.byte * l))) }
 {
+    let byte = budget.prices.byte();
     let cost = byte.saturating_mul(bytes).saturating_add(base);
-    let total = price.saturating_add(cost);
-    if total > cap {
-        return Err(EvalStop::Over);
-    }
-    Ok(total)
+    let price = budget.charge(cost)?;
+    Ok(price)
 }
 
 /// The offer of a send or a receive, the one part of a process.
@@ -90,23 +87,17 @@ pub(crate) fn offer_part(
     part: Part,
     fault: Option<FaultKind>,
     base: u64,
-    prices: &Prices,
-    cap: u64,
-    price: u64,
+    budget: Budget,
 ) -> Result<Priced<Op>, EvalStop>
-    requires part { IsOffered part }
-    requires cap { cap < 2 ^ 64 - 1 }
-    requires price { price ≤ cap }
-    ensures { MatchResult result (λ p. Came cap price p.price (a_row (row_of_op p.value) ∷ [])
-        (offered base prices.now.byte (row_of id.0 (part_tree part)) (tested fault (row_of id.0 (part_tree part)))))
-        (λ e. Stopped cap price (offered base prices.now.byte (row_of id.0 (part_tree part))
-        (tested fault (row_of id.0 (part_tree part)))) e) }
+    requires { IsOffered part }
+    ensures { ComesToRow result budget.entry (offered base budget.entry.prices.now.byte
+        (row_of id.0 (part_tree part)) (tested fault (row_of id.0 (part_tree part)))) }
 {
     let term = Term::from_part(alloc, part)?;
     let bytes = code_len(&term).saturating_add(ROW_BYTES);
-    let price = charge(base, prices.byte(), bytes, price, cap)?;
+    let price = charge(base, bytes, budget)?;
     if let Some(kind) = fault {
         return Err(EvalStop::Fault { kind, price });
     }
-    limited(id, term, price, cap)
+    limited(id, term, price, budget.cap)
 }

@@ -1,18 +1,15 @@
 // A send.
-ghost use Rattle.std.specs.Prelude.{◌≡◌, ◌≤◌, ◌<◌, ◌-◌, ◌^◌, [], ◌∷◌, cond, MatchResult};
+ghost use Rattle.std.specs.Prelude.{◌≡◌, cond};
 ghost use Rattle.calculus.specs.Outcome.{fails};
 ghost use Rattle.calculus.specs.Rows.{Row};
-ghost use Rattle.calculus.specs.Unfolding.{a_row, opened, row_limits, send_offered};
+ghost use Rattle.calculus.specs.Unfolding.{opened, row_limits, send_offered};
 ghost use Rattle.calculus.specs.declared.fault.FaultKind.TheVariants as faults;
-ghost use Rattle.offered_rows.specs.Offers.{tested};
-ghost use Rattle.rho_eval.specs.Outcomes.{Came, Stopped};
-ghost use Rattle.rho_term.specs.Rows.{row_of_op};
+ghost use Rattle.offered_rows.specs.Offers.{ComesToRow, tested};
 
 use crate::opened::opened_channel;
 use crate::row::offer_part;
 use calculus::{Digest, FaultKind};
-use price_table::Prices;
-use rho_eval::{EvalStop, Priced};
+use capped_work::{Budget, EvalStop, Priced};
 use rho_term::{Op, Part, Term};
 use std::alloc::Global;
 
@@ -27,15 +24,9 @@ pub fn offer_send(
     persistent: bool,
     channel: Term,
     args: Vec<Term>,
-    prices: &Prices,
-    cap: u64,
-    price: u64,
+    budget: Budget,
 ) -> Result<Priced<Op>, EvalStop>
-    requires cap { cap < 2 ^ 64 - 1 }
-    requires price { price ≤ cap }
-    ensures { MatchResult result (λ p. Came cap price p.price (a_row (row_of_op p.value) ∷ [])
-        (send_offered prices.now id.0 persistent (opened channel) args.items))
-        (λ e. Stopped cap price (send_offered prices.now id.0 persistent (opened channel) args.items) e) }
+    ensures { ComesToRow result budget.entry (send_offered budget.entry.prices.now id.0 persistent (opened channel) args.items) }
 {
     let opened = opened_channel(channel);
     let fault = channel_fault(opened.writable);
@@ -45,7 +36,7 @@ pub fn offer_send(
         args,
         persistent,
     };
-    offer_part(alloc, id, part, fault, prices.send(), prices, cap, price)
+    offer_part(alloc, id, part, fault, budget.prices.send(), budget)
 }
 
 // What is wrong with the channel of a send.

@@ -1,4 +1,4 @@
-use call_tables::call;
+use program_calls::call;
 use rho_outside::{FileShelf, MemShelf, MemSink, OpenGate, Shelf};
 use std::alloc::Global;
 use std::rt::Files;

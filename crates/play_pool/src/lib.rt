@@ -1,6 +1,7 @@
 //! A deploy played by 1 to 32 workers.
 #![tactic(auto)]
 
+mod asking;
 mod closing;
 mod opening;
 mod playing;

@@ -4,8 +4,7 @@ ghost use Rattle.calculus.specs.Form.{IsBytes, IsClosed};
 ghost use Rattle.calculus.specs.Limits.{most_limit};
 ghost use Rattle.calculus.specs.Runs.{deploy_of, work_fault, work_price, work_products, Deploy, Work};
 ghost use Rattle.calculus.specs.Storing.{IsStorable};
-ghost use Rattle.calculus.specs.Seeds.{digest_of, Start};
-ghost use Rattle.calculus.specs.Unfolding.{rows_of, Unfolds};
+ghost use Rattle.calculus.specs.Unfolding.{rows_of};
 ghost use Rattle.event_log.specs.View.{step_of, TakesInRange};
 ghost use Rattle.fresh_digests.specs.Numbers.{IsNumberable};
 ghost use Rattle.fresh_digests.specs.Premises.{Collides};
@@ -17,8 +16,10 @@ ghost use Rattle.run_verdict.specs.View.{verdict_of};
 ghost use Rattle.play_draws.specs.Making.{Serves};
 ghost use Rattle.play_outcome.specs.Bases.{IsQuietBase};
 ghost use Rattle.play_outcome.specs.Runs.{EndedPlay, IsRunOf};
+ghost use Rattle.play_pool.specs.Asking.{deploy_in, UnfoldsTo};
 ghost use Rattle.play_pool.specs.Closing.{ClosesPlay};
 
+use crate::asking::Asked;
 use crate::closing::close_play;
 use crate::opening::{open_play, rows_may_be_stored};
 use crate::side_by_side::side_by_side;
@@ -26,6 +27,7 @@ use calculus::{Digest, FaultKind};
 use group_locks::{Closed, Pool};
 use known_work::{KnownWork, known_work};
 use name_seed::Seed;
+use numbered_jobs::Crew;
 use play_draws::means::Means;
 use play_hub::{PlayScene, PlayTerms};
 use play_outcome::{Played, outcome};
@@ -44,21 +46,19 @@ use step_work::{Worked, work_source};
 // Opens a hub over the base with what the source offers and cost, lets each seat work in a thread of its own, and closes it. Want of
 // memory is the one error.
 fn run_hub<J: PlayTerms + Sync, T: ShardTables + Sync, R: Threads + Wait + Sync, G: Gate + Sync>(
-    rt: &R,
-    gate: &G,
-    workers: u32,
+    crew: &Crew<R, G>,
     means: Means,
     base: Vec<Row>,
     worked: Worked,
 ) -> Result<Closed<PlayScene<J, T>>, AllocError>
-    requires workers { (1 ≤ workers) × (workers ≤ 32) }
     requires means { Serves means J.deploy }
     requires rows { J.deploy.rows ≡ base.items }
     requires price { (work_price J.deploy.limit J.source ≡ worked.price) × (worked.price ≤ means.limit + 1) }
     requires offers { worked.offers.items ≡ rows_of (work_products J.source) }
     requires comm { 1 ≤ J.deploy.prices.comm }
     ensures shards { IfOk result (λ r. length r.shards.items ≡ 64) }
-    ensures closes { IfOk result (λ r. ClosesPlay J.deploy J.source workers r.entries.items (map T.rows r.shards.items) r.charged) }
+    ensures closes { IfOk result (λ r. ClosesPlay J.deploy J.source crew.now.workers r.entries.items
+        (map T.rows r.shards.items) r.charged) }
 {
     let comm = means.prices.comm();
     prove!(1 <= comm && comm <= 1_000_000);
@@ -71,12 +71,12 @@ fn run_hub<J: PlayTerms + Sync, T: ShardTables + Sync, R: Threads + Wait + Sync,
         means.alloc,
         base,
         offers,
-        workers,
+        crew.workers,
         price,
         means.limit,
     )?;
-    let seats = side_by_side(rt, gate, means, &hub, seats)?;
-    close_play(hub, seats, workers)
+    let seats = side_by_side(crew.rt, crew.gate, means, &hub, seats)?;
+    close_play(hub, seats, crew.workers)
 }
 
 // What a closed hub comes to, where the source has this fault. Want of memory is the one error.
@@ -115,42 +115,35 @@ fn play_source<
     R: Threads + Wait + Sync,
     G: Gate + Sync,
 >(
-    rt: &R,
-    gate: &G,
-    workers: u32,
+    crew: &Crew<R, G>,
     means: Means,
     base: Vec<Row>,
-    root: &Digest,
-    term: &Term,
-    source: &Digest,
+    asked: &Asked,
     worked: Worked,
     known: KnownWork,
 ) -> Result<Played, AllocError>
-    requires workers { (1 ≤ workers) × (workers ≤ 32) }
     requires limit { means.limit ≤ most_limit means.prices.now }
-    requires closed { IsClosed term.now }
-    requires deploy { J.deploy ≡ deploy_of means.prices.now means.limit base.items term.now source.now.0 }
-    requires unfolds { Unfolds means.prices.now means.limit term.now (digest_of (Start root.now.0 source.now.0)) J.source }
+    requires closed { IsClosed asked.now.term.now }
+    requires deploy { J.deploy ≡ deploy_in means base.items asked.now }
+    requires unfolds { UnfoldsTo means asked.now J.source }
     requires source { (work_price means.limit J.source ≡ worked.price) × (work_fault J.source ≡ worked.fault) ×
         (worked.price ≤ means.limit + 1) × (worked.offers.items ≡ rows_of (work_products J.source)) }
-    ensures count { IfOk result (λ played. length played.steps.items ≤ means.entry.limit / means.entry.prices.now.comm + workers) }
+    ensures count { IfOk result (λ played. length played.steps.items ≤ means.entry.limit / means.entry.prices.now.comm + crew.now.workers) }
     ensures most { IfOk result (λ played. length played.steps.items ≤ 1048608) }
     ensures taken { IfOk result (λ played. All TakesInRange played.steps.items) }
     ensures old { IfOk result (λ played. played.verdict ≢ Verdict.Done → played.rows.items ≡ []) }
-    ensures run { IsNumberable term.now → IsBytes source.now.0 → IsQuietBase base.items root.now.0 →
+    ensures run { IsNumberable asked.now.term.now → IsBytes asked.now.source.now.0 → IsQuietBase base.items asked.now.root.now.0 →
         IfOk result (λ played. IsRunOf J.deploy (map step_of played.steps.items) (verdict_of played.verdict) played.cost
         played.rows.items played.output.items ⊎ (ShowsAnId J.deploy (map step_of played.steps.items) ⊎
         Collides J.deploy (map step_of played.steps.items))) }
 {
-    let _ = root;
-    let _ = term;
-    let _ = source;
+    let _ = asked;
     let _ = known;
     let comm = means.prices.comm();
     prove!(1 <= comm && comm <= 1_000_000);
     rows_may_be_stored(base.as_slice());
     let fault = worked.fault;
-    let closed = run_hub::<J, T, R, G>(rt, gate, workers, means, base, worked)?;
+    let closed = run_hub::<J, T, R, G>(crew, means, base, worked)?;
     tell::<J, T>(means.alloc, closed, fault, means.limit)
 }
 
@@ -195,7 +188,12 @@ pub fn play<R: Threads + Wait + Sync, G: Gate + Sync, T: ShardTables + Sync>(
         prices,
         limit,
     };
-    play_source::<Brand, T, R, G>(
-        rt, gate, workers, means, base, root, term, source, worked, known,
-    )
+    let crew = Crew {
+        rt,
+        alloc,
+        gate,
+        workers,
+    };
+    let asked = Asked { root, term, source };
+    play_source::<Brand, T, R, G>(&crew, means, base, &asked, worked, known)
 }

@@ -15,7 +15,7 @@ ghost use Rattle.replay_hub.specs.Ends.{FoundAnEnd};
 ghost use Rattle.replay_hub.specs.Values.{entry_of, values};
 
 use group_locks::{Closed, Hub, Pool, Seat};
-use numbered_jobs::numbered;
+use numbered_jobs::{Crew, numbered};
 use replay_hub::{ReplayScene, Task, close_replay};
 use replay_worker::{ReplayTables, Site, work_through};
 use rho_outside::Gate;
@@ -59,21 +59,17 @@ fn side_by_side<J: ReplayTables + Sync, R: Threads + Wait + Sync, G: Gate + Sync
     )
 }
 
-/// Replays a log by 1 to 32 workers, over these shards and with these jobs, with which a replay of the log may open. Once it
+/// Replays a log by a crew, over these shards and with these jobs, with which a replay of the log may open. Once it
 /// has ended, what its entries did and its shards decide the log, or the digests of some replay of the log clash. Want of
 /// memory is the one error. Workers are numbered from 0, and pass the gate around each entry. What they asked goes before the
 /// hub is closed.
 pub fn replay_side_by_side<J: ReplayTables + Sync + Drop, R: Threads + Wait + Sync, G: Gate + Sync>(
-    rt: &R,
-    alloc: Global,
-    gate: &G,
+    crew: &Crew<R, G>,
     tables: J,
     shards: Vec<J::Shard>,
     tasks: Vec<Task<J::Row, J::Channel>>,
-    workers: u32,
 ) -> Result<Closed<ReplayScene<J>>, AllocError>
     requires knows { J.knows tables }
-    requires workers { (1 ≤ workers) × (workers ≤ 32) }
     requires sizes { (length shards.items ≡ 64) × (length tasks.items ≤ 2 ^ 58) }
     requires opens { (store : Space) × Projected (values J.deploy J.steps J.row_of J.channel_of J.part_of).projects
         store shards.items × (values J.deploy J.steps J.row_of J.channel_of J.part_of).opens store tasks.items }
@@ -83,8 +79,17 @@ pub fn replay_side_by_side<J: ReplayTables + Sync + Drop, R: Threads + Wait + Sy
         (map J.part_of r.shards.items) ⊎ SomeClash J.deploy w J.steps) }
 {
     let scene = ReplayScene::new();
-    let Pool { hub, seats } = Hub::start(alloc, scene, shards, tasks, workers, 0, MOST_CHARGED)?;
-    let seats = side_by_side(rt, alloc, gate, &tables, &hub, seats)?;
+    let workers = crew.workers;
+    let Pool { hub, seats } = Hub::start(
+        crew.alloc,
+        scene,
+        shards,
+        tasks,
+        workers,
+        0,
+        MOST_CHARGED,
+    )?;
+    let seats = side_by_side(crew.rt, crew.alloc, crew.gate, &tables, &hub, seats)?;
     drop(tables);
     let Ok(closed) = close_replay(hub, seats) else {
         return Err(AllocError);

@@ -1,6 +1,7 @@
 //! The answer to a replay of a log by 1 to 32 workers.
 #![tactic(auto)]
 
+mod basis;
 mod racing;
 pub mod runs;
 

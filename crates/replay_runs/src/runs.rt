@@ -10,12 +10,15 @@ ghost use Rattle.replay_faults.specs.Refusals.{is_of_header, refusal_of};
 ghost use Rattle.replay_answers.specs.Answers.{Clashes, IsAnswered};
 ghost use Rattle.replay_answers.specs.Bases.{asked, ids_of};
 ghost use Rattle.states.specs.Quiet.{AreQuiet};
+ghost use Rattle.replay_runs.specs.Basis.{given_by, IsSoundBasis};
 ghost use Rattle.replay_runs.specs.Racing.{any_built_in_id, has_built_in_id};
 
+use crate::basis::Basis;
 use crate::racing::race;
 use calculus::Digest;
 use event_log::Log;
 use name_seed::Seed;
+use numbered_jobs::Crew;
 use price_table::Prices;
 use replay_answers::{ReplayFault, Replayed, check_header};
 use replay_ending::answer_of;
@@ -54,42 +57,29 @@ fn are_bytes(bytes: &[u8])
 
 // Replays the steps of a log under a right header, as `replay` does.
 fn replay_steps<R: Threads + Wait + Sync, G: Gate + Sync>(
-    rt: &R,
-    alloc: Global,
-    gate: &G,
-    workers: u32,
-    base: &[Row],
-    base_root: &Digest,
-    term: &Term,
-    source: &Digest,
-    prices: &Prices,
+    crew: &Crew<R, G>,
+    basis: &Basis,
     log: Log,
 ) -> Result<Replayed, ReplayFault>
-    requires workers { (1 ≤ workers) × (workers ≤ 32) }
-    requires root { root base.now ≡ base_root.now.0 }
-    requires ids { differ (ids_of base.now) ≡ true }
-    requires quiet { AreQuiet base.now }
-    requires closed { IsClosed term.now }
-    requires numberable { IsNumberable term.now }
+    requires basis { IsSoundBasis basis.now }
     requires writable { IsWritable log }
-    requires limit { log.header.limit ≤ most_limit prices.now }
-    requires right { header_refusal (asked base.now term.now source.now.0 prices.now) (header_of log.header) ≡ None }
+    requires limit { log.header.limit ≤ most_limit basis.now.prices.now }
+    requires right { header_refusal (given_by basis.now) (header_of log.header) ≡ None }
     ensures steps { IfErr result (λ e. is_of_header e ≡ false) }
-    ensures answered { IsAnswered (asked base.now term.now source.now.0 prices.now) (header_of log.header) (steps_of log.steps.items) result
-        ⊎ Clashes (deploy_under log.header.limit (asked base.now term.now source.now.0 prices.now)) (steps_of log.steps.items) }
+    ensures answered { IsAnswered (given_by basis.now) (header_of log.header) (steps_of log.steps.items) result
+        ⊎ Clashes (deploy_under log.header.limit (given_by basis.now)) (steps_of log.steps.items) }
 {
-    if are_forged(base) {
+    if are_forged(basis.base) {
         return Err(ReplayFault::NoRun { step: 0 });
     }
+    let source = basis.source;
     are_bytes(&source.0);
-    let comm = prices.comm();
+    let comm = basis.prices.comm();
     prove!(comm <= 1_000_000);
     let limit = log.header.limit;
     let count = log.steps.len() as u32;
-    let raced = race::<Brand, R, G>(
-        rt, alloc, gate, workers, base, base_root, term, source, prices, log,
-    )?;
-    answer_of(alloc, raced, count, limit)
+    let raced = race::<Brand, R, G>(crew, basis, log)?;
+    answer_of(crew.alloc, raced, count, limit)
 }
 
 /// Replays the steps of a log by 1 to 32 workers, from a base of these rows with this root, of a closed process. `source` is the
@@ -130,10 +120,21 @@ pub fn replay<R: Threads + Wait + Sync, G: Gate + Sync>(
     ensures answered { IsAnswered (asked base.now term.now source.now.0 prices.now) (header_of log.header) (steps_of log.steps.items) result
         ⊎ Clashes (deploy_under log.header.limit (asked base.now term.now source.now.0 prices.now)) (steps_of log.steps.items) }
 {
+    let crew = Crew {
+        rt,
+        alloc,
+        gate,
+        workers,
+    };
+    let basis = Basis {
+        base,
+        base_root,
+        term,
+        source,
+        prices,
+    };
     match check_header(&log.header, base_root, source, prices) {
-        Ok(()) => replay_steps(
-            rt, alloc, gate, workers, base, base_root, term, source, prices, log,
-        ),
+        Ok(()) => replay_steps(&crew, &basis, log),
         Err(fault) => Err(fault),
     }
 }

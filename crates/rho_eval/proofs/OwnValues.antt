@@ -11,7 +11,7 @@ use Rattle.calculus.proofs.Placing.{listed-trees}
 use Rattle.rho_term.specs.declared.term.Part.{Part}
 use Rattle.rho_term.specs.Normal.{IsNormal}
 use Rattle.rho_term.specs.Parts.{part_tree}
-use Rattle.rho_eval.specs.Outcomes.{IsOwnValue}
+use Rattle.rho_eval.specs.Values.{IsOwnValue}
 use Rattle.rho_eval.proofs.Forms.{made-same}
 use Rattle.rho_eval.proofs.Parts.{process-form}
 

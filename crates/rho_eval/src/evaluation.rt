@@ -4,19 +4,20 @@ ghost use Rattle.calculus.specs.Form.{IsClosed};
 ghost use Rattle.calculus.specs.Outcome.{in_order, pure, within, gives};
 ghost use Rattle.calculus.specs.Shape.{only};
 ghost use Rattle.calculus.specs.Values.{value};
-ghost use Rattle.rho_eval.specs.Outcomes.{Came, CameFlat, Stopped, Evaluates, EndsWith};
+ghost use Rattle.capped_work.specs.Outcomes.{Came, CameFlat, Stopped, EndsWith};
+ghost use Rattle.rho_eval.specs.Values.{Evaluates};
 ghost use Rattle.rho_term.specs.Normal.{IsOrdered};
 ghost use Rattle.rho_term.specs.Parts.{part_tree, pair_tree};
 ghost use Rattle.value_ops.specs.Answers.{IsOperand};
 
 use crate::limits::limited;
 use crate::operation::{call, operate_one, operate_two};
-use crate::stop::{EvalStop, Priced};
+use capped_work::{EvalStop, Priced};
+use code_order::make_par;
 use coll_ops::{map_of, set_of};
 use price_table::Prices;
 use rho_term::{Part, Term};
 use std::alloc::Global;
-use term_sort::make_par;
 
 /// The value of a closed process, and what its operators and methods cost, under this cap.
 ///

@@ -5,9 +5,7 @@ pub mod evaluation;
 mod limits;
 mod operation;
 pub mod owned;
-pub mod stop;
 
 pub use evaluation::{eval_part, eval_term, eval_terms, evaluate};
 pub use limits::limited;
 pub use owned::eval_owned;
-pub use stop::{EvalStop, Priced};

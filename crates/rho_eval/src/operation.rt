@@ -7,14 +7,14 @@ ghost use Rattle.calculus.specs.Outcome.{Answer, free};
 ghost use Rattle.calculus.specs.Tree.{Tree};
 ghost use Rattle.calculus.specs.Values.{checked, operated};
 ghost use Rattle.coll_ops.specs.Views.{IsCollection, IsCollectionKind, IsNoEquality};
-ghost use Rattle.rho_eval.specs.Outcomes.{Came, Stopped};
+ghost use Rattle.capped_work.specs.Outcomes.{Came, Stopped};
 ghost use Rattle.rho_term.specs.Parts.{part_tree};
 ghost use Rattle.term_encoder.specs.Sizes.{in_u64};
 ghost use Rattle.value_ops.specs.Answers.{Answers, IsEquality, IsNoCollection, IsOperand};
 
 use crate::limits::{charge, limited};
-use crate::stop::{EvalStop, Priced};
 use calculus::{BinaryOp, UnaryOp};
+use capped_work::{EvalStop, Priced};
 use coll_ops::{coll_binary, coll_method};
 use price_table::Prices;
 use rho_term::{Part, Term};

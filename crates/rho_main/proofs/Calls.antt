@@ -3,8 +3,8 @@ use Rattle.std.proofs.Common.{◌≡◌, ◌≤◌, inl, inr, ℕ, List, refl, s
 use Rattle.command_words.specs.Commands.{RunRequest, WorkloadRequest, deploy, genesis, inspect, replay, workload}
 use Rattle.command_words.specs.declared.usage.Usage.{Usage}
 use Rattle.rho_outside.specs.FileMap.{FileMap, SameBut}
+use Rattle.run_ends.specs.Fetched.{HasFetched}
 use Rattle.run_deploys.specs.Deploys.{IsDeploy}
-use Rattle.run_deploys.specs.Fetched.{HasFetched}
 use Rattle.run_deploys.proofs.Promised.{refused_deploy, deploy_after}
 use Rattle.run_inputs.specs.Ended.{DeployEnds, ReplayEnds}
 use Rattle.run_inspects.specs.Inspects.{IsInspect}

@@ -11,8 +11,10 @@ ghost use Rattle.run_reports.specs.World.{world};
 ghost use Rattle.run_workloads.specs.Workloads.{IsWorkload};
 
 use crate::accepting::{Accepted, accept};
+use numbered_jobs::Crew;
 use rho_outside::{Gate, Shelf, Sink};
 use run_deploys::deploy_accepted;
+use run_ends::worker_count;
 use run_replays::replay_accepted;
 use run_status::Status;
 use run_workloads::workload;
@@ -36,10 +38,22 @@ fn run_words<R: Threads + Wait + Sync, S: Shelf, O: Sink, G: Gate + Sync>(
     match accept(alloc, words, shelf, out) {
         Accepted::Ended(status) => status,
         Accepted::Deploy { run, limit, inputs } => {
-            deploy_accepted(rt, alloc, &run, limit, inputs, shelf, out, gate)
+            let crew = Crew {
+                rt,
+                alloc,
+                gate,
+                workers: worker_count(run.workers),
+            };
+            deploy_accepted(&crew, &run, limit, inputs, shelf, out)
         }
         Accepted::Replay { run, inputs } => {
-            replay_accepted(rt, alloc, &run, inputs, shelf, out, gate)
+            let crew = Crew {
+                rt,
+                alloc,
+                gate,
+                workers: worker_count(run.workers),
+            };
+            replay_accepted(&crew, &run, inputs, shelf, out)
         }
         Accepted::Workload(request) => workload(rt, alloc, &request, shelf, out, gate),
     }

@@ -3,7 +3,8 @@ use Rattle.std.proofs.Common.{◌≡◌, ℕ, zero, suc, ◌+◌, ◌<◌, ◌�
 use Rattle.calculus.specs.declared.plain.Origin.{Origin}
 use Rattle.calculus.specs.declared.plain.Origin.TheVariants as origins
 use Rattle.calculus.specs.Printed.{separated, declared_texts, variable_text, uri_text}
-use Rattle.rho_printer.specs.Texts.{before, separated_from}
+use Rattle.printed_words.specs.Words.{before}
+use Rattle.rho_printer.specs.Texts.{separated_from}
 use Rattle.rho_printer.proofs.Lists.{separated_zero, none_left}
 
 pub name_taken : (os : List Origin) (i : ℕ) → i < length os → drop i os ≡ get_or os i origins.Plain ∷ drop (suc i) os

@@ -3,7 +3,6 @@ pub mod Rows
 pub mod Forms
 pub mod PatternForms
 pub mod BindForms
-pub mod Digits
 pub mod Singles
 pub mod Declared
 pub mod Moving

@@ -7,7 +7,8 @@ use Rattle.calculus.specs.Form.{Sort, all}
 use Rattle.calculus.specs.Printed.{separated}
 use Rattle.calculus.proofs.Formed.{Formed, Holds}
 use Rattle.calculus.proofs.Tails.{IsFine}
-use Rattle.rho_printer.specs.Texts.{chain, before, separated_from}
+use Rattle.printed_words.specs.Words.{before}
+use Rattle.rho_printer.specs.Texts.{chain, separated_from}
 
 -- the members from number i on are left
 abbrev pub StillWrites : (Tree → ℕ → List ℕ) → Sort → List ℕ → List Tree → ℕ → List ℕ → List ℕ → Type 0

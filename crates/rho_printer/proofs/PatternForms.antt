@@ -18,7 +18,8 @@ use Rattle.rho_term.specs.declared.term.Part.{Part}
 use Rattle.rho_term.specs.declared.term.Part.TheVariants as parts
 use Rattle.rho_term.specs.declared.term.PatPart.{PatPart}
 use Rattle.calculus.specs.Printed.{printed}
-use Rattle.rho_printer.specs.Texts.{text_of, texts_of, members_text, left_text, joined_text, bind_text_of, before, remainder, IsClosedForm, Writes}
+use Rattle.printed_words.specs.Words.{before, remainder}
+use Rattle.rho_printer.specs.Texts.{text_of, texts_of, members_text, left_text, joined_text, bind_text_of, IsClosedForm, Writes}
 use Rattle.rho_printer.proofs.Lists.{before_some}
 use Rattle.rho_printer.proofs.Rows.{nothing_more, row_printed, single_pat, single_pair, single_name_pat, each_first, first_either, listed-trees, trees-listed}
 use Rattle.rho_printer.proofs.Forms.{after, shown, no_variables, tuple_written, length-texts}

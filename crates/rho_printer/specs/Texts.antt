@@ -1,14 +1,14 @@
 -- What is written of a text so far.
-use Rattle.std.specs.Prelude.{◌≡◌, ℕ, zero, suc, ◌+◌, cond, eqb, List, [], ◌∷◌, ◌++◌, ◌≤◌, ⊤, length, map as each, codes}
+use Rattle.std.specs.Prelude.{◌≡◌, ℕ, suc, ◌+◌, List, [], ◌∷◌, ◌++◌, ◌≤◌, ⊤, length, map as each, codes}
 use Rattle.calculus.specs.declared.plain.Kind.{Kind}
 use Rattle.calculus.specs.declared.plain.TermRest.{TermRest}
-use Rattle.calculus.specs.declared.plain.TermRest.TheVariants as rests
 use Rattle.calculus.specs.Tree.{Tree, trees, rest}
 use Rattle.calculus.specs.Shape.{held, leaf}
 use Rattle.calculus.specs.Variables.{bound, bound_all}
 use Rattle.calculus.specs.Form.{Sort, term, a_bind, pat, name_pat, pat_part, name_part, all}
-use Rattle.calculus.specs.Printed.{first_text, separated, variable_text, bind_texts, rest_text, with_commas, with_rest, operand_text}
+use Rattle.calculus.specs.Printed.{first_text, separated, bind_texts, rest_text, with_commas, with_rest, operand_text}
 use Rattle.calculus.specs.Formed.{IsFine, Formed, Holds}
+use Rattle.printed_words.specs.Words.{before}
 use Rattle.rho_term.specs.declared.term.Part.{Part}
 use Rattle.rho_term.specs.declared.term.Part.TheVariants as parts
 use Rattle.calculus.specs.Printed.{printed}
@@ -26,20 +26,10 @@ chain f (t ∷ ts) n = f t n ∷ chain f ts (n + length (bound t))
 abbrev pub texts_of : Sort → List Tree → ℕ → ℕ → List (List ℕ)
 texts_of s ts d n = chain (λ t m. text_of s t d m) ts n
 
--- what stands before text number i of a list
-abbrev pub before : ℕ → List ℕ → List ℕ
-before i mark = cond (eqb i 0) [] mark
-
 -- texts from number i of a list on
 abbrev pub separated_from : ℕ → List ℕ → List (List ℕ) → List ℕ
 separated_from i mark [] = []
 separated_from i mark (x ∷ xs) = before i mark ++ (x ++ separated_from (suc i) mark xs)
-
--- a remainder after i members
-abbrev pub remainder : ℕ → List ℕ → List ℕ → TermRest → ℕ → List ℕ
-remainder i mark dots rests.No n = []
-remainder i mark dots rests.Var n = before i mark ++ (dots ++ variable_text n)
-remainder i mark dots rests.Wild n = before i mark ++ (dots ++ codes "_")
 
 -- the text of a bind
 abbrev pub bind_text_of : Kind → Tree → ℕ → ℕ → List ℕ

@@ -6,11 +6,10 @@ ghost use Rattle.rho_term.specs.Parts.{bind_tree, case_tree};
 ghost use Rattle.rho_printer.specs.Texts.{HasRoom, NumbersPast, NumbersPastAll, NumbersPastRest, left_text};
 ghost use Rattle.rho_printer.specs.Texts.{Writes, WritesAll, WritesBind, WritesBinds, WritesIfFine};
 
-use crate::fixed::arrow;
 use crate::patterns::{put_name_pats, put_pat};
 use crate::terms::{put_block, put_name};
-use crate::words::{put, put_rest, put_space_since, separate};
 use calculus::{Kind, TermRest};
+use printed_words::{arrow, put, put_rest, put_space_since, separate};
 use rho_term::{TermBind, TermCase, TermPat};
 use std::alloc::AllocError;
 

@@ -9,12 +9,12 @@ ghost use Rattle.rho_term.specs.Parts.{part_tree, ground_tree, pair_tree, bind_t
 ghost use Rattle.rho_printer.specs.Texts.{text_of, Writes};
 
 use crate::binds::{put_binds, put_cases};
-use crate::fixed::{bool_word, op_word, rights_word, send_marks, tuple_end, uri_after};
 use crate::terms::{put_block, put_braced, put_name, put_operand, put_pairs, put_term, put_terms};
-use crate::words::{
-    number_of, put, put_fresh, put_hex, put_int, put_str, put_uri, put_variable, separate,
-};
 use calculus::{BinaryOp, Ground, Kind, Origin, Rights, UnaryOp};
+use printed_words::{
+    bool_word, number_of, op_word, put, put_fresh, put_hex, put_int, put_str, put_uri,
+    put_variable, rights_word, send_marks, separate, tuple_end, uri_after,
+};
 use rho_term::{Part, Term, TermBind, TermCase};
 use std::alloc::AllocError;
 

@@ -11,12 +11,11 @@ ghost use Rattle.rho_term.specs.Parts.{part_tree, pat_part_tree, pair_tree};
 ghost use Rattle.rho_printer.specs.Texts.{HasRoom, IsClosedForm, NumbersPast, NumbersPastRest, WritesIfFine, WritesPart};
 ghost use Rattle.rho_printer.specs.Texts.{joined_text, members_text};
 
-use crate::fixed::{rights_word, send_marks, simple_word, tuple_end};
 use crate::parts::{is_atom_part, put_ground, put_part};
 use crate::patterns::{put_name_pat, put_pat, put_pat_operand, put_pat_pairs, put_pats};
 use crate::terms::put_braced;
-use crate::words::{put, put_rest, put_variable};
 use calculus::{Rights, TermRest};
+use printed_words::{put, put_rest, put_variable, rights_word, send_marks, simple_word, tuple_end};
 use rho_term::{Part, PatPart, Term, TermPat};
 use std::alloc::AllocError;
 

@@ -10,7 +10,7 @@ ghost use Rattle.rho_term.specs.Parts.{pat_part_tree, pair_tree};
 ghost use Rattle.rho_printer.specs.Texts.{HasRoom, NumbersPast, NumbersPastAll, WritesFrom, WritesListed, WritesParts, text_of};
 
 use crate::pattern_parts::{is_bare_part, is_pattern_atom_part, put_pat_part};
-use crate::words::{put, separate};
+use printed_words::{put, separate};
 use rho_term::{PatPart, TermPat};
 use std::alloc::AllocError;
 

@@ -9,7 +9,7 @@ ghost use Rattle.rho_term.specs.Parts.{part_tree, pair_tree};
 ghost use Rattle.rho_printer.specs.Texts.{Writes, WritesAll, WritesAs};
 
 use crate::parts::{is_atom_part, put_part};
-use crate::words::{number_of, put, put_fresh, put_variable, separate};
+use printed_words::{number_of, put, put_fresh, put_variable, separate};
 use rho_term::{Part, Term};
 use std::alloc::AllocError;
 

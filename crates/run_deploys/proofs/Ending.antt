@@ -1,16 +1,13 @@
 -- How a deploy ended, as far as its inputs tell.
-use Rattle.std.proofs.Common.{◌≡◌, ℕ, Option, sym, subst}
+use Rattle.std.proofs.Common.{ℕ, Option}
 use Rattle.rho_outside.specs.FileMap.{FileMap}
 use Rattle.command_words.specs.Commands.{RunRequest}
-use Rattle.run_verdict.specs.declared.verdict.Verdict.{Verdict}
-use Rattle.run_verdict.specs.declared.verdict.Verdict.TheVariants as ending
 use Rattle.run_inputs.specs.Given.{task_of, AreAccepted}
 use Rattle.run_inputs.specs.Inputs.{accepted}
 use Rattle.run_inputs.specs.Runnable.{IsRunnable}
 use Rattle.run_inputs.specs.declared.acceptance.Inputs.{Inputs}
 use Rattle.run_inputs.specs.Refused.{RefusedFor}
 use Rattle.run_inputs.specs.Ended.{IsAccepted, DeployEnds}
-use Rattle.run_status.specs.Endings.{status_of}
 use Rattle.run_status.specs.declared.status.Status.{Status}
 use Rattle.run_status.specs.declared.status.Status.TheVariants as status
 use Rattle.run_deploys.proofs.Leaving.{ok_and}
@@ -32,12 +29,6 @@ module _ (told : Option FileMap) (names : RunRequest) (limit before now : ℕ) w
   refused_ends (status.Usage u) h = absurd h
   refused_ends (status.Log f) h = absurd h
   refused_ends (status.Replay f) h = absurd h
-
-  -- with a verdict all was accepted
-  pub verdict_ends : (v : Verdict) (s : Status) → s ≡ status_of v → IsAccepted told names limit → DeployEnds told names limit before now s
-  verdict_ends ending.Done s e h = subst (λ (x : Status). DeployEnds told names limit before now x) (sym e) h
-  verdict_ends ending.Exhausted s e h = subst (λ (x : Status). DeployEnds told names limit before now x) (sym e) h
-  verdict_ends (ending.Faulted step kind) s e h = subst (λ (x : Status). DeployEnds told names limit before now x) (sym e) h
 
 -- what a deploy accepted
 pub accepted_in : (told : Option FileMap) (names : RunRequest) (limit : ℕ) (i : Inputs) → AreAccepted told names limit i → IsAccepted told names limit

@@ -1,56 +1,23 @@
 -- What a written plan leaves of the told files and bytes.
-use Rattle.std.proofs.Common.{◌≡◌, ◌∙◌, ℕ, List, [], ◌∷◌, Result, Ok, ap, sym, subst}
+use Rattle.std.proofs.Common.{◌≡◌, ◌⊎◌, ◌∙◌, ℕ, List, [], ◌∷◌, Result, Ok, refl, ap, sym, subst}
 use Rattle.std.specs.Result.{IsOkAnd}
 use Rattle.calculus.specs.Log.{log_text}
+use Rattle.rho_outside.specs.Causes.{Rose}
 use Rattle.rho_outside.specs.Put.{GrewBy}
 use Rattle.rho_outside.specs.Kept.{with_files}
 use Rattle.command_words.specs.Commands.{RunRequest}
 use Rattle.run_inputs.specs.Inputs.{Task}
 use Rattle.run_reports.specs.Stops.{StopsOnTheWay}
 use Rattle.run_reports.specs.World.{World}
-use Rattle.run_status.specs.Endings.{OnRefusal, OnHalt, OnVerdict, status_of}
+use Rattle.run_reports.specs.declared.finish.Halt.{Halt}
+use Rattle.run_reports.specs.declared.finish.Halt.TheVariants as halt
+use Rattle.run_status.specs.Endings.{status_of}
+use Rattle.run_status.specs.Statuses.{status_of_halt}
 use Rattle.run_status.specs.declared.status.Status.{Status}
-use Rattle.run_status.specs.declared.status.Status.TheVariants.{Done, Usage, ReadFault, WriteFault, State, Source, Prices, Limit, Log, Replay, Exhausted, Faulted, NoMemory, TooLarge}
-use Rattle.run_deploys.specs.Runs.{header_of}
-use Rattle.run_deploys.specs.Ends.{LeavesAll, LeavesSome, entries_of, bytes_of}
+use Rattle.run_ends.specs.Runs.{bytes_of, header_of}
+use Rattle.run_deploys.specs.Ends.{Halts, LeavesAll, LeavesInPart, LeavesSome, entries_of}
 use Rattle.run_deploys.specs.Plan.{IsPlan, planned}
 use Rattle.run_deploys.specs.declared.deploys.Plan.{Plan}
-
--- what holds anyhow holds where a run ended with a verdict
-pub on_verdict : (s : Status) (P : Type 0) → P → OnVerdict s P
-on_verdict Done P p = p
-on_verdict Exhausted P p = p
-on_verdict Faulted P p = p
-on_verdict (Usage u) P p = tt
-on_verdict (ReadFault i) P p = tt
-on_verdict WriteFault P p = tt
-on_verdict (Source f) P p = tt
-on_verdict (Prices f) P p = tt
-on_verdict (Limit n m) P p = tt
-on_verdict (Log f) P p = tt
-on_verdict (Replay f) P p = tt
-on_verdict (State f) P p = tt
-on_verdict NoMemory P p = tt
-on_verdict (TooLarge i n m) P p = tt
-
--- what holds where nothing was kept or put holds of a status with a cause that no verdict and no failed write has
-module _ (Cause : Status → Type 0) (done : Cause Done → ⊥) (exhausted : Cause Exhausted → ⊥) (faulted : Cause Faulted → ⊥) (fault : Cause WriteFault → ⊥)
-    (P Q R W : Type 0) (p : P) (r : R) where
-  pub on_refused : (s : Status) → Cause s → OnRefusal s P × (OnVerdict s Q × (OnHalt s R × (s ≡ WriteFault → W)))
-  on_refused Done h = absurd (done h)
-  on_refused Exhausted h = absurd (exhausted h)
-  on_refused Faulted h = absurd (faulted h)
-  on_refused WriteFault h = absurd (fault h)
-  on_refused (Usage u) h = (p, (tt, (tt, λ e. cc)))
-  on_refused (ReadFault i) h = (p, (tt, (tt, λ e. cc)))
-  on_refused (Source f) h = (p, (tt, (tt, λ e. cc)))
-  on_refused (Prices f) h = (p, (tt, (tt, λ e. cc)))
-  on_refused (Limit n m) h = (p, (tt, (tt, λ e. cc)))
-  on_refused (Log f) h = (p, (tt, (tt, λ e. cc)))
-  on_refused (Replay f) h = (p, (tt, (tt, λ e. cc)))
-  on_refused (State f) h = (p, (tt, (tt, λ e. cc)))
-  on_refused NoMemory h = (tt, (tt, (r, λ e. cc)))
-  on_refused (TooLarge i n m) h = (p, (tt, (tt, λ e. cc)))
 
 -- a result that is this value has what the value has
 pub ok_and : {A E : Type 0} (P : A → Type 0) (r : Result A E) (x : A) → r ≡ Ok x → P x → IsOkAnd r P
@@ -80,3 +47,9 @@ leaves_some names limit task p a b plan stops =
     let entries = entries_of names plan.rows task limit plan.left in
     let all : F entries (bytes_of plan.left) = subst (λ y. F entries y) plan.bytes (subst (λ es. F es p.bytes.items) (same-entries names limit task p plan) stops) in
     (plan.rows, (plan.left, (plan.run, all)))
+
+-- a deploy whose last steps ended early halted
+pub halts_by : (names : RunRequest) (limit : ℕ) (a b : World) (h : Halt) → (h ≡ halt.WriteFault → Rose a.keeps b.keeps ⊎ Rose a.puts b.puts)
+    → LeavesInPart names limit a b → Halts names limit a b (status_of_halt h)
+halts_by names limit a b halt.WriteFault w p = (w refl, p)
+halts_by names limit a b halt.NoMemory w p = p

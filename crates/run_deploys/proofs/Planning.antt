@@ -17,10 +17,11 @@ use Rattle.play_outcome.specs.declared.played.Played.{Played}
 use Rattle.run_inputs.specs.Given.{task_of, IsBase}
 use Rattle.run_inputs.specs.declared.acceptance.Inputs.{Inputs}
 use Rattle.run_inputs.specs.declared.fetch.Base.{Base}
-use Rattle.run_deploys.specs.Runs.{Left, header_of, printed, ShowsAClash, IsLeftBySource}
+use Rattle.run_ends.specs.Runs.{Left, header_of, printed, ShowsAClash, IsLeftBySource}
+use Rattle.run_ends.proofs.Running.{silent}
 use Rattle.run_deploys.specs.Plan.{IsMade, IsPlan}
 use Rattle.run_deploys.specs.declared.deploys.Plan.{Plan}
-use Rattle.run_deploys.proofs.Running.{left_or_clash, silent}
+use Rattle.run_deploys.proofs.Running.{left_or_clash}
 
 -- a deploy may begin with the rows of a state
 pub quiet-base : (b : Base) → IsBase b → (digest : List ℕ) → digest ≡ root b.checkpoint → IsQuietBase b.checkpoint digest

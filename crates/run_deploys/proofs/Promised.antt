@@ -1,33 +1,23 @@
 -- What is promised of a deploy, from how it ended.
-use Rattle.std.proofs.Common.{◌≡◌, ◌≤◌, ◌⊎◌, inl, inr, ℕ, Option, sym, ap, subst, ◌∙◌, arith}
+use Rattle.std.proofs.Common.{◌≡◌, ◌≤◌, ◌⊎◌, inl, inr, ℕ, Option, sym, subst}
 use Rattle.rho_outside.specs.Causes.{Rose}
 use Rattle.rho_outside.specs.FileMap.{FileMap}
 use Rattle.command_words.specs.Commands.{RunRequest}
 use Rattle.run_inputs.specs.Inputs.{accepted_state, accepted}
 use Rattle.run_inputs.specs.Refused.{RefusedFor}
-use Rattle.run_inputs.specs.Ended.{DeployEnds}
+use Rattle.run_inputs.specs.Ended.{DeployEnds, IsAccepted}
 use Rattle.run_inputs.proofs.Exact.{if_ok, deploy_exact, deploy_state_exact, deploy_source_exact, deploy_complete}
 use Rattle.run_reports.specs.World.{World, world}
-use Rattle.run_status.specs.Endings.{OnRefusal, OnHalt, OnVerdict}
+use Rattle.run_status.specs.Endings.{OnRefusal, OnHalt, OnVerdict, status_of}
+use Rattle.run_verdict.specs.declared.verdict.Verdict.{Verdict}
+use Rattle.run_verdict.specs.declared.verdict.Verdict.TheVariants as ending
 use Rattle.run_status.specs.declared.status.Status.{Status}
 use Rattle.run_status.specs.declared.status.Status.TheVariants as status
+use Rattle.run_ends.specs.Fetched.{HasFetched}
+use Rattle.run_ends.proofs.Endings.{on_refused, rose_before, fetched_world}
 use Rattle.run_deploys.specs.Deploys.{IsDeploy}
-use Rattle.run_deploys.specs.Ends.{Leaves, LeavesInPart}
-use Rattle.run_deploys.specs.Fetched.{HasFetched}
+use Rattle.run_deploys.specs.Ends.{Halts, Leaves, LeavesInPart}
 use Rattle.run_deploys.proofs.Ending.{refused_ends}
-use Rattle.run_deploys.proofs.Leaving.{on_refused}
-
--- a count that rose after a later moment rose after an earlier one
-pub rose_before : (before mid now : ℕ) → before ≤ mid → Rose mid now → Rose before now
-rose_before before mid now l r = omega (arith, l, r)
-
--- a world after which only fetches were made differs in their count alone
-pub fetched_world : (a m : World) → HasFetched a m → world a.files m.fetches a.keeps a.bytes a.puts ≡ m
-fetched_world a m f =
-    ap (λ x. world x m.fetches a.keeps a.bytes a.puts) (sym f.files)
-    ∙ (ap (λ x. world m.files m.fetches x a.bytes a.puts) (sym f.keeps)
-    ∙ (ap (λ x. world m.files m.fetches m.keeps x a.puts) (sym f.bytes)
-    ∙ ap (λ x. world m.files m.fetches m.keeps m.bytes x) (sym f.puts)))
 
 -- the end of a deploy, from fewer failed fetches
 earlier-ends : (told : Option FileMap) (names : RunRequest) (limit before mid now : ℕ) → before ≤ mid → (s : Status) → DeployEnds told names limit mid now s → DeployEnds told names limit before now s
@@ -72,6 +62,29 @@ module _ (names : RunRequest) (limit : ℕ) where
         verdict = verdict;
         part = part;
       }
+
+  -- a deploy of accepted inputs that left all that it leaves, with this verdict
+  pub left_deploy : (a b : World) → IsAccepted a.files names limit → (v : Verdict) → Leaves (status_of v) names limit a b → IsDeploy names limit a b (status_of v)
+  left_deploy a b accepted ending.Done l = is_deploy a b status.Done accepted tt (λ e. cc) l tt
+  left_deploy a b accepted ending.Exhausted l = is_deploy a b status.Exhausted accepted tt (λ e. cc) l tt
+  left_deploy a b accepted (ending.Faulted step kind) l = is_deploy a b status.Faulted accepted tt (λ e. cc) l tt
+
+  -- a deploy of accepted inputs that halted
+  pub halted_deploy : (a b : World) → IsAccepted a.files names limit → (s : Status) → Halts names limit a b s → IsDeploy names limit a b s
+  halted_deploy a b accepted status.WriteFault h = is_deploy a b status.WriteFault accepted tt (λ e. h.0) tt h.1
+  halted_deploy a b accepted status.NoMemory h = is_deploy a b status.NoMemory tt tt (λ e. cc) tt h
+  halted_deploy a b accepted status.Done h = absurd h
+  halted_deploy a b accepted status.Exhausted h = absurd h
+  halted_deploy a b accepted status.Faulted h = absurd h
+  halted_deploy a b accepted (status.ReadFault i) h = absurd h
+  halted_deploy a b accepted (status.TooLarge i n m) h = absurd h
+  halted_deploy a b accepted (status.State f) h = absurd h
+  halted_deploy a b accepted (status.Prices f) h = absurd h
+  halted_deploy a b accepted (status.Limit n m) h = absurd h
+  halted_deploy a b accepted (status.Source f) h = absurd h
+  halted_deploy a b accepted (status.Usage u) h = absurd h
+  halted_deploy a b accepted (status.Log f) h = absurd h
+  halted_deploy a b accepted (status.Replay f) h = absurd h
 
   -- a deploy whose inputs are refused
   pub refused_deploy : (a b : World) → HasFetched a b → (s : Status) → RefusedFor a.files names limit a.fetches b.fetches s → IsDeploy names limit a b s

@@ -1,7 +1,6 @@
 -- What a run leaves, from what was played.
-use Rattle.std.proofs.Common.{◌≡◌, ◌≢◌, ◌≤◌, ◌⊎◌, inl, inr, ℕ, List, [], ◌∷◌, ◌++◌, length, refl, sym, ◌∙◌, ap, subst}
+use Rattle.std.proofs.Common.{◌≡◌, ◌≢◌, ◌⊎◌, inl, inr, ℕ, List, ◌∷◌, ◌++◌, refl, sym, ◌∙◌, ap, subst}
 use Rattle.std.specs.Prelude.{IsPermutation}
-use Rattle.calculus.specs.Tree.{Tree}
 use Rattle.calculus.specs.Log.{Step}
 use Rattle.calculus.specs.Rows.{Row}
 use Rattle.calculus.specs.Root.{root}
@@ -9,16 +8,13 @@ use Rattle.calculus.specs.Steps.{Bag, stored_rows}
 use Rattle.calculus.specs.Runs.{Deploy, State, IsLegal, IsRun, Verdict, done, verdict, next_rows}
 use Rattle.states.specs.States.{state_text}
 use Rattle.states.proofs.Groups.{root_ignores_order, text_ignores_order}
-use Rattle.sources.specs.Sources.{IsSourceOf}
 use Rattle.events.specs.Events.{AreFresh}
 use Rattle.events.proofs.Spending.{ids_are_spent_once}
-use Rattle.fresh_digests.specs.Numbers.{IsNumberable}
-use Rattle.fresh_sources.proofs.Sources.{source_texts_are_numberable}
 use Rattle.run_verdict.specs.View.{verdict_of}
 use Rattle.run_verdict.specs.declared.verdict.Verdict.{Verdict as Ending}
 use Rattle.run_verdict.specs.declared.verdict.Verdict.TheVariants as ending
 use Rattle.play_outcome.specs.Runs.{IsRunOf}
-use Rattle.run_deploys.specs.Runs.{printed, SpendsOnce, ShowsAClash, IsLeftByRun}
+use Rattle.run_ends.specs.Runs.{printed, SpendsOnce, ShowsAClash, IsLeftByRun}
 
 -- along a run whose digests are fresh no id is spent twice
 spends-once : (deploy : Deploy) (ss : List Step) (a : State) → IsRun deploy ss a → AreFresh deploy ss → SpendsOnce deploy ss
@@ -61,15 +57,3 @@ pub left_or_clash : (deploy : Deploy) (steps : List Step) (v : Ending) (charge :
     → IsLeftByRun deploy (record { steps = steps; next = text; output = printed (verdict_of v) output; report = record { verdict = v; cost = charge; root = digest; steps = count } }) ⊎ ShowsAClash deploy steps
 left_or_clash deploy steps v charge rows output digest text count (inl r) d o = inl (left-by-run deploy steps v charge rows output digest text count r d o)
 left_or_clash deploy steps v charge rows output digest text count (inr k) d o = inr k
-
--- with another verdict than done nothing is printed
-pub silent : (v : Ending) (output : List ℕ) → v ≢ ending.Done → printed (verdict_of v) output ≡ []
-silent ending.Done output n = absurd (n refl)
-silent ending.Exhausted output n = refl
-silent (ending.Faulted step kind) output n = refl
-
--- four bytes number the parts and names of the process of a source
-pub numberable : (source : List ℕ) (t : Tree) → IsSourceOf source t → length source ≤ 1048576 → IsNumberable t
-numberable source t s few =
-    let spelt = s.accepted.spelt in
-    subst IsNumberable (sym s.normal) (source_texts_are_numberable _ source spelt.spanned s.process spelt.height spelt.tokens spelt.spells few)

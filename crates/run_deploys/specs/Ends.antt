@@ -1,26 +1,23 @@
 -- What a deploy leaves.
-use Rattle.std.specs.Prelude.{◌≡◌, ◌⊎◌, ℕ, List, [], ◌∷◌, ◌++◌, IsOkAnd}
+use Rattle.std.specs.Prelude.{◌≡◌, ◌⊎◌, ℕ, List, [], ◌∷◌, IsOkAnd}
 use Rattle.calculus.specs.Log.{log_text}
 use Rattle.calculus.specs.Rows.{Row}
+use Rattle.rho_outside.specs.Causes.{Rose}
 use Rattle.rho_outside.specs.Put.{GrewBy}
 use Rattle.rho_outside.specs.Told.{Told}
 use Rattle.rho_outside.specs.Kept.{with_files}
 use Rattle.command_words.specs.Commands.{RunRequest}
 use Rattle.run_inputs.specs.Inputs.{Task, accepted}
-use Rattle.run_reports.specs.Report.{report_line}
 use Rattle.run_reports.specs.Stops.{StopsOnTheWay}
 use Rattle.run_reports.specs.World.{World}
 use Rattle.run_status.specs.Endings.{status_of}
 use Rattle.run_status.specs.declared.status.Status.{Status}
-use Rattle.run_deploys.specs.Runs.{Left, header_of, IsLeftBySource}
+use Rattle.run_status.specs.declared.status.Status.TheVariants.{NoMemory, WriteFault}
+use Rattle.run_ends.specs.Runs.{Left, bytes_of, header_of, IsLeftBySource}
 
 -- the files that are kept, in this order
 abbrev pub entries_of : RunRequest → List Row → Task → ℕ → Left → List (List ℕ × List ℕ)
 entries_of names rows task limit left = (names.log, log_text (header_of rows task limit) left.steps) ∷ (names.next, left.next) ∷ []
-
--- the bytes that are put, in one piece: what is printed, and then the line of the report
-abbrev pub bytes_of : Left → List ℕ
-bytes_of left = left.output ++ report_line left.report
 
 -- what was left is what a run of this task's source leaves under this limit, and a status says its verdict
 pub record IsLeftBy (rows : List Row) (task : Task) (limit : ℕ) (status : Status) (left : Left) : Type 0 where
@@ -45,3 +42,9 @@ Leaves status names limit a b = Told a.files (λ files. IsOkAnd (accepted names 
 abbrev pub LeavesInPart : RunRequest → ℕ → World → World → Type 0
 LeavesInPart names limit a b = Told a.files (λ files.
     ((b.files ≡ a.files) × (b.bytes ≡ a.bytes)) ⊎ IsOkAnd (accepted names limit files) (LeavesSome names limit a b))
+
+-- from one world to the next a deploy halted with this status: a write failed, or memory is wanted, and all is as it was, or some of what a deploy leaves is there
+abbrev pub Halts : RunRequest → ℕ → World → World → Status → Type 0
+Halts names limit a b WriteFault = (Rose a.keeps b.keeps ⊎ Rose a.puts b.puts) × LeavesInPart names limit a b
+Halts names limit a b NoMemory = LeavesInPart names limit a b
+Halts names limit a b _ = ⊥

@@ -1,5 +1,3 @@
-pub mod Runs
 pub mod Ends
 pub mod Deploys
-pub mod Fetched
 pub mod Plan

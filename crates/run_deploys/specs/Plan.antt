@@ -13,8 +13,7 @@ use Rattle.play_outcome.specs.declared.played.Played.{Played}
 use Rattle.run_reports.specs.Report.{report_line}
 use Rattle.command_words.specs.Commands.{RunRequest}
 use Rattle.run_inputs.specs.Inputs.{Task}
-use Rattle.run_deploys.specs.Runs.{Left, header_of, printed, IsLeftBySource}
-use Rattle.run_deploys.specs.Ends.{bytes_of}
+use Rattle.run_ends.specs.Runs.{Left, bytes_of, header_of, printed, IsLeftBySource}
 use Rattle.run_deploys.specs.declared.deploys.Plan.{Plan}
 
 -- the files of a plan under these names, in the order in which they are kept

@@ -1,4 +1,4 @@
-ghost use Rattle.std.specs.Prelude.{◌≡◌, ◌≤◌, All, IfOk, OnOk, OnErr, IsErrOf, length};
+ghost use Rattle.std.specs.Prelude.{◌≡◌, ◌≤◌, All, IfErr, IfOk, OnOk, OnErr, IsErrOf, length};
 ghost use Rattle.calculus.specs.Form.{IsClosed};
 ghost use Rattle.calculus.specs.Limits.{most_limit as greatest_limit};
 ghost use Rattle.sources.specs.Sources.{IsSourceOf};
@@ -7,23 +7,23 @@ ghost use Rattle.run_reports.specs.Stops.{SetsAll, StopsOnTheWay, WriteFailed};
 ghost use Rattle.command_words.specs.Answers.{run_of};
 ghost use Rattle.event_log.specs.View.{TakesInRange};
 ghost use Rattle.run_inputs.specs.Given.{task_of, AreAccepted, IsBase};
-ghost use Rattle.run_inputs.specs.Ended.{DeployEnds};
-ghost use Rattle.run_status.specs.Endings.{OnRefusal, OnHalt, OnVerdict};
+ghost use Rattle.run_status.specs.Endings.{status_of};
 ghost use Rattle.run_deploys.specs.Deploys.{IsDeploy};
-ghost use Rattle.run_deploys.specs.Ends.{Leaves, LeavesInPart};
+ghost use Rattle.run_deploys.specs.Ends.{Halts, Leaves};
 ghost use Rattle.run_deploys.specs.Plan.{IsMade, IsPlan, planned};
 ghost use Rattle.run_reports.specs.World.{world};
 
-use crate::next::{next_state, printed};
 use command_words::Run;
 use event_log::{Log, LogHeader, write_log};
 use name_seed::bytes_digest;
 use next_states::KnownState;
+use numbered_jobs::Crew;
 use play_outcome::Played;
 use play_pool::play;
 use readable_logs::steps_are_readable;
 use rho_outside::{Gate, Shelf, Sink};
 use rspace_table::SpaceTables;
+use run_ends::{next_state, printed};
 use run_inputs::{Base, Inputs};
 use run_reports::{Halt, keep_both_and_put, report};
 use run_status::{Status, status_of};
@@ -75,16 +75,12 @@ fn plan_of(
     })
 }
 
-/// Runs the source from the state by so many workers, and makes all bytes that are to be written.
+/// Runs the source from the state by a crew, and makes all bytes that are to be written.
 pub fn make_plan<R: Threads + Wait + Sync, G: Gate + Sync>(
-    rt: &R,
-    alloc: Global,
-    gate: &G,
-    workers: u32,
+    crew: &Crew<R, G>,
     inputs: Inputs,
     limit: u64,
 ) -> Result<Plan, AllocError>
-    requires workers { (1 ≤ workers) × (workers ≤ 32) }
     requires limit { limit ≤ greatest_limit inputs.prices }
     requires state { IsBase inputs.base }
     requires source { IsSourceOf inputs.source.items inputs.term }
@@ -103,7 +99,16 @@ pub fn make_plan<R: Threads + Wait + Sync, G: Gate + Sync>(
     let root = checkpoint.root();
     let (rows, state) = KnownState::of(text, checkpoint);
     let played = play::<R, G, SpaceTables>(
-        rt, alloc, gate, workers, rows, &root, &term, &source, &prices, limit,
+        crew.rt,
+        crew.alloc,
+        crew.gate,
+        crew.workers,
+        rows,
+        &root,
+        &term,
+        &source,
+        &prices,
+        limit,
     )?;
     let header = LogHeader {
         base: root,
@@ -111,7 +116,7 @@ pub fn make_plan<R: Threads + Wait + Sync, G: Gate + Sync>(
         prices: prices.digest(),
         limit,
     };
-    plan_of(alloc, state, header, played)
+    plan_of(crew.alloc, state, header, played)
 }
 
 /// Keeps the log and then the next state, and then puts what is printed and the report.
@@ -135,62 +140,44 @@ fn write_plan<S: Shelf, O: Sink>(
     keep_both_and_put(alloc, shelf, out, log, next, plan.bytes.as_slice())
 }
 
-/// How many workers run: as many as the words name, which is 1 to 32 in each command that was read, and else the nearest of these.
-pub fn worker_count(named: u32) -> u32
-    ensures range { (1 ≤ result) × (result ≤ 32) }
-    ensures named { 1 ≤ named → named ≤ 32 → result ≡ named }
-{
-    named.max(1).min(32)
-}
-
-/// Runs a source, as `deploy_accepted` does.
+/// Runs a source, and keeps and puts what its run leaves.
 fn deploy_run<R: Threads + Wait + Sync, S: Shelf, O: Sink, G: Gate + Sync>(
-    rt: &R,
-    alloc: Global,
+    crew: &Crew<R, G>,
     run: &Run,
     limit: u64,
     inputs: Inputs,
     shelf: &mut S,
     out: &mut O,
-    gate: &G,
-) -> Status
+) -> Result<Verdict, Status>
     requires inputs { AreAccepted (S.files shelf.now) (run_of run.now) limit inputs }
-    ensures ends { DeployEnds (S.files shelf.old) (run_of run.now) limit (S.fetch_faults shelf.old) (S.fetch_faults shelf.new) result }
-    ensures stays { OnRefusal result ((S.files shelf.new ≡ S.files shelf.old) × (O.written out.new ≡ O.written out.old)) }
-    ensures write_fault { result ≡ Status.WriteFault → WriteFailed S.keep_faults shelf.old shelf.new O.faults out.old out.new }
-    ensures verdict { OnVerdict result (Leaves result (run_of run.now) limit
+    ensures left { IfOk result (λ verdict. Leaves (status_of verdict) (run_of run.now) limit
         (world (S.files shelf.old) (S.fetch_faults shelf.old) (S.keep_faults shelf.old) (O.written out.old) (O.faults out.old))
         (world (S.files shelf.new) (S.fetch_faults shelf.new) (S.keep_faults shelf.new) (O.written out.new) (O.faults out.new))) }
-    ensures part { OnHalt result (LeavesInPart (run_of run.now) limit
+    ensures halts { IfErr result (Halts (run_of run.now) limit
         (world (S.files shelf.old) (S.fetch_faults shelf.old) (S.keep_faults shelf.old) (O.written out.old) (O.faults out.old))
         (world (S.files shelf.new) (S.fetch_faults shelf.new) (S.keep_faults shelf.new) (O.written out.new) (O.faults out.new))) }
 {
-    let plan = match make_plan(rt, alloc, gate, worker_count(run.workers), inputs, limit) {
-        Ok(plan) => plan,
-        Err(_) => return Status::NoMemory,
-    };
-    match write_plan(alloc, run, &plan, shelf, out) {
-        Ok(()) => status_of(plan.verdict),
-        Err(Halt::WriteFault) => Status::WriteFault,
-        Err(Halt::NoMemory) => Status::NoMemory,
-    }
+    let plan = make_plan(crew, inputs, limit)?;
+    write_plan(crew.alloc, run, &plan, shelf, out)?;
+    Ok(plan.verdict)
 }
 
-/// Runs the source of accepted inputs by as many workers as the words name: nothing is kept or put before the run has ended.
+/// Runs the source of accepted inputs by a crew: nothing is kept or put before the run has ended.
 pub fn deploy_accepted<R: Threads + Wait + Sync, S: Shelf, O: Sink, G: Gate + Sync>(
-    rt: &R,
-    alloc: Global,
+    crew: &Crew<R, G>,
     run: &Run,
     limit: u64,
     inputs: Inputs,
     shelf: &mut S,
     out: &mut O,
-    gate: &G,
 ) -> Status
     requires inputs { AreAccepted (S.files shelf.now) (run_of run.now) limit inputs }
     ensures { IsDeploy (run_of run.now) limit
         (world (S.files shelf.old) (S.fetch_faults shelf.old) (S.keep_faults shelf.old) (O.written out.old) (O.faults out.old))
         (world (S.files shelf.new) (S.fetch_faults shelf.new) (S.keep_faults shelf.new) (O.written out.new) (O.faults out.new)) result }
 {
-    deploy_run(rt, alloc, run, limit, inputs, shelf, out, gate)
+    match deploy_run(crew, run, limit, inputs, shelf, out) {
+        Ok(verdict) => status_of(verdict),
+        Err(status) => status,
+    }
 }

@@ -2,7 +2,5 @@
 #![tactic(auto)]
 
 pub mod deploys;
-pub mod next;
 
-pub use deploys::{Plan, deploy_accepted, make_plan, worker_count};
-pub use next::{next_state, printed};
+pub use deploys::{Plan, deploy_accepted, make_plan};

@@ -15,7 +15,7 @@ use Rattle.event_log.specs.Laws.{IsHeader}
 use Rattle.event_log.proofs.Written.{written_logs_are_read}
 use Rattle.state_laws.proofs.Exact.{root-length}
 use Rattle.run_inputs.specs.Inputs.{Task}
-use Rattle.run_deploys.specs.Runs.{header_of, deploy_in, printed, ShowsAClash, IsLeftByRun}
+use Rattle.run_ends.specs.Runs.{header_of, deploy_in, printed, ShowsAClash, IsLeftByRun}
 use Rattle.run_replays.specs.Replaying.{given_in, IsLeftByOutcome}
 use Rattle.run_replays.specs.Laws.{KeptLogsAreAnswered}
 

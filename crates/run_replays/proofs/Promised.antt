@@ -9,13 +9,14 @@ use Rattle.run_inputs.specs.Ended.{ReplayEnds}
 use Rattle.run_inputs.proofs.Exact.{if_ok}
 use Rattle.run_inputs.proofs.ReplayExact.{replay_exact, replay_state_exact, replay_source_exact, replay_log_exact, replay_known}
 use Rattle.run_reports.specs.World.{World, world}
-use Rattle.run_status.specs.Endings.{OnRefusal, OnHalt, OnVerdict}
+use Rattle.run_status.specs.Endings.{OnRefusal, OnHalt, OnVerdict, status_of}
+use Rattle.run_verdict.specs.declared.verdict.Verdict.{Verdict}
+use Rattle.run_verdict.specs.declared.verdict.Verdict.TheVariants as ending
 use Rattle.run_status.specs.declared.status.Status.{Status}
 use Rattle.run_status.specs.declared.status.Status.TheVariants as status
-use Rattle.run_deploys.specs.Fetched.{HasFetched}
-use Rattle.run_deploys.proofs.Leaving.{on_refused}
-use Rattle.run_deploys.proofs.Promised.{rose_before, fetched_world}
-use Rattle.run_replays.specs.Replaying.{IsSettled, ReplayLeaves, ReplayLeavesInPart}
+use Rattle.run_ends.specs.Fetched.{HasFetched}
+use Rattle.run_ends.proofs.Endings.{on_refused, rose_before, fetched_world}
+use Rattle.run_replays.specs.Replaying.{EndsAs, IsSettled, ReplayHalts, ReplayLeaves, ReplayLeavesInPart}
 use Rattle.run_replays.specs.Replays.{IsReplay}
 use Rattle.run_replays.proofs.Answering.{tells_of, ends_if_run}
 use Rattle.run_replays.proofs.ReplayEnding.{replay_refused_ends}
@@ -65,6 +66,29 @@ module _ (names : RunRequest) where
         verdict = verdict;
         part = part;
       }
+
+  -- a replay that ended with this verdict
+  pub left_replay : (a b : World) (v : Verdict) → EndsAs (status_of v) names a b → IsReplay names a b (status_of v)
+  left_replay a b ending.Done h = is_replay a b status.Done h.0 tt (λ e. cc) h.1 tt
+  left_replay a b ending.Exhausted h = is_replay a b status.Exhausted h.0 tt (λ e. cc) h.1 tt
+  left_replay a b (ending.Faulted step kind) h = is_replay a b status.Faulted h.0 tt (λ e. cc) h.1 tt
+
+  -- a replay that halted
+  pub halted_replay : (a b : World) (s : Status) → ReplayHalts names a b s → IsReplay names a b s
+  halted_replay a b (status.Replay f) h = is_replay a b (status.Replay f) h.0 h.1 (λ e. cc) tt tt
+  halted_replay a b status.WriteFault h = is_replay a b status.WriteFault h.0 tt (λ e. h.1.0) tt h.1.1
+  halted_replay a b status.NoMemory h = is_replay a b status.NoMemory tt tt (λ e. cc) tt h
+  halted_replay a b status.Done h = absurd h
+  halted_replay a b status.Exhausted h = absurd h
+  halted_replay a b status.Faulted h = absurd h
+  halted_replay a b (status.ReadFault i) h = absurd h
+  halted_replay a b (status.TooLarge i n m) h = absurd h
+  halted_replay a b (status.State f) h = absurd h
+  halted_replay a b (status.Prices f) h = absurd h
+  halted_replay a b (status.Limit n m) h = absurd h
+  halted_replay a b (status.Source f) h = absurd h
+  halted_replay a b (status.Usage u) h = absurd h
+  halted_replay a b (status.Log f) h = absurd h
 
   -- a replay whose inputs are refused
   pub refused_replay : (a b : World) → HasFetched a b → (s : Status) → ReplayRefusedFor a.files names a.fetches b.fetches s → IsReplay names a b s

@@ -19,12 +19,13 @@ use Rattle.replay_answers.specs.Answers.{IsReplayed, IsAnswered}
 use Rattle.replay_answers.specs.declared.replayed.Replayed.{Replayed}
 use Rattle.base_states.specs.Bases.{IsStateOf}
 use Rattle.run_inputs.specs.declared.acceptance.ReplayInputs.{ReplayInputs}
+use Rattle.run_status.specs.Statuses.{ReplayStatusOf}
 use Rattle.run_status.specs.declared.status.Status.{Status}
-use Rattle.run_deploys.specs.Runs.{Left, printed}
+use Rattle.run_ends.specs.Runs.{Left, printed}
+use Rattle.run_ends.proofs.Running.{silent}
 use Rattle.run_replays.specs.Replaying.{IsLeftByOutcome, IsLeftByAnswer}
-use Rattle.run_replays.specs.ReplayPlans.{given_of, header_in, steps_in, ClashIn, ReplayStatusOf, IsReplayStop, IsReplayPlan, IsPlanned}
+use Rattle.run_replays.specs.ReplayPlans.{given_of, header_in, steps_in, ClashIn, IsReplayStop, IsReplayPlan, IsPlanned}
 use Rattle.run_replays.specs.declared.replaying.ReplayPlan.{ReplayPlan}
-use Rattle.run_deploys.proofs.Running.{silent}
 
 -- an outcome that is not done has no output
 abbrev IsQuiet : Answer → Type 0

@@ -8,7 +8,7 @@ use Rattle.replays.specs.Replays.{Outcome, replayed, header_refusal, Answers}
 use Rattle.event_log.specs.Reading.{log_of}
 use Rattle.sources.specs.Sources.{IsSourceOf}
 use Rattle.run_inputs.specs.Inputs.{Task}
-use Rattle.run_deploys.specs.Runs.{Left, header_of, deploy_in, ShowsAClash, IsLeftBySource}
+use Rattle.run_ends.specs.Runs.{Left, header_of, deploy_in, ShowsAClash, IsLeftBySource}
 use Rattle.run_replays.specs.Replaying.{given_in, IsLeftByOutcome}
 
 -- under the files of a deploy the text of its log is read as its header and steps, its header is right, and it is answered by an outcome with the verdict, the cost, the root, the next state and the output that the deploy left, or digests are shown to clash

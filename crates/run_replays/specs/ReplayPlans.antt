@@ -1,5 +1,5 @@
 -- What a plan of a replay holds.
-use Rattle.std.specs.Prelude.{◌≡◌, ◌≢◌, ◌⊎◌, ◌++◌, ℕ, List, [], ◌∷◌, length, map, Option, Some, None, ⊤}
+use Rattle.std.specs.Prelude.{◌≡◌, ◌≢◌, ◌⊎◌, ◌++◌, ℕ, List, [], ◌∷◌, length, map, Some, None, ⊤}
 use Rattle.calculus.specs.Log.{Step, Header}
 use Rattle.calculus.specs.Root.{root}
 use Rattle.calculus.specs.Rows.{Row}
@@ -18,9 +18,8 @@ use Rattle.run_inputs.specs.declared.acceptance.ReplayInputs.{ReplayInputs}
 use Rattle.run_reports.specs.Report.{report_line}
 use Rattle.run_status.specs.declared.status.Status.{Status}
 use Rattle.run_status.specs.declared.status.Status.TheVariants as status
-use Rattle.run_deploys.specs.Ends.{bytes_of}
+use Rattle.run_ends.specs.Runs.{Left, bytes_of, printed}
 use Rattle.run_replays.specs.Replaying.{given_in, IsLeftByAnswer}
-use Rattle.run_deploys.specs.Runs.{Left, printed}
 use Rattle.run_replays.specs.declared.replaying.ReplayPlan.{ReplayPlan}
 
 -- the file of a plan under these names
@@ -49,11 +48,6 @@ pub record IsRefusedBy (rows : List Row) (f : ReplayFault) (r : ReplayInputs) : 
   pub is : refusal_of f ≡ Some refusal
   pub answer : Answers (given_of rows r) (header_in r) (steps_in r) (refused refusal)
       ⊎ ((header_refusal (given_of rows r) (header_in r) ≡ None) × ClashIn rows r)
-
--- the status of a fault of a replay: want of memory where it says no refusal
-abbrev pub ReplayStatusOf : ReplayFault → Option Refusal → Status → Type 0
-ReplayStatusOf f None s = s ≡ status.NoMemory
-ReplayStatusOf f (Some r) s = s ≡ status.Replay f
 
 -- the status of a log that is refused, or of want of memory
 abbrev pub IsReplayStop : List Row → ReplayInputs → Status → Type 0

@@ -15,19 +15,20 @@ use Rattle.run_verdict.specs.declared.verdict.Verdict.TheVariants as ending
 use Rattle.replay_faults.specs.Refusals.{refusal_of}
 use Rattle.replay_answers.specs.Answers.{Clashes}
 use Rattle.replay_answers.specs.Bases.{asked}
+use Rattle.rho_outside.specs.Causes.{Rose}
 use Rattle.rho_outside.specs.Told.{Told}
 use Rattle.rho_outside.specs.Put.{GrewBy}
 use Rattle.rho_outside.specs.Kept.{with_files}
 use Rattle.command_words.specs.Commands.{RunRequest}
 use Rattle.run_inputs.specs.Inputs.{Task, accepted_log}
+use Rattle.run_inputs.specs.Ended.{IsReplayAccepted}
 use Rattle.base_states.specs.Bases.{IsStateOf}
 use Rattle.run_reports.specs.Stops.{StopsOnTheWay}
 use Rattle.run_reports.specs.World.{World}
 use Rattle.run_status.specs.Endings.{status_of}
 use Rattle.run_status.specs.declared.status.Status.{Status}
 use Rattle.run_status.specs.declared.status.Status.TheVariants as status
-use Rattle.run_deploys.specs.Runs.{Left}
-use Rattle.run_deploys.specs.Ends.{bytes_of}
+use Rattle.run_ends.specs.Runs.{Left, bytes_of}
 
 -- what is given to the replay of a log: the rows of the state, the process, the digest of the source and the prices
 abbrev pub given_in : List Row → Task → Tree → Given
@@ -127,3 +128,14 @@ ReplayLeaves s names a b = Told a.files (λ files. IsOkAnd (accepted_log names f
 abbrev pub ReplayLeavesInPart : RunRequest → World → World → Type 0
 ReplayLeavesInPart names a b = Told a.files (λ files.
     ((b.files ≡ a.files) × (b.bytes ≡ a.bytes)) ⊎ IsOkAnd (accepted_log names files) (ReplayLeavesSome names a b))
+
+-- from one world to the next a replay ended with this status: all was accepted, the answer to the log is settled, and all that a replay leaves is there
+abbrev pub EndsAs : Status → RunRequest → World → World → Type 0
+EndsAs s names a b = IsReplayAccepted (IsSettled s) a.files names × ReplayLeaves s names a b
+
+-- from one world to the next a replay halted with this status: the log is refused, and nothing changed; or a write failed, or memory is wanted, and all is as it was, or some of what a replay leaves is there
+abbrev pub ReplayHalts : RunRequest → World → World → Status → Type 0
+ReplayHalts names a b (status.Replay f) = IsReplayAccepted (IsSettled (status.Replay f)) a.files names × ((b.files ≡ a.files) × (b.bytes ≡ a.bytes))
+ReplayHalts names a b status.WriteFault = IsReplayAccepted (IsSettled status.WriteFault) a.files names × ((Rose a.keeps b.keeps ⊎ Rose a.puts b.puts) × ReplayLeavesInPart names a b)
+ReplayHalts names a b status.NoMemory = ReplayLeavesInPart names a b
+ReplayHalts names a b _ = ⊥

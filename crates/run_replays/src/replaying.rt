@@ -3,14 +3,12 @@ ghost use Rattle.calculus.specs.Form.{IsClosed};
 ghost use Rattle.rho_outside.specs.Put.{GrewBy};
 ghost use Rattle.run_reports.specs.Stops.{SetsAll, StopsOnTheWay, WriteFailed};
 ghost use Rattle.sources.specs.Sources.{IsSourceOf};
-ghost use Rattle.replay_faults.specs.Refusals.{refusal_of};
 ghost use Rattle.command_words.specs.Answers.{run_of};
 ghost use Rattle.event_log.specs.View.{IsWritable};
-ghost use Rattle.run_inputs.specs.Ended.{ReplayEnds};
 ghost use Rattle.run_inputs.specs.Given.{AreReplayAccepted, IsBase};
-ghost use Rattle.run_status.specs.Endings.{OnRefusal, OnHalt, OnVerdict};
-ghost use Rattle.run_replays.specs.Replaying.{IsSettled, ReplayLeaves, ReplayLeavesInPart};
-ghost use Rattle.run_replays.specs.ReplayPlans.{IsPlanned, IsReplayPlan, IsReplayStop, ReplayStatusOf, planned_replay};
+ghost use Rattle.run_status.specs.Endings.{status_of};
+ghost use Rattle.run_replays.specs.Replaying.{EndsAs, ReplayHalts};
+ghost use Rattle.run_replays.specs.ReplayPlans.{IsPlanned, IsReplayPlan, IsReplayStop, planned_replay};
 ghost use Rattle.run_replays.specs.Replays.{IsReplay};
 ghost use Rattle.run_reports.specs.World.{world};
 
@@ -18,11 +16,11 @@ use calculus::Digest;
 use command_words::Run;
 use name_seed::bytes_digest;
 use next_states::KnownState;
+use numbered_jobs::Crew;
 use replay_answers::Replayed;
-use replay_faults::ReplayFault;
 use replay_runs::replay as replay_log;
 use rho_outside::{Gate, Shelf, Sink};
-use run_deploys::{next_state, printed, worker_count};
+use run_ends::{next_state, printed};
 use run_inputs::{Base, Inputs, ReplayInputs};
 use run_reports::{Halt, keep_and_put, report};
 use run_status::{Status, status_of};
@@ -71,25 +69,11 @@ fn plan_of(
     })
 }
 
-/// The status of what a log is refused for, or that memory is wanted.
-fn status_of_fault(fault: ReplayFault) -> Status
-    ensures { ReplayStatusOf fault (refusal_of fault) result }
-{
-    match fault {
-        ReplayFault::NoMemory => Status::NoMemory,
-        fault => Status::Replay(fault),
-    }
-}
-
-/// Replays the log from the state by so many workers, and makes all bytes that are to be written.
+/// Replays the log from the state by a crew, and makes all bytes that are to be written.
 pub fn make_replay_plan<R: Threads + Wait + Sync, G: Gate + Sync>(
-    rt: &R,
-    alloc: Global,
-    gate: &G,
-    workers: u32,
+    crew: &Crew<R, G>,
     inputs: ReplayInputs,
 ) -> Result<ReplayPlan, Status>
-    requires workers { (1 ≤ workers) × (workers ≤ 32) }
     requires state { IsBase inputs.inputs.base }
     requires source { IsSourceOf inputs.inputs.source.items inputs.inputs.term }
     requires short { length inputs.inputs.source.items ≤ 1048576 }
@@ -110,17 +94,21 @@ pub fn make_replay_plan<R: Threads + Wait + Sync, G: Gate + Sync>(
     let source = bytes_digest(source.as_slice());
     let root = checkpoint.root();
     let rows = checkpoint.rows();
-    let replayed = match replay_log(
-        rt, alloc, gate, workers, rows, &root, &term, &source, &prices, log,
-    ) {
-        Ok(replayed) => replayed,
-        Err(fault) => return Err(status_of_fault(fault)),
-    };
+    let replayed = replay_log(
+        crew.rt,
+        crew.alloc,
+        crew.gate,
+        crew.workers,
+        rows,
+        &root,
+        &term,
+        &source,
+        &prices,
+        log,
+    )?;
     let state = KnownState::without_rows(text, checkpoint);
-    match plan_of(alloc, state, &root, count, replayed) {
-        Ok(plan) => Ok(plan),
-        Err(_) => Err(Status::NoMemory),
-    }
+    let plan = plan_of(crew.alloc, state, &root, count, replayed)?;
+    Ok(plan)
 }
 
 /// Keeps the next state, and then puts what is printed and the report.
@@ -143,52 +131,42 @@ fn write_replay<S: Shelf, O: Sink>(
     keep_and_put(alloc, shelf, out, next, plan.bytes.as_slice())
 }
 
-/// Replays a log, as `replay_accepted` does.
+/// Replays a log, and keeps and puts what its replay leaves.
 fn replay_run<R: Threads + Wait + Sync, S: Shelf, O: Sink, G: Gate + Sync>(
-    rt: &R,
-    alloc: Global,
+    crew: &Crew<R, G>,
     run: &Run,
     inputs: ReplayInputs,
     shelf: &mut S,
     out: &mut O,
-    gate: &G,
-) -> Status
+) -> Result<Verdict, Status>
     requires inputs { AreReplayAccepted (S.files shelf.now) (run_of run.now) inputs }
-    ensures ends { ReplayEnds IsSettled (S.files shelf.old) (run_of run.now) (S.fetch_faults shelf.old) (S.fetch_faults shelf.new) result }
-    ensures stays { OnRefusal result ((S.files shelf.new ≡ S.files shelf.old) × (O.written out.new ≡ O.written out.old)) }
-    ensures write_fault { result ≡ Status.WriteFault → WriteFailed S.keep_faults shelf.old shelf.new O.faults out.old out.new }
-    ensures verdict { OnVerdict result (ReplayLeaves result (run_of run.now)
+    ensures left { IfOk result (λ verdict. EndsAs (status_of verdict) (run_of run.now)
         (world (S.files shelf.old) (S.fetch_faults shelf.old) (S.keep_faults shelf.old) (O.written out.old) (O.faults out.old))
         (world (S.files shelf.new) (S.fetch_faults shelf.new) (S.keep_faults shelf.new) (O.written out.new) (O.faults out.new))) }
-    ensures part { OnHalt result (ReplayLeavesInPart (run_of run.now)
+    ensures halts { IfErr result (ReplayHalts (run_of run.now)
         (world (S.files shelf.old) (S.fetch_faults shelf.old) (S.keep_faults shelf.old) (O.written out.old) (O.faults out.old))
         (world (S.files shelf.new) (S.fetch_faults shelf.new) (S.keep_faults shelf.new) (O.written out.new) (O.faults out.new))) }
 {
-    let plan = match make_replay_plan(rt, alloc, gate, worker_count(run.workers), inputs) {
-        Ok(plan) => plan,
-        Err(status) => return status,
-    };
-    match write_replay(alloc, run, &plan, shelf, out) {
-        Ok(()) => status_of(plan.verdict),
-        Err(Halt::WriteFault) => Status::WriteFault,
-        Err(Halt::NoMemory) => Status::NoMemory,
-    }
+    let plan = make_replay_plan(crew, inputs)?;
+    write_replay(crew.alloc, run, &plan, shelf, out)?;
+    Ok(plan.verdict)
 }
 
-/// Replays the log of accepted inputs by as many workers as the words name: nothing is kept or put before the replay has ended.
+/// Replays the log of accepted inputs by a crew: nothing is kept or put before the replay has ended.
 pub fn replay_accepted<R: Threads + Wait + Sync, S: Shelf, O: Sink, G: Gate + Sync>(
-    rt: &R,
-    alloc: Global,
+    crew: &Crew<R, G>,
     run: &Run,
     inputs: ReplayInputs,
     shelf: &mut S,
     out: &mut O,
-    gate: &G,
 ) -> Status
     requires inputs { AreReplayAccepted (S.files shelf.now) (run_of run.now) inputs }
     ensures { IsReplay (run_of run.now)
         (world (S.files shelf.old) (S.fetch_faults shelf.old) (S.keep_faults shelf.old) (O.written out.old) (O.faults out.old))
         (world (S.files shelf.new) (S.fetch_faults shelf.new) (S.keep_faults shelf.new) (O.written out.new) (O.faults out.new)) result }
 {
-    replay_run(rt, alloc, run, inputs, shelf, out, gate)
+    match replay_run(crew, run, inputs, shelf, out) {
+        Ok(verdict) => status_of(verdict),
+        Err(status) => status,
+    }
 }

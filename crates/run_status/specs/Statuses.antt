@@ -7,12 +7,19 @@ use Rattle.phlo_meter.specs.declared.fault.PriceFault.{PriceFault}
 use Rattle.phlo_meter.specs.declared.fault.PriceFault.TheVariants as faults
 use Rattle.replay_faults.specs.declared.fault.ReplayFault.{ReplayFault}
 use Rattle.replays.specs.Replays as replays
+use Rattle.run_reports.specs.declared.finish.Halt.{Halt}
+use Rattle.run_reports.specs.declared.finish.Halt.TheVariants as halt
 use Rattle.sources.specs.Sources as sources
 use Rattle.sources.specs.declared.fault.SourceFault.{SourceFault}
 use Rattle.state_reader.specs.declared.fault.StateFault.{StateFault}
 use Rattle.state_reader.specs.declared.fault.StateFault.TheVariants as stated
 use Rattle.run_status.specs.declared.status.Status.{Status}
 use Rattle.run_status.specs.declared.status.Status.TheVariants as status
+
+-- the status of a verb whose last steps ended early
+abbrev pub status_of_halt : Halt → Status
+status_of_halt halt.WriteFault = status.WriteFault
+status_of_halt halt.NoMemory = status.NoMemory
 
 -- the status of a fault of a state, which may be want of memory
 abbrev pub StateStatusOf : StateFault → Status → Type 0

@@ -2,7 +2,7 @@
 ghost use Rattle.std.specs.Prelude.{◌≡◌};
 ghost use Rattle.replay_faults.specs.Refusals.{refusal_of as replay_refusal};
 ghost use Rattle.sources.specs.Faults.{refusal_of as source_refusal};
-ghost use Rattle.run_status.specs.Statuses.{price_refusal, LogStatusOf, PriceStatusOf, ReplayStatusOf, SourceStatusOf, StateStatusOf};
+ghost use Rattle.run_status.specs.Statuses.{price_refusal, status_of_halt, LogStatusOf, PriceStatusOf, ReplayStatusOf, SourceStatusOf, StateStatusOf};
 ghost use Rattle.run_status.specs.declared.status.Status.TheVariants.{NoMemory};
 
 use crate::status::Status;
@@ -11,6 +11,7 @@ use phlo_meter::PriceFault;
 use replay_faults::ReplayFault;
 use rho_lexer::LexFault;
 use rho_parser::ParseFault;
+use run_reports::Halt;
 use scope_check::ScopeFault;
 use sources::SourceFault;
 use state_reader::StateFault;
@@ -21,6 +22,17 @@ impl From<AllocError> for Status {
 
     fn from(_error: AllocError) -> Self {
         Status::NoMemory
+    }
+}
+
+impl From<Halt> for Status {
+    ghost from_gives = { λ halt s. s ≡ status_of_halt halt };
+
+    fn from(halt: Halt) -> Self {
+        match halt {
+            Halt::WriteFault => Status::WriteFault,
+            Halt::NoMemory => Status::NoMemory,
+        }
     }
 }
 

@@ -11,7 +11,7 @@ use Rattle.run_verdict.specs.View.{verdict_of}
 use Rattle.run_verdict.specs.declared.verdict.Verdict.{Verdict as Ending}
 use Rattle.run_verdict.specs.declared.verdict.Verdict.TheVariants as ending
 use Rattle.replay_answers.specs.Answers.{Clashes}
-use Rattle.run_deploys.specs.Runs.{IsLeftBySource, Left, ShowsAClash}
+use Rattle.run_ends.specs.Runs.{IsLeftBySource, Left, ShowsAClash}
 use Rattle.run_replays.specs.Laws.{IsAnsweredAlike}
 use Rattle.run_replays.specs.Replaying.{given_in, IsAnswerTo, IsLeftByOutcome, IsLeftByReplay, IsSettled, SaysAnswer, status_for}
 use Rattle.run_replays.proofs.Answering.{one_answer_to, one_reading}

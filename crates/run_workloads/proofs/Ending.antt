@@ -13,7 +13,7 @@ use Rattle.run_status.specs.declared.status.Status.TheVariants as status
 use Rattle.run_verdict.specs.declared.verdict.Verdict.{Verdict}
 use Rattle.run_verdict.specs.declared.verdict.Verdict.TheVariants as ending
 use Rattle.sources.specs.Sources.{IsSourceOf}
-use Rattle.run_deploys.specs.Runs.{IsLeftBySource, Left}
+use Rattle.run_ends.specs.Runs.{IsLeftBySource, Left}
 use Rattle.run_workloads.specs.Made.{made_limit, made_replay, made_task}
 use Rattle.run_workloads.specs.Plan.{IsStop}
 use Rattle.run_workloads.specs.Workloads.{EndsOrRefuses, RefusedFor, WorkloadEnds}

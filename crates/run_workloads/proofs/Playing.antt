@@ -4,7 +4,7 @@ use Rattle.calculus.specs.Log.{log_text}
 use Rattle.calculus.specs.Rows.{Row}
 use Rattle.base_states.proofs.OneState.{one_state}
 use Rattle.run_deploys.specs.Plan.{IsPlan}
-use Rattle.run_deploys.specs.Runs.{header_of, IsLeftBySource}
+use Rattle.run_ends.specs.Runs.{header_of, IsLeftBySource}
 use Rattle.run_deploys.specs.declared.deploys.Plan.{Plan}
 use Rattle.run_inputs.specs.Given.{task_of, IsBase}
 use Rattle.run_inputs.specs.Inputs.{Task}

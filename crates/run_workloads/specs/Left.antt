@@ -6,7 +6,7 @@ use Rattle.made_input.specs.MadeInput.{made_text}
 use Rattle.replay_faults.specs.declared.fault.ReplayFault.{ReplayFault}
 use Rattle.rho_outside.specs.Kept.{with_files}
 use Rattle.rho_outside.specs.Put.{GrewBy}
-use Rattle.run_deploys.specs.Runs.{IsLeftBySource, Left, ShowsAClash}
+use Rattle.run_ends.specs.Runs.{IsLeftBySource, Left, ShowsAClash}
 use Rattle.run_replays.specs.Replaying.{HasClash, IsLeftByReplay, IsSettled}
 use Rattle.run_reports.specs.Report.{report_line}
 use Rattle.run_reports.specs.Stops.{StopsOnTheWay}

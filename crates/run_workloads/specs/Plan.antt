@@ -2,7 +2,7 @@
 use Rattle.std.specs.Prelude.{◌≡◌, ◌≤◌, ℕ, List, [], length, ⊤}
 use Rattle.calculus.specs.Form.{IsClosed}
 use Rattle.event_log.specs.View.{IsWritable}
-use Rattle.run_deploys.specs.Runs.{IsLeftBySource, Left}
+use Rattle.run_ends.specs.Runs.{IsLeftBySource, Left}
 use Rattle.run_inputs.specs.Given.{IsBase, IsGiven}
 use Rattle.run_inputs.specs.Inputs.{Task}
 use Rattle.run_inputs.specs.declared.acceptance.ReplayInputs.{ReplayInputs}

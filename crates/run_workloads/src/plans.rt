@@ -7,7 +7,8 @@ ghost use Rattle.run_workloads.specs.Plan.{IsMadeReplay, IsPlayed, IsReplayed, I
 ghost use Rattle.run_workloads.specs.Workloads.{RefusedFor};
 
 use crate::inputs::made_inputs;
-use event_log::{Log, LogFault, read_log};
+use event_log::{Log, read_log};
+use numbered_jobs::Crew;
 use readable_logs::laws::read_logs_are_writable;
 use rho_outside::Gate;
 use run_deploys::{Plan, make_plan};
@@ -33,43 +34,31 @@ pub(crate) struct Work {
 
 /// Plays the made input of so many steps from the empty state.
 fn play_made<R: Threads + Wait + Sync, G: Gate + Sync>(
-    rt: &R,
-    alloc: Global,
-    gate: &G,
-    workers: u32,
+    crew: &Crew<R, G>,
     steps: u32,
 ) -> Result<Plan, AllocError>
-    requires workers { (1 ≤ workers) × (workers ≤ 32) }
     ensures { IfOk result (λ plan. IsPlayed steps plan.log.items) }
 {
-    let inputs = made_inputs(alloc, steps)?;
-    make_plan(rt, alloc, gate, workers, inputs, LIMIT)
+    let inputs = made_inputs(crew.alloc, steps)?;
+    make_plan(crew, inputs, LIMIT)
 }
 
-/// The error of a fault of a log that is want of memory.
-fn memory_error(_fault: LogFault) -> AllocError
-    requires { _fault ≡ LogFault.NoMemory }
-{
-    AllocError
-}
-
-/// The log of a text that is one.
-fn read_played(alloc: Global, text: &[u8]) -> Result<Log, AllocError>
+/// The log of a text that is one. Want of memory is the one error.
+fn read_played(alloc: Global, text: &[u8]) -> Result<Log, Status>
     requires { IsOk (log_of text.now) }
     ensures read { IfOk result (λ log. log_of text.now ≡ Ok (header_of log.header, map step_of log.steps.items)) }
     ensures writable { IfOk result IsWritable }
+    ensures memory { IfErr result (λ s. s ≡ Status.NoMemory) }
 {
     read_logs_are_writable();
-    match read_log(alloc, text) {
-        Ok(log) => Ok(log),
-        Err(fault) => Err(memory_error(fault)),
-    }
+    Ok(read_log(alloc, text)?)
 }
 
-/// The made input of so many steps, and the log of this text.
-fn made_replay(alloc: Global, steps: u32, text: &[u8]) -> Result<ReplayInputs, AllocError>
+/// The made input of so many steps, and the log of this text. Want of memory is the one error.
+fn made_replay(alloc: Global, steps: u32, text: &[u8]) -> Result<ReplayInputs, Status>
     requires { IsOk (log_of text.now) }
-    ensures { IfOk result (IsMadeReplay steps text.now) }
+    ensures given { IfOk result (IsMadeReplay steps text.now) }
+    ensures memory { IfErr result (λ s. s ≡ Status.NoMemory) }
 {
     let log = read_played(alloc, text)?;
     let inputs = made_inputs(alloc, steps)?;
@@ -78,46 +67,27 @@ fn made_replay(alloc: Global, steps: u32, text: &[u8]) -> Result<ReplayInputs, A
 
 /// Replays the log of this text with the made input of so many steps, from the empty state.
 fn replay_made<R: Threads + Wait + Sync, G: Gate + Sync>(
-    rt: &R,
-    alloc: Global,
-    gate: &G,
-    workers: u32,
+    crew: &Crew<R, G>,
     steps: u32,
     text: &[u8],
 ) -> Result<ReplayPlan, Status>
-    requires workers { (1 ≤ workers) × (workers ≤ 32) }
     requires log { IsOk (log_of text.now) }
     ensures plan { IfOk result (IsReplayed (made_task steps, text.now)) }
     ensures stop { IfErr result (IsStop (made_task steps, text.now)) }
 {
-    let inputs = match made_replay(alloc, steps, text) {
-        Ok(inputs) => inputs,
-        Err(_) => return Err(Status::NoMemory),
-    };
-    match make_replay_plan(rt, alloc, gate, workers, inputs) {
-        Ok(plan) => Ok(plan),
-        Err(status) => Err(status),
-    }
+    let inputs = made_replay(crew.alloc, steps, text)?;
+    make_replay_plan(crew, inputs)
 }
 
 /// Plays the made input of so many steps, replays the log of the play, and makes all bytes that are to be written.
 pub(crate) fn make_work<R: Threads + Wait + Sync, G: Gate + Sync>(
-    rt: &R,
-    alloc: Global,
-    gate: &G,
-    workers: u32,
+    crew: &Crew<R, G>,
     steps: u32,
 ) -> Result<Work, Status>
-    requires workers { (1 ≤ workers) × (workers ≤ 32) }
     ensures work { IfOk result (IsWork steps) }
     ensures stop { IfErr result (RefusedFor steps) }
 {
-    let Plan { log, .. } = match play_made(rt, alloc, gate, workers, steps) {
-        Ok(plan) => plan,
-        Err(_) => return Err(Status::NoMemory),
-    };
-    match replay_made(rt, alloc, gate, workers, steps, log.as_slice()) {
-        Ok(ReplayPlan { line, verdict, .. }) => Ok(Work { log, line, verdict }),
-        Err(status) => Err(status),
-    }
+    let Plan { log, .. } = play_made(crew, steps)?;
+    let ReplayPlan { line, verdict, .. } = replay_made(crew, steps, log.as_slice())?;
+    Ok(Work { log, line, verdict })
 }

@@ -8,8 +8,9 @@ ghost use Rattle.run_workloads.specs.Workloads.{IsWorkload, WorkloadEnds};
 
 use crate::plans::{Work, make_work};
 use command_words::Workload;
+use numbered_jobs::Crew;
 use rho_outside::{Gate, Shelf, Sink};
-use run_deploys::worker_count;
+use run_ends::worker_count;
 use run_reports::{Halt, keep_and_put};
 use run_status::{Status, status_of};
 use std::alloc::Global;
@@ -73,7 +74,13 @@ fn run_made<R: Threads + Wait + Sync, S: Shelf, O: Sink, G: Gate + Sync>(
         (world (S.files shelf.old) (S.fetch_faults shelf.old) (S.keep_faults shelf.old) (O.written out.old) (O.faults out.old))
         (world (S.files shelf.new) (S.fetch_faults shelf.new) (S.keep_faults shelf.new) (O.written out.new) (O.faults out.new))) }
 {
-    let work = match make_work(rt, alloc, gate, worker_count(asked.workers), asked.steps) {
+    let crew = Crew {
+        rt,
+        alloc,
+        gate,
+        workers: worker_count(asked.workers),
+    };
+    let work = match make_work(&crew, asked.steps) {
         Ok(work) => work,
         Err(status) => return status,
     };

@@ -8,10 +8,10 @@ use Rattle.calculus.specs.Unfolding.{Product, rows_of, UnfoldsUnder}
 use Rattle.calculus.specs.Tree.{Tree}
 use Rattle.calculus.specs.Runs.{Work, work_products}
 use Rattle.rho_term.specs.declared.op.Op.{Op}
-use Rattle.rho_eval.specs.declared.stop.EvalStop.{EvalStop}
-use Rattle.rho_eval.specs.declared.stop.Priced.{Priced}
-use Rattle.rho_eval.specs.declared.stop.EvalStop.TheVariants.{Fault, Over, NoMemory}
-use Rattle.rho_eval.specs.Outcomes.{EndsWith}
+use Rattle.capped_work.specs.declared.stop.EvalStop.{EvalStop}
+use Rattle.capped_work.specs.declared.stop.Priced.{Priced}
+use Rattle.capped_work.specs.declared.stop.EvalStop.TheVariants.{Fault, Over, NoMemory}
+use Rattle.capped_work.specs.Outcomes.{EndsWith}
 use Rattle.unfold.specs.Offers.{Comes}
 use Rattle.calculus.specs.Storing.{IsStorable}
 use Rattle.rho_term.specs.Rows.{row_of_op}

@@ -2,8 +2,8 @@
 use Rattle.std.specs.Prelude.{◌≡◌, ◌≤◌, ℕ, ◌+◌, [], Some, None}
 use Rattle.calculus.specs.Unfolding.{rows_of}
 use Rattle.calculus.specs.Runs.{Work, work_products, work_price, work_fault}
-use Rattle.rho_eval.specs.declared.stop.EvalStop.{EvalStop}
-use Rattle.rho_eval.specs.declared.stop.EvalStop.TheVariants.{Fault, Over, NoMemory}
+use Rattle.capped_work.specs.declared.stop.EvalStop.{EvalStop}
+use Rattle.capped_work.specs.declared.stop.EvalStop.TheVariants.{Fault, Over, NoMemory}
 use Rattle.step_work.specs.declared.work.Worked.{Worked}
 
 -- what is left of an unfolding that stopped, where memory did not run out: its price, which is one more than the cap where it passed the cap, and its fault

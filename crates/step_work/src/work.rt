@@ -8,9 +8,9 @@ ghost use Rattle.rho_term.specs.Rows.{row_of_op};
 ghost use Rattle.step_work.specs.Works.{HasStopped, IsWork};
 
 use calculus::FaultKind;
+use capped_work::{EvalStop, Priced};
 use name_seed::Seed;
 use price_table::Prices;
-use rho_eval::{EvalStop, Priced};
 use rho_term::{Op, Term};
 use space_row::Row;
 use std::alloc::{AllocError, Global};

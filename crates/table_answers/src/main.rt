@@ -1,6 +1,6 @@
-//! Answers the lines of tables, and then tells what two workers at a gate and the examples came to. Each line of the input is a kind
-//! and its fields, and the output is the same line with the answer behind it. With the argument `times` a line about a hub also says how
-//! long it took.
+//! Answers the lines of tables, and then tells what two workers at a gate, the examples, and cases that no line spells came to. Each
+//! line of the input is a kind and its fields, and the output is the same line with the answer behind it. With the argument `times` a line
+//! about a hub also says how long it took.
 #![tactic(auto)]
 
 mod kinds;
@@ -27,7 +27,7 @@ fn answer<R: Threads + Wait + Sync + Clock>(
         Table::Terms => tables::answer(alloc, word, fields),
         Table::Stores => store_tables::answer(alloc, word, fields),
         Table::Rigs => rig_tables::answer(alloc, word, fields),
-        Table::Hubs => hub_costs::answer(rt, alloc, word, fields, timed),
+        Table::Hubs => hub_runs::answer(rt, alloc, word, fields, timed),
         Table::Runs => call_tables::answer(rt, alloc, word, fields),
         Table::Races => paired_runs::answer(rt, alloc, word, fields),
     }
@@ -66,12 +66,19 @@ fn answer_lines<R: Input + Print + AllocGlobal + Threads + Wait + Sync + Clock>(
     Ok(())
 }
 
+/// Prints what is told by a crate of runs or of cases.
+fn print_lines<R: Print>(rt: &R, lines: Result<String, LineFault>) -> anyhow::Result<()> {
+    let lines = lines?;
+    print!(rt; "{lines}")?;
+    Ok(())
+}
+
 fn main(rt: HostRuntime) -> anyhow::Result<()> {
     let timed = wants_times(&rt)?;
     answer_lines(&rt, timed)?;
-    let workers = gate_runs::told(&rt, rt.alloc())?;
-    print!(rt; "{workers}")?;
-    let examples = paired_runs::told(&rt, rt.alloc())?;
-    print!(rt; "{examples}")?;
-    Ok(())
+    print_lines(&rt, gate_runs::told(&rt, rt.alloc()))?;
+    print_lines(&rt, paired_runs::told(&rt, rt.alloc()))?;
+    print_lines(&rt, outside_calls::told(&rt, rt.alloc()))?;
+    print_lines(&rt, hub_runs::told(&rt, rt.alloc()))?;
+    print_lines(&rt, term_calls::told(rt.alloc()))
 }

@@ -6,9 +6,9 @@ ghost use Rattle.rho_term.specs.Parts.{part_tree};
 
 use crate::texts::read_term;
 use calculus::Digest;
+use capped_work::{EvalStop, Priced};
 use name_seed::{Seed, bytes_digest};
 use price_table::Prices;
-use rho_eval::{EvalStop, Priced};
 use rho_term::{Op, Part, Term};
 use std::alloc::Global;
 use table_lines::{LineFault, first_field, number, unescape};

@@ -9,10 +9,11 @@ use rho_term::{Part, Term};
 use sources::{SourceFault, read_source};
 use std::alloc::{AllocError, Global};
 use std::str;
+use substituted_sizes::put_size;
+use substitution::substitute;
 use table_lines::{LineFault, unescape};
 use term_encoder::{code_len, encode_term, group_key, shard_of};
 use term_order::cmp_terms;
-use term_sort::{put_size, substitute};
 
 /// The answer to a line of this kind with these fields, of this file or of those that follow.
 pub fn answer(alloc: Global, word: &str, fields: &str) -> Result<String, LineFault> {

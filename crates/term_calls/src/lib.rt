@@ -1,7 +1,27 @@
-//! Terms and names in scope, by calls that no text spells. The crate has tests alone.
+//! Terms and names in scope, by calls that no text spells.
 #![tactic(auto)]
 
-#[cfg(test)]
 mod made_terms;
-#[cfg(test)]
 mod names;
+
+use std::alloc::Global;
+use table_lines::{LineFault, put_case};
+
+/// A line of each case.
+pub fn told(alloc: Global) -> Result<String, LineFault> {
+    let mut text = String::new(alloc);
+    match put_all(alloc, &mut text) {
+        Ok(()) => Ok(text),
+        Err(fault) => Err(fault),
+    }
+}
+
+fn put_all(alloc: Global, told: &mut String) -> Result<(), LineFault> {
+    made_terms::put_all(alloc, told)?;
+    put_case(
+        alloc,
+        told,
+        "last_of_equal_names_is_found",
+        names::last_of_equal_names_is_found(alloc)?,
+    )
+}

@@ -1,10 +1,12 @@
 //! Terms that no source spells: those of great height, copies, and a tuple without members.
 use calculus::{Digest, Ground, Kind};
+use code_order::make_par;
 use rho_term::{Op, Part, PatPart, Term, TermBind, TermPat, TermRest};
 use std::alloc::{AllocError, Global};
-use std::test::Fail;
+use substituted_sizes::put_size;
+use substitution::{renumber_body, substitute};
+use table_lines::{Case, LineFault, put_case};
 use term_encoder::{code_len, encode_term};
-use term_sort::{make_par, put_size, renumber_body, substitute};
 
 fn int(alloc: Global, n: i64) -> Result<Term, AllocError> {
     Term::from_part(alloc, Part::Ground(Ground::Int(n)))
@@ -31,26 +33,22 @@ fn in_lists(alloc: Global, count: u32) -> Result<Term, AllocError> {
     Ok(term)
 }
 
-#[test]
-fn deep_lists_are_made(rt: HostRuntime) -> Result<(), Fail> {
-    assert_eq!(rt; in_lists(rt.alloc(), 400)?.height(), 400);
-    Ok(())
+fn deep_lists_are_made(alloc: Global) -> Result<Case, AllocError> {
+    let mut case = Case::new();
+    case.must(in_lists(alloc, 400)?.height() == 400);
+    Ok(case)
 }
 
-#[test]
-fn deep_values_are_put_in(rt: HostRuntime) -> Result<(), Fail> {
-    let alloc = rt.alloc();
+fn deep_values_are_put_in(alloc: Global) -> Result<Case, AllocError> {
+    let mut case = Case::new();
     let values = terms_of(alloc, in_lists(alloc, 400)?)?;
     let mut items = terms_of(alloc, one(alloc, Part::Var(0))?)?;
     items.push(one(alloc, Part::Var(0))?)?;
     let body = one(alloc, Part::List(items))?;
     let term = substitute(alloc, &body, values.as_slice())?;
-    assert_eq!(rt; term.height(), 401);
-    assert_eq!(rt;
-        put_size(&body, values.as_slice()) == (401, code_len(&term)),
-        true
-    );
-    Ok(())
+    case.must(term.height() == 401);
+    case.must(put_size(&body, values.as_slice()) == (401, code_len(&term)));
+    Ok(case)
 }
 
 // Sets of two members, nested 300 deep around a process.
@@ -64,31 +62,26 @@ fn in_sets(alloc: Global, inner: Term) -> Result<Term, AllocError> {
     Ok(term)
 }
 
-#[test]
-fn values_are_put_into_deep_sets(rt: HostRuntime) -> Result<(), Fail> {
-    let alloc = rt.alloc();
+fn values_are_put_into_deep_sets(alloc: Global) -> Result<Case, AllocError> {
+    let mut case = Case::new();
     let body = in_sets(alloc, one(alloc, Part::Var(0))?)?;
     let values = terms_of(alloc, in_sets(alloc, int(alloc, 5)?)?)?;
     let term = substitute(alloc, &body, values.as_slice())?;
-    assert_eq!(rt; term.height(), 600);
-    assert_eq!(rt;
-        put_size(&body, values.as_slice()) == (600, code_len(&term)),
-        true
-    );
-    Ok(())
+    case.must(term.height() == 600);
+    case.must(put_size(&body, values.as_slice()) == (600, code_len(&term)));
+    Ok(case)
 }
 
-#[test]
-fn deep_lists_are_copied(rt: HostRuntime) -> Result<(), Fail> {
-    let alloc = rt.alloc();
+fn deep_lists_are_copied(alloc: Global) -> Result<Case, AllocError> {
+    let mut case = Case::new();
     let mut term = int(alloc, 1)?;
     for _ in 0..400 {
         term = Term::from_part(alloc, Part::List(terms_of(alloc, term)?))?;
     }
     let copy = term.copy(alloc)?;
-    assert_eq!(rt; copy.height(), 400);
-    assert_eq!(rt; copy.parts().len(), 1);
-    Ok(())
+    case.must(copy.height() == 400);
+    case.must(copy.parts().len() == 1);
+    Ok(case)
 }
 
 // The bind of `@[x, ...@r]` on the number 1.
@@ -110,42 +103,75 @@ fn bind(alloc: Global) -> Result<TermBind, AllocError> {
     })
 }
 
-#[test]
-fn copies_are_made(rt: HostRuntime) -> Result<(), Fail> {
-    let alloc = rt.alloc();
+fn copy_bind(alloc: Global, case: &mut Case) -> Result<(), AllocError> {
     let copy = bind(alloc)?.copy(alloc)?;
-    assert_eq!(rt; copy.pats.len(), 1);
-    let part = Part::Fresh(Digest([7; 32])).copy(alloc)?;
-    let term = Term::from_part(alloc, Part::List(Vec::new(alloc)))?;
-    assert_eq!(rt; term.into_parts().len(), 1);
-    assert_eq!(rt; matches!(part, Part::Fresh(_)), true);
-    let mut parts = Vec::new(alloc);
-    parts.push(PatPart::Wild)?;
-    let pat = TermPat::new(parts).copy(alloc)?;
-    assert_eq!(rt; pat.parts().len(), 1);
-    let op = Op::Produce {
-        id: Digest([0; 32]),
-        channel: int(alloc, 1)?,
-        args: Vec::new(alloc),
-        persistent: false,
-    };
-    assert_eq!(rt; matches!(op, Op::Produce { .. }), true);
+    case.must(copy.pats.len() == 1);
     Ok(())
 }
 
+fn is_fresh(part: &Part) -> bool {
+    matches!(part, Part::Fresh(_))
+}
+
+fn copy_part(alloc: Global, case: &mut Case) -> Result<(), AllocError> {
+    let fresh = Box::new(alloc, Part::Fresh(Digest([7; 32])))?;
+    let part = Box::new(alloc, fresh.copy(alloc)?)?;
+    let term = Term::from_part(alloc, Part::List(Vec::new(alloc)))?;
+    case.must(term.into_parts().len() == 1);
+    case.must(is_fresh(&part));
+    Ok(())
+}
+
+fn copy_pattern(alloc: Global, case: &mut Case) -> Result<(), AllocError> {
+    let mut parts = Vec::new(alloc);
+    parts.push(PatPart::Wild)?;
+    let pat = TermPat::new(parts).copy(alloc)?;
+    case.must(pat.parts().len() == 1);
+    Ok(())
+}
+
+fn is_produce(op: &Op) -> bool {
+    matches!(op, Op::Produce { .. })
+}
+
+fn make_operation(alloc: Global, case: &mut Case) -> Result<(), AllocError> {
+    let channel = int(alloc, 1)?;
+    let op = Op::Produce {
+        id: Digest([0; 32]),
+        channel,
+        args: Vec::new(alloc),
+        persistent: false,
+    };
+    let op = Box::new(alloc, op)?;
+    case.must(is_produce(&op));
+    Ok(())
+}
+
+fn copies_are_made(alloc: Global) -> Result<Case, AllocError> {
+    let mut case = Case::new();
+    copy_bind(alloc, &mut case)?;
+    copy_part(alloc, &mut case)?;
+    copy_pattern(alloc, &mut case)?;
+    make_operation(alloc, &mut case)?;
+    Ok(case)
+}
+
+// Whether the code of a term has these digits.
+fn has_code(alloc: Global, term: &Term, digits: &str) -> Result<bool, AllocError> {
+    let code = encode_term(alloc, term)?;
+    let spelt = hex::encode(alloc, code.as_slice())?;
+    Ok(spelt.as_str() == digits)
+}
+
 // The code is that of an independent implementation of the format.
-#[test]
-fn a_tuple_without_members_stands_after_a_number(rt: HostRuntime) -> Result<(), Fail> {
-    let alloc = rt.alloc();
+fn a_tuple_without_members_stands_after_a_number(alloc: Global) -> Result<Case, AllocError> {
+    let mut case = Case::new();
     let mut parts = Vec::new(alloc);
     parts.push(Part::Tuple(Vec::new(alloc)))?;
     parts.push(Part::Ground(Ground::Int(1)))?;
-    let code = encode_term(alloc, &make_par(alloc, parts)?)?;
-    assert_eq!(rt;
-        hex::encode(alloc, code.as_slice())?.as_str(),
-        "000000021180000000000000012100000000"
-    );
-    Ok(())
+    let term = make_par(alloc, parts)?;
+    case.must(has_code(alloc, &term, "000000021180000000000000012100000000")?);
+    Ok(case)
 }
 
 // @3!(..) with the process variables of these indices.
@@ -184,22 +210,68 @@ fn received(alloc: Global, body: Term) -> Result<Term, AllocError> {
     one(alloc, Part::Receive { kind, binds, body })
 }
 
-#[test]
-fn variables_are_numbered_anew(rt: HostRuntime) -> Result<(), Fail> {
-    let alloc = rt.alloc();
+fn variables_are_numbered_anew(alloc: Global) -> Result<Case, AllocError> {
+    let mut case = Case::new();
     // @3!(a, b), of which b was bound before a and is now bound after it
     let body = variables_sent(alloc, &[0, 1])?;
-    let code = encode_term(alloc, &renumber_body(alloc, &body, &[1, 0])?)?;
-    assert_eq!(rt;
-        hex::encode(alloc, code.as_slice())?.as_str(),
-        "0000000130000000000111800000000000000300000002000000011600000001000000011600000000"
-    );
+    let term = renumber_body(alloc, &body, &[1, 0])?;
+    case.must(has_code(
+        alloc,
+        &term,
+        "0000000130000000000111800000000000000300000002000000011600000001000000011600000000",
+    )?);
     // for (@c <- @1) { @3!(a, b, c) }
     let body = received(alloc, variables_sent(alloc, &[1, 2, 0])?)?;
-    let code = encode_term(alloc, &renumber_body(alloc, &body, &[1, 0])?)?;
-    assert_eq!(rt;
-        hex::encode(alloc, code.as_slice())?.as_str(),
-        "0000000131000000000100000001118000000000000001000000010000000150000000000130000000000111800000000000000300000003000000011600000002000000011600000001000000011600000000"
-    );
-    Ok(())
+    let term = renumber_body(alloc, &body, &[1, 0])?;
+    case.must(has_code(
+        alloc,
+        &term,
+        "0000000131000000000100000001118000000000000001000000010000000150000000000130000000000111800000000000000300000003000000011600000002000000011600000001000000011600000000",
+    )?);
+    Ok(case)
+}
+
+fn put_deep(alloc: Global, told: &mut String) -> Result<(), LineFault> {
+    put_case(
+        alloc,
+        told,
+        "deep_lists_are_made",
+        deep_lists_are_made(alloc)?,
+    )?;
+    put_case(
+        alloc,
+        told,
+        "deep_values_are_put_in",
+        deep_values_are_put_in(alloc)?,
+    )?;
+    put_case(
+        alloc,
+        told,
+        "values_are_put_into_deep_sets",
+        values_are_put_into_deep_sets(alloc)?,
+    )?;
+    put_case(
+        alloc,
+        told,
+        "deep_lists_are_copied",
+        deep_lists_are_copied(alloc)?,
+    )
+}
+
+/// Puts the line of each case.
+pub fn put_all(alloc: Global, told: &mut String) -> Result<(), LineFault> {
+    put_deep(alloc, told)?;
+    put_case(alloc, told, "copies_are_made", copies_are_made(alloc)?)?;
+    put_case(
+        alloc,
+        told,
+        "a_tuple_without_members_stands_after_a_number",
+        a_tuple_without_members_stands_after_a_number(alloc)?,
+    )?;
+    put_case(
+        alloc,
+        told,
+        "variables_are_numbered_anew",
+        variables_are_numbered_anew(alloc)?,
+    )
 }

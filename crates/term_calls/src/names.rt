@@ -1,9 +1,8 @@
 use bound_names::Names;
-use std::test::Fail;
+use std::alloc::{AllocError, Global};
+use table_lines::Case;
 
-#[test]
-fn last_of_equal_names_is_found(rt: HostRuntime) -> Result<(), Fail> {
-    let alloc = rt.alloc();
+pub fn last_of_equal_names_is_found(alloc: Global) -> Result<Case, AllocError> {
     let x = String::from_str(alloc, "x")?;
     let y = String::from_str(alloc, "y")?;
     let mut names = Names::new(alloc);
@@ -12,11 +11,12 @@ fn last_of_equal_names_is_found(rt: HostRuntime) -> Result<(), Fail> {
     let mut inner = Names::new(alloc);
     inner.bind(&x)?;
     names.enter(inner)?;
-    assert_eq!(rt; names.len(), 3);
-    assert_eq!(rt; names.index("x"), 0);
-    assert_eq!(rt; names.index("y"), 1);
+    let mut case = Case::new();
+    case.must(names.len() == 3);
+    case.must(names.index("x") == 0);
+    case.must(names.index("y") == 1);
     names.leave(2);
-    assert_eq!(rt; names.index("x"), 1);
-    assert_eq!(rt; names.index("z"), 2);
-    Ok(())
+    case.must(names.index("x") == 1);
+    case.must(names.index("z") == 2);
+    Ok(case)
 }

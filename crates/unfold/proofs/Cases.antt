@@ -22,17 +22,17 @@ use Rattle.calculus.specs.Matching.{Bindings, all_matches, first_of_all, first_m
 use Rattle.closed_row_laws.proofs.Closing.{FirstIsClosed, first-closed, names-closed, put-closed}
 use Rattle.unfolding_laws.proofs.Patterns.{a_pat}
 use Rattle.unfolding_laws.proofs.Fitting.{fits-tidy}
-use Rattle.rho_eval.specs.declared.stop.EvalStop.{EvalStop}
-use Rattle.rho_eval.specs.declared.stop.EvalStop.TheVariants.{Over}
-use Rattle.rho_eval.specs.Outcomes.{Came, Stopped}
-use Rattle.rho_eval.proofs.Outcomes.{came-pure, later}
+use Rattle.capped_work.specs.declared.stop.EvalStop.{EvalStop}
+use Rattle.capped_work.specs.declared.stop.EvalStop.TheVariants.{Over}
+use Rattle.capped_work.specs.Outcomes.{Came, Stopped}
+use Rattle.capped_work.proofs.Outcomes.{came-pure, later}
 use Rattle.spatial_match.specs.Found.{IsFirst}
 use Rattle.rho_term.specs.declared.term.TermCase.{TermCase}
 use Rattle.rho_term.specs.Parts.{case_tree}
 use Rattle.rho_term.specs.Sizes.{in_u64, size, sizes}
 use Rattle.term_encoder.proofs.Lengths.{size-code}
-use Rattle.term_sort.specs.Bound.{bound_count}
-use Rattle.term_sort.proofs.Binding.{count-bound}
+use Rattle.term_bounds.specs.Bound.{bound_count}
+use Rattle.term_bounds.proofs.Binding.{count-bound}
 use Rattle.unfold.specs.Inner.{fitting_body, chosen_body}
 use Rattle.unfold.proofs.Working.{charged-none, charged-twice}
 use Rattle.unfold.proofs.Whole.{within-itself}

@@ -1,5 +1,5 @@
 // What is unfolded inside a part.
-ghost use Rattle.std.specs.Prelude.{◌≡◌, ◌≤◌, ◌<◌, ◌*◌, ◌-◌, ◌^◌, ℕ, List, [], All, length, map, IfOk};
+ghost use Rattle.std.specs.Prelude.{◌≡◌, ◌*◌, ℕ, List, [], All, length, map, IfOk};
 ghost use Rattle.calculus.specs.CodeLaws.{IsShort};
 ghost use Rattle.calculus.specs.Form.{a_case, Fits, IsClosed};
 ghost use Rattle.calculus.specs.Outcome.{after, charged, free, pure, within_limits};
@@ -8,48 +8,44 @@ ghost use Rattle.calculus.specs.Substitution.{put};
 ghost use Rattle.calculus.specs.Tree.{match as matches, row};
 ghost use Rattle.calculus.specs.Unfolding.{names_made};
 ghost use Rattle.calculus.specs.Values.{value};
+ghost use Rattle.capped_work.specs.Results.{ComesTo};
 ghost use Rattle.rho_term.specs.Normal.{IsOrdered};
 ghost use Rattle.rho_term.specs.Parts.{case_tree, part_tree};
 ghost use Rattle.rho_term.specs.Sizes.{in_u64, size};
 ghost use Rattle.unfold.specs.Inner.{chosen_body, inner_process, is_silent, HoldsNoProcess};
-ghost use Rattle.unfold.specs.Results.{ComesTo};
 
-use crate::limits::{add_cost, put_within};
+use crate::limits::put_within;
+use capped_work::{Budget, EvalStop, Priced};
 use name_seed::Seed;
-use price_table::Prices;
-use rho_eval::{EvalStop, Priced, eval_owned, eval_part, limited};
+use rho_eval::{eval_owned, eval_part, limited};
 use rho_term::{Origin, Part, Term, TermCase};
 use spatial_match::first_match;
 use std::alloc::{AllocError, Global};
+use substitution::substitute;
 use system_names::made_name;
-use term_sort::{pat_bound, substitute};
+use term_bounds::pat_bound;
 
-/// The process that is unfolded inside a part with this seed, from a price so far, and the empty process where none is.
+/// The process that is unfolded inside a part with this seed, within this budget, and the empty process where none is.
 /// The part's code has so many bytes.
 pub(crate) fn inner_process(
     alloc: Global,
     part: Part,
     bytes: u64,
     seed: &Seed,
-    prices: &Prices,
-    cap: u64,
-    price: u64,
+    budget: Budget,
 ) -> Result<Priced<Term>, EvalStop>
-    requires cap { cap < 2 ^ 64 - 1 }
-    requires price { price ≤ cap }
     requires bytes { bytes ≡ in_u64 (size (part_tree part)) }
     requires closed { IsClosed (only (part_tree part)) }
     requires ordered { IsOrdered (part_tree part) }
-    ensures value { ComesTo result cap price (inner_process prices.now seed.now (part_tree part)) }
+    ensures value { ComesTo result budget.entry (inner_process budget.entry.prices.now seed.now (part_tree part)) }
     ensures closed { IfOk result (λ p. IsClosed p.value) }
 {
+    let price = budget.price;
     match part {
-        Part::New { names, body } => new_body(alloc, &names, &body, seed, prices, cap, price),
-        Part::Match { target, cases } => {
-            match_body(alloc, target, cases, bytes, prices, cap, price)
-        }
+        Part::New { names, body } => new_body(alloc, &names, &body, seed, budget),
+        Part::Match { target, cases } => match_body(alloc, target, cases, bytes, budget),
         Part::Bundle { body, .. } => Ok(Priced { value: body, price }),
-        other => value_inside(alloc, &other, prices, cap, price),
+        other => value_inside(alloc, &other, budget),
     }
 }
 
@@ -75,17 +71,13 @@ fn new_body(
     names: &Vec<Origin>,
     body: &Term,
     seed: &Seed,
-    prices: &Prices,
-    cap: u64,
-    price: u64,
+    budget: Budget,
 ) -> Result<Priced<Term>, EvalStop>
-    requires cap { cap < 2 ^ 64 - 1 }
-    requires price { price ≤ cap }
-    ensures { ComesTo result cap price (charged (prices.now.name * length names.now.items)
+    ensures { ComesTo result budget.entry (charged (budget.entry.prices.now.name * length names.now.items)
         (pure (put (names_made seed.now 0 names.now.items) body.now))) }
 {
-    let cost = prices.name().saturating_mul(names.len() as u64);
-    let price = add_cost(price, cost, cap)?;
+    let cost = budget.prices.name().saturating_mul(names.len() as u64);
+    let price = budget.charge(cost)?;
     let values = names_made(alloc, names, seed)?;
     let value = substitute(alloc, body, values.as_slice())?;
     Ok(Priced { value, price })
@@ -97,22 +89,22 @@ fn match_body(
     target: Term,
     cases: Vec<TermCase>,
     bytes: u64,
-    prices: &Prices,
-    cap: u64,
-    price: u64,
+    budget: Budget,
 ) -> Result<Priced<Term>, EvalStop>
-    requires cap { cap < 2 ^ 64 - 1 }
-    requires price { price ≤ cap }
     requires bytes { bytes ≡ in_u64 (size (two matches target (many row (map case_tree cases.items)))) }
     requires closed { IsClosed (only (two matches target (many row (map case_tree cases.items)))) }
-    ensures value { ComesTo result cap price (after (value prices.now target) (λ v. chosen_body prices.now v (map case_tree cases.items))) }
+    ensures value { ComesTo result budget.entry (after (value budget.entry.prices.now target)
+        (λ v. chosen_body budget.entry.prices.now v (map case_tree cases.items))) }
     ensures closed { IfOk result (λ p. IsClosed p.value) }
 {
     if bytes >= LONG_CODE {
         return Err(EvalStop::NoMemory);
     }
+    let Budget { prices, cap, price } = budget;
     let found = eval_owned(alloc, target, prices, cap, price)?;
-    case_body(alloc, &found.value, cases, prices, cap, found.price)
+    let price = found.price;
+    let budget = Budget { prices, cap, price };
+    case_body(alloc, &found.value, cases, budget)
 }
 
 /// The body of the first of these cases that fits the target under its bindings, each case tried at its price, and
@@ -121,29 +113,31 @@ fn case_body(
     alloc: Global,
     target: &Term,
     cases: Vec<TermCase>,
-    prices: &Prices,
-    cap: u64,
-    price: u64,
+    budget: Budget,
 ) -> Result<Priced<Term>, EvalStop>
-    requires cap { cap < 2 ^ 64 - 1 }
-    requires price { price ≤ cap }
     requires target { IsClosed target.now }
     requires short_target { IsShort target.now }
     requires cases { All (λ c. Fits a_case [] (case_tree c)) cases.items }
     requires short_cases { All (λ c. IsShort c.pat) cases.items }
-    ensures value { ComesTo result cap price (chosen_body prices.now target.now (map case_tree cases.items)) }
+    ensures value { ComesTo result budget.entry (chosen_body budget.entry.prices.now target.now (map case_tree cases.items)) }
     ensures closed { IfOk result (λ p. IsClosed p.value) }
 {
-    let mut total = price;
+    let Budget {
+        prices,
+        cap,
+        mut price,
+    } = budget;
     for case in cases {
-        total = add_cost(total, prices.cases(), cap)?;
+        let before = Budget { prices, cap, price };
+        price = before.charge(prices.cases())?;
         if let Some(values) = first_match(alloc, &case.pat, target)? {
-            return bound_body(alloc, case, values.as_slice(), total, cap);
+            let here = Budget { prices, cap, price };
+            return bound_body(alloc, case, values.as_slice(), here);
         }
     }
     Ok(Priced {
         value: Term::nil(alloc),
-        price: total,
+        price,
     })
 }
 
@@ -153,20 +147,18 @@ fn bound_body(
     alloc: Global,
     case: TermCase,
     values: &[Term],
-    price: u64,
-    cap: u64,
+    budget: Budget,
 ) -> Result<Priced<Term>, EvalStop>
-    requires price { price ≤ cap }
-    requires closed { Fits a_case [] (case_tree case) }
-    ensures { ComesTo result cap price (free (within_limits (put values.now case.body))) }
+    requires { Fits a_case [] (case_tree case) }
+    ensures { ComesTo result budget.entry (free (within_limits (put values.now case.body))) }
 {
     let TermCase { pat, body } = case;
     if pat_bound(&pat) > 0 {
-        return put_within(alloc, &body, values, price, cap);
+        return put_within(alloc, &body, values, budget);
     }
     // What has a height is known to be in normal order.
     let _height = body.height();
-    limited(body, price, cap)
+    limited(body, budget.price, budget.cap)
 }
 
 /// The value of an operator or a method. A collection is evaluated, and nothing is unfolded inside it, nor inside what
@@ -174,18 +166,15 @@ fn bound_body(
 pub(crate) fn value_inside(
     alloc: Global,
     part: &Part,
-    prices: &Prices,
-    cap: u64,
-    price: u64,
+    budget: Budget,
 ) -> Result<Priced<Term>, EvalStop>
-    requires cap { cap < 2 ^ 64 - 1 }
-    requires price { price ≤ cap }
     requires closed { IsClosed (only (part_tree part.now)) }
     requires ordered { IsOrdered (part_tree part.now) }
     requires other { HoldsNoProcess (part_tree part.now) }
-    ensures value { (s : List ℕ) → ComesTo result cap price (inner_process prices.now s (part_tree part.now)) }
+    ensures value { (s : List ℕ) → ComesTo result budget.entry (inner_process budget.entry.prices.now s (part_tree part.now)) }
     ensures closed { IfOk result (λ p. IsClosed p.value) }
 {
+    let Budget { prices, cap, price } = budget;
     match part {
         Part::Unary { .. } | Part::Binary { .. } | Part::Method { .. } => {
             eval_part(alloc, part, prices, cap, price)

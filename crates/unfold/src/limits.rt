@@ -1,38 +1,25 @@
-// Prices under a cap, and bodies within the limits.
-ghost use Rattle.std.specs.Prelude.{◌≡◌, ◌≤◌, ◌<◌, ◌+◌, ◌-◌, ◌^◌, MatchResult};
+// Bodies within the limits.
 ghost use Rattle.calculus.specs.Outcome.{free, within_limits};
 ghost use Rattle.calculus.specs.Substitution.{put};
-ghost use Rattle.unfold.specs.Results.{ComesTo};
+ghost use Rattle.capped_work.specs.Results.{ComesTo};
 
 use calculus::FaultKind;
-use rho_eval::{EvalStop, Priced};
+use capped_work::{Budget, EvalStop, Priced};
 use rho_term::{MOST_BYTES, MOST_HEIGHT, Term};
 use std::alloc::Global;
-use term_sort::{put_size, substitute};
-
-/// The price so far and this cost, where they do not pass the cap.
-pub(crate) fn add_cost(price: u64, cost: u64, cap: u64) -> Result<u64, EvalStop>
-    requires { cap < 2 ^ 64 - 1 }
-    ensures { MatchResult result (λ n. (n ≡ price + cost) × (n ≤ cap)) (λ e. (e ≡ EvalStop.Over) × (cap < price + cost)) }
-{
-    let total = price.saturating_add(cost);
-    if total > cap {
-        return Err(EvalStop::Over);
-    }
-    Ok(total)
-}
+use substituted_sizes::put_size;
+use substitution::substitute;
 
 /// A body with these values at this price so far, or its fault where it is beyond the limits.
 pub(crate) fn put_within(
     alloc: Global,
     body: &Term,
     values: &[Term],
-    price: u64,
-    cap: u64,
+    budget: Budget,
 ) -> Result<Priced<Term>, EvalStop>
-    requires { price ≤ cap }
-    ensures { ComesTo result cap price (free (within_limits (put values.now body.now))) }
+    ensures { ComesTo result budget.entry (free (within_limits (put values.now body.now))) }
 {
+    let price = budget.price;
     let (height, bytes) = put_size(body, values);
     if height > MOST_HEIGHT {
         let kind = FaultKind::TooDeep;

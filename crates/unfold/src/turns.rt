@@ -1,20 +1,20 @@
 // The list of what is still to be unfolded, part after part.
 ghost use Rattle.std.specs.Prelude.{◌≡◌, ◌≤◌, ◌<◌, ◌-◌, ◌^◌, ◌++◌, ℕ, List, true, All, map, MatchResult, IfOk};
 ghost use Rattle.calculus.specs.Form.{IsClosed};
-ghost use Rattle.calculus.specs.Seeds.{digest_of, Split};
 ghost use Rattle.calculus.specs.Shape.{only};
 ghost use Rattle.rho_term.specs.Normal.{IsNormal, IsOrdered};
 ghost use Rattle.rho_term.specs.Parts.{part_tree};
 ghost use Rattle.rho_term.specs.Rows.{row_of_op};
 ghost use Rattle.unfold.specs.Inner.{is_silent};
-ghost use Rattle.unfold.specs.Progress.{pending, IsReady, StopsWith, Ends, in_turn, progress};
+ghost use Rattle.unfold.specs.Progress.{pending, pending_of, IsReady, StopsWith, Ends, in_turn, progress};
 ghost use Rattle.unfold.specs.Results.{pending_part, TakesTurn};
 
 use crate::inner::{inner_process, is_silent, value_inside};
 use crate::offers::{receive_offer, send_offer};
+use capped_work::{Budget, EvalStop, Priced};
 use name_seed::Seed;
+use offered_rows::Receive;
 use price_table::Prices;
-use rho_eval::{EvalStop, Priced};
 use rho_term::{Op, Part, Term};
 use std::alloc::{AllocError, Global};
 
@@ -72,7 +72,8 @@ fn silent_turn(
     ensures { (s : List ℕ) → TakesTurn result prices.now cap (pending_part (part_tree part.now) s) work.old work.new }
 {
     let price = work.price;
-    let done = value_inside(alloc, part, prices, cap, price)?;
+    let budget = Budget { prices, cap, price };
+    let done = value_inside(alloc, part, budget)?;
     work.price = done.price;
     Ok(())
 }
@@ -93,29 +94,33 @@ fn seeded_turn(
     requires ordered { IsOrdered (part_tree part) }
     ensures { TakesTurn result prices.now cap (pending_part (part_tree part) seed.now) work.old work.new }
 {
+    let price = work.price;
+    let budget = Budget { prices, cap, price };
     match part {
         Part::Send {
             channel,
             args,
             persistent,
         } => {
-            let price = work.price;
-            let done = send_offer(alloc, &channel, &args, persistent, seed, prices, cap, price)?;
+            let done = send_offer(alloc, &channel, &args, persistent, seed, budget)?;
             work.offers.push(done.value)?;
             work.price = done.price;
             Ok(())
         }
         Part::Receive { kind, binds, body } => {
-            let price = work.price;
-            let done = receive_offer(alloc, kind, &binds, &body, seed, prices, cap, price)?;
+            let receive = Receive {
+                kind,
+                binds: &binds,
+                body: &body,
+            };
+            let done = receive_offer(alloc, receive, seed, budget)?;
             work.offers.push(done.value)?;
             work.price = done.price;
             Ok(())
         }
         other => {
             let bytes = other.code_len();
-            let price = work.price;
-            let done = inner_process(alloc, other, bytes, seed, prices, cap, price)?;
+            let done = inner_process(alloc, other, bytes, seed, budget)?;
             let inner = seed.body();
             push_parts(&mut work.left, done.value, &inner)?;
             work.price = done.price;
@@ -124,23 +129,25 @@ fn seeded_turn(
     }
 }
 
-/// The part with this number of a process with this seed, whose own seed is made only where it is of use.
+/// A part that is next. Its own seed is made only where it is of use.
 fn turn(
     alloc: Global,
     work: &mut Work,
-    part: Part,
-    under: &Seed,
-    number: u32,
+    todo: Todo,
     prices: &Prices,
     cap: u64,
 ) -> Result<(), EvalStop>
     requires cap { cap < 2 ^ 64 - 1 }
     requires price { work.old.price ≤ cap }
     requires ready { All IsReady (in_turn work.old.left.items) }
-    requires closed { IsClosed (only (part_tree part)) }
-    requires ordered { IsOrdered (part_tree part) }
-    ensures { TakesTurn result prices.now cap (pending_part (part_tree part) (digest_of (Split under.now number))) work.old work.new }
+    requires todo { IsReady (pending_of todo) }
+    ensures { TakesTurn result prices.now cap (pending_of todo) work.old work.new }
 {
+    let Todo {
+        part,
+        under,
+        number,
+    } = todo;
     if is_silent(&part) {
         silent_turn(alloc, work, &part, prices, cap)
     } else {
@@ -170,14 +177,7 @@ pub(crate) fn finish(
                     price: work.price,
                 });
             }
-            Some(todo) => {
-                let Todo {
-                    part,
-                    under,
-                    number,
-                } = todo;
-                turn(alloc, &mut work, part, &under, number, prices, cap)?;
-            }
+            Some(todo) => turn(alloc, &mut work, todo, prices, cap)?,
         }
     }
     Err(EvalStop::NoMemory)

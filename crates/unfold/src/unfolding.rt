@@ -1,5 +1,5 @@
 // What a process, and a body under bindings, unfold to.
-ghost use Rattle.std.specs.Prelude.{◌≡◌, ◌<◌, ◌-◌, ◌^◌};
+ghost use Rattle.std.specs.Prelude.{◌<◌, ◌-◌, ◌^◌};
 ghost use Rattle.calculus.specs.Form.{IsClosed};
 ghost use Rattle.calculus.specs.Substitution.{put};
 ghost use Rattle.calculus.specs.Unfolding.{Unfolds, UnfoldsUnder};
@@ -7,9 +7,9 @@ ghost use Rattle.unfold.specs.Results.{Fulfils};
 
 use crate::limits::put_within;
 use crate::turns::{Work, finish, push_parts};
+use capped_work::{Budget, EvalStop, Priced};
 use name_seed::Seed;
 use price_table::Prices;
-use rho_eval::{EvalStop, Priced};
 use rho_term::{Op, Term};
 use std::alloc::Global;
 
@@ -70,6 +70,7 @@ pub fn unfold_body(
     ensures { Fulfils result (UnfoldsUnder prices.now cap values.now body.now seed.now) }
 {
     let price = 0;
-    let term = put_within(alloc, body, values, price, cap)?;
+    let budget = Budget { prices, cap, price };
+    let term = put_within(alloc, body, values, budget)?;
     unfold_owned(alloc, term.value, seed, prices, cap)
 }

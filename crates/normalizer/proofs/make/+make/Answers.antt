@@ -1,5 +1,5 @@
-use Rattle.std.proofs.Common.{◌≡◌, ◌∷◌, [], rules, sym, ap, ◌∙◌, map, refl, ◌++◌, ◌<◌, length, get_or}
-use Rattle.std.specs.Prelude.{string_bytes}
+use Rattle.std.proofs.Common.{Result, Ok, Err, ◌≡◌, ◌∷◌, [], rules, sym, ap, ◌∙◌, map, refl, ◌++◌, ◌<◌, length, get_or}
+use Rattle.std.specs.Prelude.{string_bytes, OnOk}
 use Rattle.std.proofs.lemmas.List.{map-append}
 use Rattle.rho_term.specs.Parts.{pair_tree}
 use Rattle.calculus.specs.declared.process.Proc.{the_lemmas}
@@ -8,17 +8,22 @@ use Rattle.calculus.specs.Shape.{leaf, one, two, three, many}
 use Rattle.calculus.specs.Written.{in_process, in_pattern, around, use_process, use_name, drop, quote, declare, bind_process, bind_name, quote_pattern, closed, bare_form, form_of, form_of_one, form_of_two, form_of_three, writtens}
 use Rattle.calculus.specs.Bare.{index, all_names, names}
 use Rattle.calculus.specs.Meaning.{ground_label, declared, pair_of, row_of, proc_written, name_written, pat_written, name_pat_written, bind_written, case_written, rest_written}
-use Rattle.scope_check.specs.Pairs.{proc_pair, pat_pair}
-use Rattle.scope_check.proofs.Meanings.{proc-pairs, pat-pairs}
-use Rattle.normalizer.specs.InScope.{within}
-use Rattle.normalizer.specs.Made.{normal_in, all_in}
-use Rattle.normalizer.proofs.BindsNone.{proc-binds-none}
-use Rattle.normalizer.proofs.Levels.{proc-par, name-par, pat-pattern, name-pat-pattern}
-use Rattle.normalizer.proofs.Forms.{parts-list, parts-tuple, parts-set, parts-dict, parts-send, parts-receive, parts-new, parts-match, parts-bundle, parts-unary, parts-binary, parts-method, parts-ground, parts-variable, parts-name, parts-fresh}
-use Rattle.normalizer.proofs.PatternForms.{pattern-same, pattern-both, pattern-either, pattern-not, pattern-bundle, pattern-tuple, pattern-list, pattern-set, pattern-map, pattern-send, pattern-ground, pattern-any, pattern-simple, pattern-process, pattern-name, pair-made, bind-made, case-made}
-use Rattle.normalizer.proofs.Flat.{parts-par, parts-pattern, parts-drop, parts-quote, parts-quote-pattern}
-use Rattle.normalizer.proofs.Calls.{parts-taken, pat-parts-taken, term-made, pat-made, pat-ordered, closed-parts, of-form, of-pattern, many-same, row-same, one-same, two-same, loop-step}
+use Rattle.open_processes.specs.Pairs.{proc_pair, pat_pair}
+use Rattle.open_processes.proofs.Meanings.{proc-pairs, pat-pairs}
+use Rattle.pattern_names.specs.InScope.{within}
+use Rattle.normal_parts.specs.Made.{normal_in, all_in}
+use Rattle.pattern_names.proofs.BindsNone.{proc-binds-none}
+use Rattle.normal_parts.proofs.Levels.{proc-par, name-par, pat-pattern, name-pat-pattern}
+use Rattle.normal_parts.proofs.Forms.{parts-list, parts-tuple, parts-set, parts-dict, parts-send, parts-receive, parts-new, parts-match, parts-bundle, parts-unary, parts-binary, parts-method, parts-ground, parts-variable, parts-name, parts-fresh}
+use Rattle.normal_parts.proofs.PatternForms.{pattern-same, pattern-both, pattern-either, pattern-not, pattern-bundle, pattern-tuple, pattern-list, pattern-set, pattern-map, pattern-send, pattern-ground, pattern-any, pattern-simple, pattern-process, pattern-name, pair-made, bind-made, case-made}
+use Rattle.normal_parts.proofs.Flat.{parts-par, parts-pattern, parts-drop, parts-quote, parts-quote-pattern}
+use Rattle.normal_parts.proofs.Calls.{parts-taken, pat-parts-taken, term-made, pat-made, pat-ordered, closed-parts, of-form, of-pattern, many-same, row-same, one-same, two-same, loop-step}
 use Rattle.normalizer.proofs.make.+make.Goals as goal
+
+-- what holds in any case holds where there is a result
+kept : {A E S : Type 0} (r : Result A E) → S → OnOk r S
+kept (Ok a) s = s
+kept (Err e) s = tt
 
 pub name_parts_of-returns-in-Var-clause-made : goal.name_parts_of-returns-in-Var-clause-made
 name_parts_of-returns-in-Var-clause-made t c =
@@ -277,3 +282,126 @@ make_pat_pairs-loop-p-preserved t c =
       scope = c.in_ok-value.ensures.scope ∙ v;
       made = loop-step pat_pair c.args.ps.now.items c.loop-p.p-index c.p-item.result c.args.scope.now _ _ _ i g k p c.loop-p.invariant.made;
     }
+
+pub name_parts_of-returns-in-Var-clause-scope : goal.name_parts_of-returns-in-Var-clause-scope
+name_parts_of-returns-in-Var-clause-scope t c = kept _ refl
+
+pub name_parts_of-returns-in-Fresh-clause-scope : goal.name_parts_of-returns-in-Fresh-clause-scope
+name_parts_of-returns-in-Fresh-clause-scope t c = kept _ refl
+
+pub name_parts_of-returns-in-Quote-clause-scope : goal.name_parts_of-returns-in-Quote-clause-scope
+name_parts_of-returns-in-Quote-clause-scope t c = c.parts_of.ensures.scope
+
+pub parts_of-returns-in-Par-clause-scope : goal.parts_of-returns-in-Par-clause-scope
+parts_of-returns-in-Par-clause-scope t c = c.all_parts_of.ensures.scope
+
+pub parts_of-returns-in_ok-copy_ground-in-Ground-clause-scope : goal.parts_of-returns-in_ok-copy_ground-in-Ground-clause-scope
+parts_of-returns-in_ok-copy_ground-in-Ground-clause-scope t c = kept _ refl
+
+pub parts_of-returns-in-Var-clause-scope : goal.parts_of-returns-in-Var-clause-scope
+parts_of-returns-in-Var-clause-scope t c = kept _ refl
+
+pub parts_of-returns-in-Drop-clause-scope : goal.parts_of-returns-in-Drop-clause-scope
+parts_of-returns-in-Drop-clause-scope t c = c.name_parts_of.ensures.scope
+
+pub parts_of-returns-in_ok-make_terms-in-List-clause-scope : goal.parts_of-returns-in_ok-make_terms-in-List-clause-scope
+parts_of-returns-in_ok-make_terms-in-List-clause-scope t c = kept _ c.in_ok-make_terms-in-List.ensures.scope
+
+pub parts_of-returns-in_ok-make_terms-in-Tuple-clause-scope : goal.parts_of-returns-in_ok-make_terms-in-Tuple-clause-scope
+parts_of-returns-in_ok-make_terms-in-Tuple-clause-scope t c = kept _ c.in_ok-make_terms-in-Tuple.ensures.scope
+
+pub parts_of-returns-in_ok-make_terms-in-Set-clause-scope : goal.parts_of-returns-in_ok-make_terms-in-Set-clause-scope
+parts_of-returns-in_ok-make_terms-in-Set-clause-scope t c = kept _ c.in_ok-make_terms-in-Set.ensures.scope
+
+pub parts_of-returns-in_ok-make_pairs-in-Map-clause-scope : goal.parts_of-returns-in_ok-make_pairs-in-Map-clause-scope
+parts_of-returns-in_ok-make_pairs-in-Map-clause-scope t c = kept _ c.in_ok-make_pairs-in-Map.ensures.scope
+
+pub parts_of-returns-in_ok-body-in-Bundle-clause-scope : goal.parts_of-returns-in_ok-body-in-Bundle-clause-scope
+parts_of-returns-in_ok-body-in-Bundle-clause-scope t c = kept _ c.in_ok-body-in-Bundle.ensures.scope
+
+pub parts_of-returns-in_ok-arg-in-Unary-clause-scope : goal.parts_of-returns-in_ok-arg-in-Unary-clause-scope
+parts_of-returns-in_ok-arg-in-Unary-clause-scope t c = kept _ c.in_ok-arg-in-Unary.ensures.scope
+
+pub parts_of-returns-in_ok-args-in-Send-clause-scope : goal.parts_of-returns-in_ok-args-in-Send-clause-scope
+parts_of-returns-in_ok-args-in-Send-clause-scope t c = kept _ (c.in_ok-args-in-Send.ensures.scope ∙ c.in_ok-channel-in-Send.ensures.scope)
+
+pub parts_of-returns-in_ok-cases-in-Match-clause-scope : goal.parts_of-returns-in_ok-cases-in-Match-clause-scope
+parts_of-returns-in_ok-cases-in-Match-clause-scope t c = kept _ (c.in_ok-cases-in-Match.ensures.scope ∙ c.in_ok-target-in-Match.ensures.scope)
+
+pub parts_of-returns-in_ok-right-in-Binary-clause-scope : goal.parts_of-returns-in_ok-right-in-Binary-clause-scope
+parts_of-returns-in_ok-right-in-Binary-clause-scope t c = kept _ (c.in_ok-right-in-Binary.ensures.scope ∙ c.in_ok-left-in-Binary.ensures.scope)
+
+pub parts_of-returns-in_ok-args-in-Method-clause-scope : goal.parts_of-returns-in_ok-args-in-Method-clause-scope
+parts_of-returns-in_ok-args-in-Method-clause-scope t c = kept _ (c.in_ok-args-in-Method.ensures.scope ∙ c.in_ok-target-in-Method.ensures.scope)
+
+pub pat_parts_of-returns-in-Par-clause-scope : goal.pat_parts_of-returns-in-Par-clause-scope
+pat_parts_of-returns-in-Par-clause-scope t c = c.all_pat_parts_of.ensures.scope
+
+pub pat_parts_of-returns-in-Wild-clause-scope : goal.pat_parts_of-returns-in-Wild-clause-scope
+pat_parts_of-returns-in-Wild-clause-scope t c = kept _ refl
+
+pub pat_parts_of-returns-in-Var-clause-scope : goal.pat_parts_of-returns-in-Var-clause-scope
+pat_parts_of-returns-in-Var-clause-scope t c = kept _ refl
+
+pub pat_parts_of-returns-in-Simple-clause-scope : goal.pat_parts_of-returns-in-Simple-clause-scope
+pat_parts_of-returns-in-Simple-clause-scope t c = kept _ refl
+
+pub pat_parts_of-returns-in_ok-copy_ground-in-Ground-clause-scope : goal.pat_parts_of-returns-in_ok-copy_ground-in-Ground-clause-scope
+pat_parts_of-returns-in_ok-copy_ground-in-Ground-clause-scope t c = kept _ refl
+
+pub pat_parts_of-returns-in_ok-make_term-in-Same-clause-scope : goal.pat_parts_of-returns-in_ok-make_term-in-Same-clause-scope
+pat_parts_of-returns-in_ok-make_term-in-Same-clause-scope t c = kept _ c.in_ok-make_term-in-Same.ensures.scope
+
+pub pat_parts_of-returns-in_ok-make_pat-in-Not-clause-scope : goal.pat_parts_of-returns-in_ok-make_pat-in-Not-clause-scope
+pat_parts_of-returns-in_ok-make_pat-in-Not-clause-scope t c = kept _ c.in_ok-make_pat-in-Not.ensures.scope
+
+pub pat_parts_of-returns-in_ok-members-in-List-clause-scope : goal.pat_parts_of-returns-in_ok-members-in-List-clause-scope
+pat_parts_of-returns-in_ok-members-in-List-clause-scope t c = kept _ c.in_ok-members-in-List.ensures.scope
+
+pub pat_parts_of-returns-in_ok-members-in-Set-clause-scope : goal.pat_parts_of-returns-in_ok-members-in-Set-clause-scope
+pat_parts_of-returns-in_ok-members-in-Set-clause-scope t c = kept _ c.in_ok-members-in-Set.ensures.scope
+
+pub pat_parts_of-returns-in_ok-make_pats-in-Tuple-clause-scope : goal.pat_parts_of-returns-in_ok-make_pats-in-Tuple-clause-scope
+pat_parts_of-returns-in_ok-make_pats-in-Tuple-clause-scope t c = kept _ c.in_ok-make_pats-in-Tuple.ensures.scope
+
+pub pat_parts_of-returns-in_ok-pairs-in-Map-clause-scope : goal.pat_parts_of-returns-in_ok-pairs-in-Map-clause-scope
+pat_parts_of-returns-in_ok-pairs-in-Map-clause-scope t c = kept _ c.in_ok-pairs-in-Map.ensures.scope
+
+pub pat_parts_of-returns-in_ok-body-in-Bundle-clause-scope : goal.pat_parts_of-returns-in_ok-body-in-Bundle-clause-scope
+pat_parts_of-returns-in_ok-body-in-Bundle-clause-scope t c = kept _ c.in_ok-body-in-Bundle.ensures.scope
+
+pub pat_parts_of-returns-in_ok-parts-in-Closed-clause-scope : goal.pat_parts_of-returns-in_ok-parts-in-Closed-clause-scope
+pat_parts_of-returns-in_ok-parts-in-Closed-clause-scope t c = kept _ c.in_ok-parts-in-Closed.ensures.scope
+
+pub pat_parts_of-returns-in_ok-b-in-Both-clause-scope : goal.pat_parts_of-returns-in_ok-b-in-Both-clause-scope
+pat_parts_of-returns-in_ok-b-in-Both-clause-scope t c = kept _ (c.in_ok-b-in-Both.ensures.scope ∙ c.in_ok-a-in-Both.ensures.scope)
+
+pub pat_parts_of-returns-in_ok-b-in-Either-clause-scope : goal.pat_parts_of-returns-in_ok-b-in-Either-clause-scope
+pat_parts_of-returns-in_ok-b-in-Either-clause-scope t c = kept _ (c.in_ok-b-in-Either.ensures.scope ∙ c.in_ok-a-in-Either.ensures.scope)
+
+pub pat_parts_of-returns-in_ok-args-in-Send-clause-scope : goal.pat_parts_of-returns-in_ok-args-in-Send-clause-scope
+pat_parts_of-returns-in_ok-args-in-Send-clause-scope t c = kept _ (c.in_ok-args-in-Send.ensures.scope ∙ c.in_ok-channel-in-Send.ensures.scope)
+
+pub name_pat_parts_of-returns-in-Wild-clause-scope : goal.name_pat_parts_of-returns-in-Wild-clause-scope
+name_pat_parts_of-returns-in-Wild-clause-scope t c = kept _ refl
+
+pub name_pat_parts_of-returns-in-Var-clause-scope : goal.name_pat_parts_of-returns-in-Var-clause-scope
+name_pat_parts_of-returns-in-Var-clause-scope t c = kept _ refl
+
+pub name_pat_parts_of-returns-in-Quote-clause-scope : goal.name_pat_parts_of-returns-in-Quote-clause-scope
+name_pat_parts_of-returns-in-Quote-clause-scope t c = c.pat_parts_of.ensures.scope
+
+pub make_bind-returns-clause-scope : goal.make_bind-returns-clause-scope
+make_bind-returns-clause-scope t c = c.in_ok-pats.ensures.scope ∙ c.in_ok-channel.ensures.scope
+
+pub make_name-returns-clause-scope : goal.make_name-returns-clause-scope
+make_name-returns-clause-scope t c = kept _ c.in_ok-parts.ensures.scope
+
+pub make_term-returns-clause-scope : goal.make_term-returns-clause-scope
+make_term-returns-clause-scope t c = kept _ c.in_ok-parts.ensures.scope
+
+pub make_pat-returns-clause-scope : goal.make_pat-returns-clause-scope
+make_pat-returns-clause-scope t c = c.in_ok-parts.ensures.scope
+
+pub make_name_pat-returns-clause-scope : goal.make_name_pat-returns-clause-scope
+make_name_pat-returns-clause-scope t c = c.in_ok-parts.ensures.scope

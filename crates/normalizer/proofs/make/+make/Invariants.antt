@@ -1,8 +1,8 @@
 use Rattle.std.proofs.Common.{◌≡◌, ◌++◌, map, drop}
 use Rattle.calculus.specs.Meaning.{proc_written, pat_written, name_pat_written, bind_written, case_written}
 use Rattle.rho_term.specs.Parts.{part_tree, pat_part_tree, pair_tree, bind_tree, case_tree}
-use Rattle.scope_check.specs.Pairs.{proc_pair, pat_pair}
-use Rattle.normalizer.specs.Made.{all_in, all_parts, all_pattern_parts}
+use Rattle.open_processes.specs.Pairs.{proc_pair, pat_pair}
+use Rattle.normal_parts.specs.Made.{all_in, all_parts, all_pattern_parts}
 use Rattle.normalizer.proofs.make.+make.Given as goal
 
 abbrev pub invariant-all_parts_of-loop-p : goal.invariant-all_parts_of-loop-p

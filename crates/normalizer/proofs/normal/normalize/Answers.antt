@@ -4,7 +4,7 @@ use Rattle.calculus.specs.Bare.{bare}
 use Rattle.calculus.specs.Congruence.{congruent}
 use Rattle.calculus.specs.Meaning.{proc_written}
 use Rattle.scope.proofs.Normalizing.{normal-congruent}
-use Rattle.normalizer.specs.Made.{normal_in}
+use Rattle.normal_parts.specs.Made.{normal_in}
 use Rattle.normalizer.proofs.normal.normalize.Goals as goal
 
 pub returns-clause-term : goal.returns-clause-term

@@ -2,7 +2,7 @@ use Rattle.std.proofs.Common.{◌≡◌, ◌+◌, length, refl, sym, ap, ◌∙�
 use Rattle.calculus.specs.Code.{code}
 use Rattle.calculus.specs.Variables.{bound}
 use Rattle.rho_term.specs.Parts.{bind_tree}
-use Rattle.term_sort.proofs.Binding.{count-bound}
+use Rattle.term_bounds.proofs.Binding.{count-bound}
 use Rattle.offered_rows.proofs.Sorting.{keyed-pushed, total-pushed}
 use Rattle.offered_rows.proofs.placed.placed_binds.Goals as goal
 

@@ -17,5 +17,5 @@ pub returns : goal.returns
 returns g c =
     let still : is_some c.in-Ok.closed.stop ≡ false = search rules in
     let none = no-stop c.in-Ok.closed.stop still in
-    let over = c.in-Ok.ensures.ended (omega (arith, c.in_ok-seats.ensures.count, c.in_ok-hub.ensures.count, c.requires.workers.0)) c.in_ok-hub.ensures.terms.0 (λ k d lt. (c.in_ok-seats.ensures.each k d lt).1) none in
+    let over = c.in-Ok.ensures.ended (omega (arith, c.in_ok-seats.ensures.count, c.in_ok-hub.ensures.count, c.args.crew.now.range.0)) c.in_ok-hub.ensures.terms.0 (λ k d lt. (c.in_ok-seats.ensures.each k d lt).1) none in
     record { decides = λ w u fits differs. c.in-Ok.ensures.decides w u fits differs over.0 over.1 }

@@ -36,24 +36,24 @@ replay_side_by_side-requires-sync-J-Held g c κs within = let a = held-sync in s
 
 pub replay_side_by_side-requires-clause-opens : goal.replay_side_by_side-requires-clause-opens
 replay_side_by_side-requires-clause-opens g c κs within =
-    let p = c.args.prices.now in
+    let p = c.args.basis.now.prices.now in
     let limit = c.args.log.header.limit in
-    let t = c.args.term.now in
-    let source = c.args.source.now.0 in
+    let t = c.args.basis.now.term.now in
+    let source = c.args.basis.now.source.now.0 in
     let worked = c.in_ok-price.ensures in
-    let unfolds = subst (λ (s : List ℕ). Unfolds p limit t s worked.work) (c.start-seed.ensures ∙ ap (λ (x : List ℕ). digest_of (Start x source)) (sym c.requires.root)) worked.said in
-    let begins : Begins (deploy_of p limit c.args.base.now t source) worked.work = record { unfolds = unfolds; quiet = c.requires.quiet } in
+    let unfolds = subst (λ (s : List ℕ). Unfolds p limit t s worked.work) (c.start-seed.ensures ∙ ap (λ (x : List ℕ). digest_of (Start x source)) (sym c.requires.basis.root_is)) worked.said in
+    let begins : Begins (deploy_of p limit c.args.basis.now.base.now t source) worked.work = record { unfolds = unfolds; quiet = c.requires.quiet } in
     opens g.N.ReplayNames.deploy g.N.ReplayNames.steps worked.work (subst (λ (d : Deploy). Begins d worked.work) (sym c.requires.deploy) begins) c.in_ok-shards.shards.items c.in_ok-price.field-0.offers.items c.in_ok-tasks.tasks.items
     (subst (λ (d : Deploy). AreOpenedShards d.rows c.in_ok-shards.shards.items) (sym c.requires.deploy) c.in_ok-shards.ensures.opened) worked.rows c.in_ok-tasks.ensures.are
 
 pub returns-clause-raced : goal.returns-clause-raced
 returns-clause-raced g c fits differs =
-    let p = c.args.prices.now in
+    let p = c.args.basis.now.prices.now in
     let limit = c.args.log.header.limit in
-    let t = c.args.term.now in
-    let source = c.args.source.now.0 in
+    let t = c.args.basis.now.term.now in
+    let source = c.args.basis.now.source.now.0 in
     let worked = c.in_ok-price.ensures in
-    let unfolds = subst (λ (s : List ℕ). Unfolds p limit t s worked.work) (c.start-seed.ensures ∙ ap (λ (x : List ℕ). digest_of (Start x source)) (sym c.requires.root)) worked.said in
+    let unfolds = subst (λ (s : List ℕ). Unfolds p limit t s worked.work) (c.start-seed.ensures ∙ ap (λ (x : List ℕ). digest_of (Start x source)) (sym c.requires.basis.root_is)) worked.said in
     let here = subst (λ (d : Deploy). Unfolds d.prices d.limit d.process (source_seed d) worked.work) (sym c.requires.deploy) unfolds in
     record {
       work = worked.work;

@@ -4,6 +4,10 @@ use Rattle.replay_answers.specs.Bases.{asked}
 use Rattle.replay_answers.proofs.Headers.{none-is-not-some, header-answered}
 use Rattle.replay_runs.proofs.runs.replay.Goals as goal
 
+pub replay_steps-requires-clause-basis : goal.replay_steps-requires-clause-basis
+replay_steps-requires-clause-basis g c κs within =
+    record { root_is = c.requires.root; ids = c.requires.ids; quiet = c.requires.quiet; closed = c.requires.closed; numberable = c.requires.numberable }
+
 pub replay_steps-requires-clause-right : goal.replay_steps-requires-clause-right
 replay_steps-requires-clause-right g c κs within = c.in-Ok.ensures.refusal c.args.base.now c.args.term.now c.requires.root
 

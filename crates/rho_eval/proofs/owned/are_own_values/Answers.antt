@@ -2,7 +2,7 @@ use Rattle.std.proofs.Common.{sym, subst, take}
 use Rattle.std.proofs.lemmas.List.{take_all}
 use Rattle.std.proofs.lemmas.List.Elements.{All-more}
 use Rattle.std.specs.Prelude.{List, All}
-use Rattle.rho_eval.specs.Outcomes.{IsOwnValue}
+use Rattle.rho_eval.specs.Values.{IsOwnValue}
 use Rattle.rho_term.specs.declared.term.Part.{Part}
 use Rattle.rho_term.specs.Parts.{part_tree}
 use Rattle.rho_eval.proofs.owned.are_own_values.Goals as goal

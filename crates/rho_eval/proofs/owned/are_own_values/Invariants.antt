@@ -1,5 +1,5 @@
 use Rattle.std.proofs.Common.{All, take}
-use Rattle.rho_eval.specs.Outcomes.{IsOwnValue}
+use Rattle.rho_eval.specs.Values.{IsOwnValue}
 use Rattle.rho_term.specs.Parts.{part_tree}
 use Rattle.rho_eval.proofs.owned.are_own_values.Given as goal
 

@@ -1,8 +1,22 @@
+use Rattle.std.proofs.Common.{sym, subst}
 use Rattle.command_words.specs.Answers.{run_of}
-use Rattle.run_deploys.proofs.Promised.{is_deploy}
+use Rattle.run_reports.specs.World.{World, world}
+use Rattle.run_status.specs.declared.status.Status.{Status}
+use Rattle.run_deploys.specs.Deploys.{IsDeploy}
+use Rattle.run_deploys.proofs.Ending.{accepted_in}
+use Rattle.run_deploys.proofs.Promised.{left_deploy, halted_deploy}
 use Rattle.run_deploys.proofs.deploys.deploy_accepted.Goals as goal
 
-pub returns : goal.returns
-returns g c =
-    let d = c.deploy_run.ensures in
-    is_deploy (run_of c.args.run.now) c.args.limit _ _ c.deploy_run.result d.ends d.stays d.write_fault d.verdict d.part
+pub returns-in-Ok : goal.returns-in-Ok
+returns-in-Ok g c =
+    let names = run_of c.args.run.now in
+    let limit = c.args.limit in
+    let a : World = world (g.S.Shelf.files c.args.shelf.now) (g.S.Shelf.fetch_faults c.args.shelf.now) (g.S.Shelf.keep_faults c.args.shelf.now) (g.O.Sink.written c.args.out.now) (g.O.Sink.faults c.args.out.now) in
+    let b : World = world (g.S.Shelf.files c.deploy_run.new.shelf) (g.S.Shelf.fetch_faults c.deploy_run.new.shelf) (g.S.Shelf.keep_faults c.deploy_run.new.shelf) (g.O.Sink.written c.deploy_run.new.out) (g.O.Sink.faults c.deploy_run.new.out) in
+    subst (λ (s : Status). IsDeploy names limit a b s) (sym c.status_of.ensures)
+    (left_deploy names limit a b (accepted_in a.files names limit c.args.inputs c.requires.inputs) c.in-Ok.verdict c.in-Ok.ensures.left)
+
+pub returns-in-Err : goal.returns-in-Err
+returns-in-Err g c =
+    let names = run_of c.args.run.now in
+    halted_deploy names c.args.limit _ _ (accepted_in (g.S.Shelf.files c.args.shelf.now) names c.args.limit c.args.inputs c.requires.inputs) c.in-Err.status c.in-Err.ensures.halts

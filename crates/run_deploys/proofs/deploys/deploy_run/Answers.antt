@@ -1,51 +1,43 @@
-use Rattle.std.proofs.Common.{inr}
+use Rattle.std.proofs.Common.{◌≡◌, inl, inr, Err, refl, sym, ap, subst}
 use Rattle.command_words.specs.Answers.{run_of}
 use Rattle.run_inputs.specs.Given.{task_of}
 use Rattle.run_inputs.specs.Inputs.{accepted}
 use Rattle.run_reports.specs.World.{World, world}
-use Rattle.run_deploys.specs.Ends.{Leaves, LeavesAll, LeavesSome}
-use Rattle.run_deploys.proofs.Leaving.{on_verdict, ok_and, leaves_all, leaves_some}
-use Rattle.run_deploys.proofs.Ending.{verdict_ends, accepted_in}
+use Rattle.run_status.specs.Endings.{status_of}
+use Rattle.run_status.specs.declared.status.Status.{Status}
+use Rattle.run_status.specs.declared.status.Status.TheVariants.{NoMemory}
+use Rattle.run_status.specs.Statuses.{status_of_halt}
+use Rattle.run_status.proofs.Handing.{handed}
+use Rattle.run_deploys.specs.Ends.{Halts, LeavesAll, LeavesSome}
+use Rattle.run_deploys.proofs.Leaving.{ok_and, leaves_all, leaves_some, halts_by}
 use Rattle.run_deploys.proofs.deploys.deploy_run.Goals as goal
 
-pub returns-in-Ok-write_plan-clause-ends : goal.returns-in-Ok-write_plan-clause-ends
-returns-in-Ok-write_plan-clause-ends g c =
-    let told = g.S.Shelf.files c.args.shelf.now in
-    verdict_ends told (run_of c.args.run.now) c.args.limit (g.S.Shelf.fetch_faults c.args.shelf.now) (g.S.Shelf.fetch_faults c.write_plan.new.shelf) c.in-Ok.plan.verdict c.status_of.result c.status_of.ensures
-    (accepted_in told (run_of c.args.run.now) c.args.limit c.args.inputs c.requires.inputs)
+-- where the plan wants memory nothing was kept or put
+pub returns-in_err-plan-clause-halts : goal.returns-in_err-plan-clause-halts
+returns-in_err-plan-clause-halts g c =
+    let a : World = world (g.S.Shelf.files c.args.shelf.now) (g.S.Shelf.fetch_faults c.args.shelf.now) (g.S.Shelf.keep_faults c.args.shelf.now) (g.O.Sink.written c.args.out.now) (g.O.Sink.faults c.args.out.now) in
+    handed (λ (x : Status). x ≡ NoMemory) (Halts (run_of c.args.run.now) c.args.limit a a) c.from_residual.result c.from_residual.ensures.1 (λ s k. subst (λ (x : Status). Halts (run_of c.args.run.now) c.args.limit a a x) (sym k) (λ files h. inl (refl, refl)))
 
-pub returns-in-Err-WriteFault-clause-ends : goal.returns-in-Err-WriteFault-clause-ends
-returns-in-Err-WriteFault-clause-ends g c = accepted_in (g.S.Shelf.files c.args.shelf.now) (run_of c.args.run.now) c.args.limit c.args.inputs c.requires.inputs
-
-pub returns-in-Ok-write_plan-clause-verdict : goal.returns-in-Ok-write_plan-clause-verdict
-returns-in-Ok-write_plan-clause-verdict g c =
+pub returns-in_err-write_plan-clause-halts : goal.returns-in_err-write_plan-clause-halts
+returns-in_err-write_plan-clause-halts g c =
     let names = run_of c.args.run.now in
     let limit = c.args.limit in
     let task = task_of c.args.inputs in
     let a : World = world (g.S.Shelf.files c.args.shelf.now) (g.S.Shelf.fetch_faults c.args.shelf.now) (g.S.Shelf.keep_faults c.args.shelf.now) (g.O.Sink.written c.args.out.now) (g.O.Sink.faults c.args.out.now) in
     let b : World = world (g.S.Shelf.files c.write_plan.new.shelf) (g.S.Shelf.fetch_faults c.write_plan.new.shelf) (g.S.Shelf.keep_faults c.write_plan.new.shelf) (g.O.Sink.written c.write_plan.new.out) (g.O.Sink.faults c.write_plan.new.out) in
-    let s = c.status_of.result in
-    let w = c.in-Ok-write_plan.ensures in
-    on_verdict s (Leaves s names limit a b) (λ files h.
-    ok_and (LeavesAll s names limit a b) (accepted names limit files) task (c.requires.inputs.accepted files h)
-    (leaves_all s names limit task c.in-Ok.plan a b c.in-Ok.ensures c.status_of.ensures w.kept w.put))
+    let w = c.in_err-write_plan.ensures in
+    handed (λ (x : Status). x ≡ status_of_halt c.in_err-write_plan.field-0.0) (Halts names limit a b) c.from_residual-in_err-write_plan.result c.from_residual-in_err-write_plan.ensures.1 (λ s k. subst (λ (x : Status). Halts names limit a b x) (sym k)
+    (halts_by names limit a b c.in_err-write_plan.field-0.0 (λ e. w.cause (ap Err e)) (λ files h.
+    inr (ok_and (LeavesSome names limit a b) (accepted names limit files) task (c.requires.inputs.accepted files h) (leaves_some names limit task c.in_ok-plan.plan a b c.in_ok-plan.ensures w.part)))))
 
-pub returns-in-Err-WriteFault-clause-part : goal.returns-in-Err-WriteFault-clause-part
-returns-in-Err-WriteFault-clause-part g c =
+pub returns-clause-left : goal.returns-clause-left
+returns-clause-left g c =
     let names = run_of c.args.run.now in
     let limit = c.args.limit in
     let task = task_of c.args.inputs in
     let a : World = world (g.S.Shelf.files c.args.shelf.now) (g.S.Shelf.fetch_faults c.args.shelf.now) (g.S.Shelf.keep_faults c.args.shelf.now) (g.O.Sink.written c.args.out.now) (g.O.Sink.faults c.args.out.now) in
     let b : World = world (g.S.Shelf.files c.write_plan.new.shelf) (g.S.Shelf.fetch_faults c.write_plan.new.shelf) (g.S.Shelf.keep_faults c.write_plan.new.shelf) (g.O.Sink.written c.write_plan.new.out) (g.O.Sink.faults c.write_plan.new.out) in
-    λ files h. inr (ok_and (LeavesSome names limit a b) (accepted names limit files) task (c.requires.inputs.accepted files h)
-    (leaves_some names limit task c.in-Ok.plan a b c.in-Ok.ensures c.in-Err-WriteFault.ensures.part))
-
-pub returns-clause-part : goal.returns-clause-part
-returns-clause-part g c =
-    let names = run_of c.args.run.now in
-    let limit = c.args.limit in
-    let task = task_of c.args.inputs in
-    let a : World = world (g.S.Shelf.files c.args.shelf.now) (g.S.Shelf.fetch_faults c.args.shelf.now) (g.S.Shelf.keep_faults c.args.shelf.now) (g.O.Sink.written c.args.out.now) (g.O.Sink.faults c.args.out.now) in
-    let b : World = world (g.S.Shelf.files c.write_plan.new.shelf) (g.S.Shelf.fetch_faults c.write_plan.new.shelf) (g.S.Shelf.keep_faults c.write_plan.new.shelf) (g.O.Sink.written c.write_plan.new.out) (g.O.Sink.faults c.write_plan.new.out) in
-    λ files h. inr (ok_and (LeavesSome names limit a b) (accepted names limit files) task (c.requires.inputs.accepted files h)
-    (leaves_some names limit task c.in-Ok.plan a b c.in-Ok.ensures c.in-Err-NoMemory.ensures.part))
+    let s = status_of c.in_ok-plan.plan.verdict in
+    let w = c.in_ok-write_plan.ensures in
+    λ files h. ok_and (LeavesAll s names limit a b) (accepted names limit files) task (c.requires.inputs.accepted files h)
+    (leaves_all s names limit task c.in_ok-plan.plan a b c.in_ok-plan.ensures refl w.kept w.put)

@@ -7,8 +7,8 @@ use Rattle.calculus.specs.Rows.{Row}
 use Rattle.calculus.specs.Runs.{deploy_of}
 use Rattle.calculus.proofs.Digests.{digest-fits}
 use Rattle.play_outcome.specs.Bases.{IsQuietBase}
+use Rattle.run_ends.proofs.Running.{numberable}
 use Rattle.run_deploys.proofs.Planning.{Plays, is_plan, made_from, quiet-base, IsHeaderOf}
-use Rattle.run_deploys.proofs.Running.{numberable}
 use Rattle.sent_tables.proofs.Crossing.{shard-send, shard-sync, held-send, held-sync}
 use Rattle.run_deploys.proofs.deploys.make_plan.Goals as goal
 

@@ -9,8 +9,11 @@ use Rattle.replay_answers.specs.Answers.{Clashes, IsAnswered}
 use Rattle.replay_answers.specs.Bases.{asked, ids_of}
 use Rattle.states.specs.Quiet.{AreQuiet}
 use Rattle.replay_faults.specs.Refusals.{refusal_of}
-use Rattle.run_replays.specs.ReplayPlans.{header_in, steps_in, IsPlanned}
-use Rattle.run_deploys.proofs.Running.{numberable}
+use Rattle.run_ends.proofs.Running.{numberable}
+use Rattle.run_status.specs.declared.status.Status.{Status}
+use Rattle.run_status.specs.declared.status.Status.TheVariants.{NoMemory}
+use Rattle.run_status.proofs.Handing.{handed}
+use Rattle.run_replays.specs.ReplayPlans.{header_in, steps_in, IsPlanned, IsReplayStop}
 use Rattle.run_replays.proofs.Replays.{replay_stop, replay_plan}
 use Rattle.run_replays.proofs.replaying.make_replay_plan.Goals as goal
 
@@ -26,8 +29,8 @@ replay-requires-clause-quiet g c κs within = subst (λ (rs : List Row). AreQuie
 pub replay-requires-clause-numberable : goal.replay-requires-clause-numberable
 replay-requires-clause-numberable g c κs within = numberable c.args.inputs.inputs.source.items c.args.inputs.inputs.term c.requires.source c.requires.short
 
-pub returns-in-Err-clause-stop : goal.returns-in-Err-clause-stop
-returns-in-Err-clause-stop g c =
+pub returns-in_err-replayed-clause-stop : goal.returns-in_err-replayed-clause-stop
+returns-in_err-replayed-clause-stop g c =
     let r = c.args.inputs in
     let rows = r.inputs.base.checkpoint in
     let H : List Row → List ℕ → Type 0 = λ rows s. (x : Refusal) → header_refusal (asked rows r.inputs.term s r.inputs.prices) (header_in r) ≡ Some x → IsErrAnd c.replay.result (λ e. refusal_of e ≡ Some x) in
@@ -36,10 +39,17 @@ returns-in-Err-clause-stop g c =
     let base = c.rows-rows.ensures.is in
     let header : H rows (sha256 r.inputs.source.items) = subst (λ (s : List ℕ). H rows s) source (subst (λ (rs : List Row). H rs c.bytes_digest-source.result.0) base c.replay.ensures.refused) in
     let answered : A rows (sha256 r.inputs.source.items) = subst (λ (s : List ℕ). A rows s) source (subst (λ (rs : List Row). A rs c.bytes_digest-source.result.0) base c.replay.ensures.answered) in
-    replay_stop rows r c.requires.state c.replay.result header answered c.in-Err.fault c.in-Err.is (refusal_of c.in-Err.fault) refl c.status_of_fault.result c.status_of_fault.ensures
+    handed _ _ _ c.from_residual.ensures.1
+    (λ s k. replay_stop rows r c.requires.state c.replay.result header answered c.in_err-replayed.field-0.0 c.in_err-replayed.was (refusal_of c.in_err-replayed.field-0.0) refl s k)
 
-pub returns-in-Ok-plan_of-clause-plan : goal.returns-in-Ok-plan_of-clause-plan
-returns-in-Ok-plan_of-clause-plan g c =
+-- want of memory is always a stop
+pub returns-in_err-plan-clause-stop : goal.returns-in_err-plan-clause-stop
+returns-in_err-plan-clause-stop g c =
+    let r = c.args.inputs in
+    handed (λ (x : Status). x ≡ NoMemory) (IsReplayStop r.inputs.base.checkpoint r) c.from_residual-in_err-plan.result c.from_residual-in_err-plan.ensures.1 (λ s k. subst (λ (x : Status). IsReplayStop r.inputs.base.checkpoint r x) (sym k) tt)
+
+pub returns-clause-plan : goal.returns-clause-plan
+returns-clause-plan g c =
     let r = c.args.inputs in
     let rows = r.inputs.base.checkpoint in
     let H : List Row → List ℕ → Type 0 = λ rows s. (x : Refusal) → header_refusal (asked rows r.inputs.term s r.inputs.prices) (header_in r) ≡ Some x → IsErrAnd c.replay.result (λ e. refusal_of e ≡ Some x) in
@@ -49,8 +59,8 @@ returns-in-Ok-plan_of-clause-plan g c =
     let header : H rows (sha256 r.inputs.source.items) = subst (λ (s : List ℕ). H rows s) source (subst (λ (rs : List Row). H rs c.bytes_digest-source.result.0) base c.replay.ensures.refused) in
     let answered : A rows (sha256 r.inputs.source.items) = subst (λ (s : List ℕ). A rows s) source (subst (λ (rs : List Row). A rs c.bytes_digest-source.result.0) base c.replay.ensures.answered) in
     let count : c.len-count.result ≡ length r.log.steps.items = c.len-count.ensures ∙ r.log.steps.ok.0 in
-    let planned : IsPlanned r.inputs.base.text.items (root rows) (length r.log.steps.items) c.in-Ok.replayed c.in-Ok-plan_of.plan =
-    subst (λ (n : ℕ). IsPlanned r.inputs.base.text.items (root rows) n c.in-Ok.replayed c.in-Ok-plan_of.plan) count
-    (subst (λ (d : List ℕ). IsPlanned r.inputs.base.text.items d c.len-count.result c.in-Ok.replayed c.in-Ok-plan_of.plan) c.root-root.ensures
-    (subst (λ (t : List ℕ). IsPlanned t c.root-root.result.0 c.len-count.result c.in-Ok.replayed c.in-Ok-plan_of.plan) c.without_rows-state.ensures c.in-Ok-plan_of.ensures)) in
-    replay_plan rows r c.requires.state c.replay.result header answered c.in-Ok.replayed c.in-Ok.is c.in-Ok-plan_of.plan planned
+    let planned : IsPlanned r.inputs.base.text.items (root rows) (length r.log.steps.items) c.in_ok-replayed.replayed c.in_ok-plan.plan =
+    subst (λ (n : ℕ). IsPlanned r.inputs.base.text.items (root rows) n c.in_ok-replayed.replayed c.in_ok-plan.plan) count
+    (subst (λ (d : List ℕ). IsPlanned r.inputs.base.text.items d c.len-count.result c.in_ok-replayed.replayed c.in_ok-plan.plan) c.root-root.ensures
+    (subst (λ (t : List ℕ). IsPlanned t c.root-root.result.0 c.len-count.result c.in_ok-replayed.replayed c.in_ok-plan.plan) c.without_rows-state.ensures c.in_ok-plan.ensures)) in
+    replay_plan rows r c.requires.state c.replay.result header answered c.in_ok-replayed.replayed c.in_ok-replayed.was c.in_ok-plan.plan planned

@@ -1,8 +1,17 @@
+use Rattle.std.proofs.Common.{sym, subst}
 use Rattle.command_words.specs.Answers.{run_of}
-use Rattle.run_replays.proofs.Promised.{is_replay}
+use Rattle.run_reports.specs.World.{World, world}
+use Rattle.run_status.specs.declared.status.Status.{Status}
+use Rattle.run_replays.specs.Replays.{IsReplay}
+use Rattle.run_replays.proofs.Promised.{left_replay, halted_replay}
 use Rattle.run_replays.proofs.replaying.replay_accepted.Goals as goal
 
-pub returns : goal.returns
-returns g c =
-    let d = c.replay_run.ensures in
-    is_replay (run_of c.args.run.now) _ _ c.replay_run.result d.ends d.stays d.write_fault d.verdict d.part
+pub returns-in-Ok : goal.returns-in-Ok
+returns-in-Ok g c =
+    let names = run_of c.args.run.now in
+    let a : World = world (g.S.Shelf.files c.args.shelf.now) (g.S.Shelf.fetch_faults c.args.shelf.now) (g.S.Shelf.keep_faults c.args.shelf.now) (g.O.Sink.written c.args.out.now) (g.O.Sink.faults c.args.out.now) in
+    let b : World = world (g.S.Shelf.files c.replay_run.new.shelf) (g.S.Shelf.fetch_faults c.replay_run.new.shelf) (g.S.Shelf.keep_faults c.replay_run.new.shelf) (g.O.Sink.written c.replay_run.new.out) (g.O.Sink.faults c.replay_run.new.out) in
+    subst (λ (s : Status). IsReplay names a b s) (sym c.status_of.ensures) (left_replay names a b c.in-Ok.verdict c.in-Ok.ensures.left)
+
+pub returns-in-Err : goal.returns-in-Err
+returns-in-Err g c = halted_replay (run_of c.args.run.now) _ _ c.in-Err.status c.in-Err.ensures.halts

@@ -1,21 +1,29 @@
 use Rattle.std.proofs.Common.{◌≡◌, ◌∙◌, List, ℕ, ap, sym, subst}
 use Rattle.run_replays.specs.Replaying.{IsLeftByReplay}
+use Rattle.run_status.specs.declared.status.Status.{Status}
+use Rattle.run_status.specs.declared.status.Status.TheVariants.{NoMemory}
+use Rattle.run_status.proofs.Handing.{handed}
 use Rattle.run_workloads.specs.Made.{made_log, made_task}
 use Rattle.run_workloads.specs.Plan.{IsStop}
+use Rattle.run_workloads.specs.Workloads.{RefusedFor}
 use Rattle.run_workloads.proofs.Agreeing.{is_left, is_read, same}
 use Rattle.run_workloads.proofs.Ending.{stop_refuses}
 use Rattle.run_workloads.proofs.plans.make_work.Goals as goal
 
+-- want of memory is always a cause
+pub returns-in_err-log-clause-stop : goal.returns-in_err-log-clause-stop
+returns-in_err-log-clause-stop g c = handed (λ (x : Status). x ≡ NoMemory) (RefusedFor c.args.steps) c.from_residual.result c.from_residual.ensures.1 (λ s k. subst (λ (x : Status). RefusedFor c.args.steps x) (sym k) tt)
+
 pub replay_made-requires-clause-log : goal.replay_made-requires-clause-log
 replay_made-requires-clause-log g c κs ls =
-    let p = c.in-Ok.ensures in
+    let p = c.in_ok-log.ensures in
     is_read c.args.steps p.left p.play c.as_slice.result.now (c.as_slice.ensures.value ∙ p.text)
 
-pub returns-in-Ok-replay_made-clause-work : goal.returns-in-Ok-replay_made-clause-work
-returns-in-Ok-replay_made-clause-work g c =
+pub returns-clause-work : goal.returns-clause-work
+returns-clause-work g c =
     let steps = c.args.steps in
-    let p = c.in-Ok.ensures in
-    let r = c.in-Ok-replay_made.ensures.plan in
+    let p = c.in_ok-log.ensures in
+    let r = c.in_ok-line.ensures.plan in
     let text : c.as_slice.result.now ≡ made_log steps p.left.steps = c.as_slice.ensures.value ∙ p.text in
     let replay = subst (λ (x : List ℕ). IsLeftByReplay (made_task steps, x) r.left) text r.replay in
     record {
@@ -26,9 +34,11 @@ returns-in-Ok-replay_made-clause-work g c =
       verdict = r.verdict;
     }
 
-pub returns-in-Err-replay_made-clause-stop : goal.returns-in-Err-replay_made-clause-stop
-returns-in-Err-replay_made-clause-stop g c =
+pub returns-in_err-line-clause-stop : goal.returns-in_err-line-clause-stop
+returns-in_err-line-clause-stop g c =
     let steps = c.args.steps in
-    let p = c.in-Ok.ensures in
-    let s = c.in-Err-replay_made.status in
-    stop_refuses steps p.left p.play s (subst (λ (x : List ℕ). IsStop (made_task steps, x) s) (c.as_slice.ensures.value ∙ p.text) c.in-Err-replay_made.ensures.stop)
+    let p = c.in_ok-log.ensures in
+    let status = c.in_err-line.field-0.0 in
+    let stop : RefusedFor steps status =
+    stop_refuses steps p.left p.play status (subst (λ (x : List ℕ). IsStop (made_task steps, x) status) (c.as_slice.ensures.value ∙ p.text) c.in_err-line.ensures.stop) in
+    handed (λ (x : Status). x ≡ c.in_err-line.field-0.0) (RefusedFor steps) c.from_residual-in_err-line.result c.from_residual-in_err-line.ensures.1 (λ s k. subst (λ (x : Status). RefusedFor steps x) (sym k) stop)

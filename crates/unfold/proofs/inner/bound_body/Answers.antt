@@ -1,10 +1,9 @@
 use Rattle.std.proofs.Common.{◌≡◌, sym, subst, arith}
-use Rattle.std.specs.Result.{MatchResult}
 use Rattle.calculus.specs.Outcome.{free, within_limits}
 use Rattle.calculus.specs.Tree.{Tree}
 use Rattle.offered_rows.proofs.Kept.{put-same}
-use Rattle.rho_eval.specs.Outcomes.{Came, Stopped}
-use Rattle.term_sort.specs.Bound.{bound_count}
+use Rattle.capped_work.specs.Results.{ComesTo}
+use Rattle.term_bounds.specs.Bound.{bound_count}
 use Rattle.unfold.proofs.Cases.{case-binds-none}
 use Rattle.unfold.proofs.inner.bound_body.Goals as goal
 
@@ -12,5 +11,5 @@ pub returns : goal.returns
 returns c =
     let k = c.args.case in
     let none : bound_count k.pat ≡ 0 = omega (arith, c.pat_bound.ensures, c.if-pat_bound-gt0.false) in
-    let same = put-same c.args.values.now k.body (case-binds-none k none c.requires.closed) c.height-height.ensures.normal in
-    subst (λ (t : Tree). MatchResult c.limited.result (λ q. Came c.args.cap c.args.price q.price q.value (free (within_limits t))) (λ e. Stopped c.args.cap c.args.price (free (within_limits t)) e)) (sym same) c.limited.ensures
+    let same = put-same c.args.values.now k.body (case-binds-none k none c.requires) c.height-height.ensures.normal in
+    subst (λ (t : Tree). ComesTo c.limited.result c.args.budget (free (within_limits t))) (sym same) c.limited.ensures

@@ -4,4 +4,4 @@ use Rattle.unfold.proofs.Cases.{Tried}
 use Rattle.unfold.proofs.inner.case_body.Given as goal
 
 abbrev pub invariant-loop-case : goal.invariant-loop-case
-invariant-loop-case l = Tried l.prices l.target (map case_tree l.fn.cases.items) l.cap l.price l.total l.case-iterator.rest.items
+invariant-loop-case l = let b = l.fn.budget in Tried b.prices.now l.target (map case_tree l.fn.cases.items) b.cap b.price l.price l.case-iterator.rest.items

@@ -1,11 +1,10 @@
 use Rattle.std.proofs.Common.{◌*◌, length, map, subst, sym, ap, List, []}
-use Rattle.std.specs.Result.{MatchResult}
 use Rattle.calculus.specs.Form.{part, Fits}
 use Rattle.calculus.specs.Outcome.{after}
 use Rattle.calculus.specs.Tree.{Tree}
 use Rattle.calculus.specs.Values.{value}
 use Rattle.calculus.proofs.Placing.{listed-trees}
-use Rattle.rho_eval.specs.Outcomes.{Came, Stopped}
+use Rattle.capped_work.specs.Results.{ComesTo}
 use Rattle.rho_term.specs.Parts.{case_tree, part_tree}
 use Rattle.unfold.specs.Inner.{chosen_body, inner_process}
 use Rattle.unfold.proofs.Cases.{named-closed}
@@ -13,11 +12,11 @@ use Rattle.unfold.proofs.inner.inner_process.Goals as goal
 
 pub returns-in-New-clause-closed : goal.returns-in-New-clause-closed
 returns-in-New-clause-closed c =
-    let b = c.in-New in
-    named-closed (λ q. q.price) (λ q. q.value) c.args.cap c.args.price (c.args.prices.now.name * length b.names.items) c.args.seed.now b.names.items b.body c.new_body.result (subst (λ q. Fits part [] (part_tree q)) b.is c.requires.closed.1.0) c.new_body.ensures
+    let a = c.args.budget in let b = c.in-New in
+    named-closed (λ q. q.price) (λ q. q.value) a.cap a.price (a.prices.now.name * length b.names.items) c.args.seed.now b.names.items b.body c.new_body.result (subst (λ q. Fits part [] (part_tree q)) b.is c.requires.closed.1.0) c.new_body.ensures
 
 pub returns-in-Match-clause-value : goal.returns-in-Match-clause-value
 returns-in-Match-clause-value c =
-    let b = c.in-Match in let p = c.args.prices.now in let r = c.match_body.result in
-    let h = subst (λ (cs : List Tree). MatchResult r (λ q. Came c.args.cap c.args.price q.price q.value (after (value p b.target) (λ v. chosen_body p v cs))) (λ e. Stopped c.args.cap c.args.price (after (value p b.target) (λ v. chosen_body p v cs)) e)) (sym (listed-trees (map case_tree b.cases.items))) c.match_body.ensures.value in
-    subst (λ (t : Tree). MatchResult r (λ q. Came c.args.cap c.args.price q.price q.value (inner_process p c.args.seed.now t)) (λ e. Stopped c.args.cap c.args.price (inner_process p c.args.seed.now t) e)) (sym (ap part_tree b.is)) h
+    let a = c.args.budget in let b = c.in-Match in let p = a.prices.now in let r = c.match_body.result in
+    let h = subst (λ (cs : List Tree). ComesTo r a (after (value p b.target) (λ v. chosen_body p v cs))) (sym (listed-trees (map case_tree b.cases.items))) c.match_body.ensures.value in
+    subst (λ (t : Tree). ComesTo r a (inner_process p c.args.seed.now t)) (sym (ap part_tree b.is)) h

@@ -3,7 +3,7 @@ use Rattle.rho_term.specs.Rows.{row_of_op}
 use Rattle.unfold.specs.Progress.{Progress, StopsWith, with_part, pending_of, progress}
 use Rattle.unfold.proofs.Leading.{leads-itself, leads-ends, leads-stops, advances-further}
 use Rattle.unfold.proofs.Turning.{nothing-in-turn, part-taken, next-ready}
-use Rattle.rho_eval.proofs.Outcomes.{exit}
+use Rattle.capped_work.proofs.Outcomes.{exit}
 use Rattle.unfold.proofs.turns.finish.Goals as goal
 
 pub loop-turn-init : goal.loop-turn-init
@@ -18,11 +18,8 @@ returns-in-None c =
 pub turn-requires-clause-ready : goal.turn-requires-clause-ready
 turn-requires-clause-ready c = (next-ready c.loop-turn.work.left.items c.pop.new.self.items c.in-Some.todo c.in-Some.ensures.items c.loop-turn.invariant.ready).1
 
-pub turn-requires-clause-closed : goal.turn-requires-clause-closed
-turn-requires-clause-closed c = (next-ready c.loop-turn.work.left.items c.pop.new.self.items c.in-Some.todo c.in-Some.ensures.items c.loop-turn.invariant.ready).0.closed
-
-pub turn-requires-clause-ordered : goal.turn-requires-clause-ordered
-turn-requires-clause-ordered c = (next-ready c.loop-turn.work.left.items c.pop.new.self.items c.in-Some.todo c.in-Some.ensures.items c.loop-turn.invariant.ready).0.ordered
+pub turn-requires-clause-todo : goal.turn-requires-clause-todo
+turn-requires-clause-todo c = (next-ready c.loop-turn.work.left.items c.pop.new.self.items c.in-Some.todo c.in-Some.ensures.items c.loop-turn.invariant.ready).0
 
 pub returns-in_err-turn-in-Some : goal.returns-in_err-turn-in-Some
 returns-in_err-turn-in-Some c =

@@ -1,0 +1,6 @@
+pub mod Forms
+pub mod Flat
+pub mod PatternForms
+pub mod Levels
+pub mod FromParts
+pub mod Calls

@@ -1,2 +1,0 @@
-pub mod InScope
-pub mod Made

@@ -1,0 +1,2 @@
+pub mod BindsNone
+pub mod Binding

@@ -1,4 +1,0 @@
-pub mod Binding
-pub mod Filling
-pub mod Extending
-pub mod Indices

@@ -1,8 +1,0 @@
-use Rattle.term_sort.proofs.Extending.{put-length, put-height}
-use Rattle.term_sort.proofs.size.put_size.Goals as goal
-
-pub returns-clause-height : goal.returns-clause-height
-returns-clause-height c = put-height _ _ _ _ c.parts-parts.ensures.parts c.term_extent-extent.ensures.height
-
-pub returns-clause-length : goal.returns-clause-length
-returns-clause-length c = put-length _ _ _ _ c.parts-parts.ensures.parts c.term_extent-extent.ensures.length

@@ -1,4 +1,0 @@
-pub mod Bound
-pub mod Filled
-pub mod Extent
-pub mod Renumbered
