@@ -2,9 +2,10 @@
 //! with its words and files.
 #![tactic(auto)]
 
+mod bytes;
 mod calls;
-mod files;
 mod runs;
+mod shown;
 
 use std::alloc::Global;
 use std::sync::Wait;

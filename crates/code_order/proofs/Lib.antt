@@ -1,4 +1,4 @@
-pub mod Keys
-pub mod Unique
+pub use Rattle.keyed_order.proofs.Keys
+pub use Rattle.keyed_order.proofs.Unique
 pub mod Made
 pub mod Seen

@@ -18,7 +18,7 @@ use Rattle.rho_term.specs.Parts.{part_tree, pair_tree, ground_tree, term_tree}
 use Rattle.rho_term.specs.declared.term.Part.{Part}
 use Rattle.rho_term.specs.declared.term.Part.TheVariants as part
 use Rattle.code_order.specs.Made.{reordered, made_process, with_code, part_with_code, pair_with_code}
-use Rattle.code_order.proofs.Keys.{put_in, sort_in, Up, up-sort, arranged-sort}
+use Rattle.keyed_order.proofs.Keys.{put_in, sort_in, Up, up-sort, arranged-sort}
 
 pub ascending-sort : (ts : List Tree) → ascending ts ≡ sort_in code ts
 unfolding ascending

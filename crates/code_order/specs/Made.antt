@@ -1,6 +1,6 @@
 -- Processes made of parts in any order.
-use Rattle.std.specs.Prelude.{ℕ, List, Vec, map as each}
-use Rattle.std.specs.declared.alloc.Global.{Global}
+pub use Rattle.keyed_order.specs.Keyed.{beside}
+use Rattle.std.specs.Prelude.{ℕ, List, map as each}
 use Rattle.calculus.specs.Tree.{par, Tree, node}
 use Rattle.calculus.specs.Shape.{listed}
 use Rattle.calculus.specs.Code.{code}
@@ -15,10 +15,6 @@ reordered (node l ts) = made_node l (listed ts)
 -- the process of these parts: they ascend in their codes, and so do the members of a set or a map among them
 abbrev pub made_process : List Tree → Tree
 made_process ts = made_node par (each reordered ts)
-
--- bytes, and what they stand beside
-abbrev pub beside : {A : Type 0} → Vec ℕ Global × A → List ℕ × A
-beside p = (p.0.items, p.1)
 
 -- a process after its code
 abbrev pub with_code : Tree → List ℕ × Tree

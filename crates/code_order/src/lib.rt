@@ -6,5 +6,6 @@ pub mod make;
 pub mod order;
 mod suited;
 
+pub use keyed_order::in_order;
 pub use make::{make_par, with_order};
-pub use order::{in_order, sorted_pairs, sorted_parts, sorted_terms};
+pub use order::{sorted_pairs, sorted_parts, sorted_terms};

@@ -2,7 +2,7 @@
 // where there is no second thing.
 
 ghost use Rattle.std.specs.Prelude.{◌≡◌, map, IfOk, All};
-ghost use Rattle.calculus.specs.Normal.{arranged_by, ascending};
+ghost use Rattle.calculus.specs.Normal.{ascending};
 ghost use Rattle.rho_term.specs.Normal.{IsOrdered};
 ghost use Rattle.rho_term.specs.Parts.{part_tree, pair_tree};
 ghost use Rattle.code_order.specs.Made.{beside, with_code, part_with_code, pair_with_code};
@@ -10,6 +10,7 @@ ghost use Rattle.code_order.specs.Made.{beside, with_code, part_with_code, pair_
 use crate::compared::{
     all_pairs_suit, all_parts_suit, all_terms_suit, compared_pairs, compared_parts, compared_terms,
 };
+use keyed_order::in_order;
 use rho_term::{Part, Term, with_room};
 use std::alloc::{AllocError, Global};
 use term_encoder::{encode_part, encode_term};
@@ -101,25 +102,4 @@ fn with_pair_codes(
         keyed.push((code, pair))?;
     }
     Ok(keyed)
-}
-
-/// Things in the order of the bytes beside them. Those beside equal bytes keep their order. Want of memory is the
-/// one error.
-pub fn in_order<T: Drop>(alloc: Global, keyed: Vec<(Vec<u8>, T)>) -> Result<Vec<T>, AllocError>
-    ensures { IfOk result (λ v. v.items ≡ arranged_by (map beside keyed.items)) }
-{
-    let mut keyed = keyed;
-    keyed.sort_by(|a, b| a.0.cmp(&b.0))?;
-    without_keys(alloc, keyed)
-}
-
-// Things without the bytes beside them.
-fn without_keys<T: Drop>(alloc: Global, keyed: Vec<(Vec<u8>, T)>) -> Result<Vec<T>, AllocError>
-    ensures { IfOk result (λ v. v.items ≡ map (λ p. p.1) keyed.items) }
-{
-    let mut items = with_room(alloc, keyed.len());
-    for (_code, item) in keyed {
-        items.push(item)?;
-    }
-    Ok(items)
 }

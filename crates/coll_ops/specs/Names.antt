@@ -21,6 +21,24 @@ name_of name.GetOrElse = codes "getOrElse"
 name_of name.Set = codes "set"
 name_of name.Keys = codes "keys"
 
+-- how many arguments a method takes
+abbrev pub takes_of : Name → ℕ
+takes_of name.Length = 0
+takes_of name.Nth = 1
+takes_of name.Slice = 2
+takes_of name.ToSet = 0
+takes_of name.Size = 0
+takes_of name.Contains = 1
+takes_of name.Add = 1
+takes_of name.Delete = 1
+takes_of name.Union = 1
+takes_of name.Diff = 1
+takes_of name.ToList = 0
+takes_of name.Get = 1
+takes_of name.GetOrElse = 2
+takes_of name.Set = 2
+takes_of name.Keys = 0
+
 -- a text is none of these names
 abbrev pub IsNoName : List ℕ → Type 0
 IsNoName s = (n : Name) → s ≡ name_of n → ⊥

@@ -3,14 +3,12 @@ ghost use Rattle.std.specs.Prelude.{◌≡◌, ◌<◌, ◌≤◌, ◌++◌, ◌
 ghost use Rattle.calculus.specs.Methods.{among_methods, methods, nth_at, slice};
 ghost use Rattle.calculus.specs.Operators.{on_kinds, an_int, a_list, a_tuple, of_list, of_set, seen};
 ghost use Rattle.calculus.specs.Outcome.{gives};
-ghost use Rattle.coll_ops.specs.Names.{name_of};
+ghost use Rattle.coll_ops.specs.Names.{name_of, takes_of};
 ghost use Rattle.value_ops.specs.Answers.{Answers, IsOperand};
 
 use crate::making::set_of;
 use crate::names::Name;
-use crate::values::{
-    copies, copy_value, list_value, no_argument, one_argument, size_value, two_arguments,
-};
+use crate::values::{copies, copy_value, list_value, only_argument, size_value};
 use crate::views::{int_of, list_members, place_of};
 use calculus::{BinaryOp, FaultKind};
 use rho_term::Term;
@@ -46,7 +44,7 @@ fn append(alloc: Global, left: &[Term], right: &[Term]) -> Result<Term, OpStop>
     list_value(alloc, members)
 }
 
-/// A method of a list.
+/// A method of a list, with as many arguments as it takes.
 pub(crate) fn list_method(
     alloc: Global,
     name: Name,
@@ -55,37 +53,30 @@ pub(crate) fn list_method(
 ) -> Result<Term, OpStop>
     requires operands { All IsOperand members.now }
     requires few { length members.now < 2 ^ 32 }
+    requires takes { length args.now ≡ takes_of name }
     ensures { Answers (among_methods (name_of name) args.now (methods (a_list members.now))) result }
 {
     match name {
-        Name::Length => {
-            no_argument(args)?;
-            size_value(alloc, members.len())
-        }
-        Name::Nth => nth(alloc, members, one_argument(args)?),
-        Name::Slice => {
-            two_arguments(args)?;
-            slice(alloc, members, &args[0], &args[1])
-        }
-        Name::ToSet => {
-            no_argument(args)?;
-            to_set(alloc, members)
-        }
+        Name::Length => size_value(alloc, members.len()),
+        Name::Nth => nth(alloc, members, only_argument(args)),
+        Name::Slice => slice(alloc, members, &args[0], &args[1]),
+        Name::ToSet => to_set(alloc, members),
         _ => Err(OpStop::Fault(FaultKind::NoMethod)),
     }
 }
 
-/// A method of a tuple.
+/// A method of a tuple, with as many arguments as it takes.
 pub(crate) fn tuple_method(
     alloc: Global,
     name: Name,
     members: &[Term],
     args: &[Term],
 ) -> Result<Term, OpStop>
+    requires takes { length args.now ≡ takes_of name }
     ensures { Answers (among_methods (name_of name) args.now (methods (a_tuple members.now))) result }
 {
     match name {
-        Name::Nth => nth(alloc, members, one_argument(args)?),
+        Name::Nth => nth(alloc, members, only_argument(args)),
         _ => Err(OpStop::Fault(FaultKind::NoMethod)),
     }
 }

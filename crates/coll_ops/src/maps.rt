@@ -6,17 +6,16 @@ ghost use Rattle.calculus.specs.Order.{IsAscending};
 ghost use Rattle.calculus.specs.Methods.{among_methods, methods, with_map, without_key, as_tuple};
 ghost use Rattle.calculus.specs.Operators.{on_kinds, a_map, of_map, of_set, of_list, found, holds, is_among, key_of, seen};
 ghost use Rattle.calculus.specs.Outcome.{gives};
-ghost use Rattle.calculus.specs.Shape.{two};
-ghost use Rattle.calculus.specs.Tree.{Tree, pair};
+ghost use Rattle.calculus.specs.Shape.{leaf, two};
+ghost use Rattle.calculus.specs.Tree.{Tree, pair, par};
 ghost use Rattle.rho_term.specs.Parts.{pair_tree};
-ghost use Rattle.coll_ops.specs.Names.{name_of};
+ghost use Rattle.coll_ops.specs.Names.{name_of, takes_of};
 ghost use Rattle.value_ops.specs.Answers.{Answers, IsOperand};
 
 use crate::merge::{find, last_of_each, merged, without};
 use crate::names::Name;
 use crate::values::{
-    bool_value, copy_value, list_value, map_value, no_argument, one_argument, set_value,
-    size_value, two_arguments,
+    bool_value, copy_value, list_value, map_value, only_argument, set_value, size_value,
 };
 use crate::views::map_pairs;
 use calculus::{BinaryOp, FaultKind};
@@ -45,7 +44,7 @@ pub(crate) fn map_binary(
     }
 }
 
-/// A method of a map.
+/// A method of a map, with as many arguments as it takes.
 pub(crate) fn map_method(
     alloc: Global,
     name: Name,
@@ -56,45 +55,19 @@ pub(crate) fn map_method(
     requires up { IsAscending (map code (map pair_tree pairs.now)) }
     requires few { length pairs.now < 2 ^ 32 }
     requires args { All IsOperand args.now }
+    requires takes { length args.now ≡ takes_of name }
     ensures { Answers (among_methods (name_of name) args.now (methods (a_map (map pair_tree pairs.now)))) result }
 {
     match name {
-        Name::Size => {
-            no_argument(args)?;
-            size_value(alloc, pairs.len())
-        }
-        Name::Contains => {
-            let key = one_argument(args)?;
-            contains(alloc, pairs, key)
-        }
-        Name::Get => {
-            let key = one_argument(args)?;
-            value_or(alloc, pairs, key, &Term::nil(alloc))
-        }
-        Name::GetOrElse => {
-            two_arguments(args)?;
-            value_or(alloc, pairs, &args[0], &args[1])
-        }
-        Name::Set => {
-            two_arguments(args)?;
-            set_pair(alloc, pairs, &args[0], &args[1])
-        }
-        Name::Delete => {
-            let key = one_argument(args)?;
-            without_key(alloc, pairs, key, args)
-        }
-        Name::Union => {
-            let other = one_argument(args)?;
-            map_union(alloc, pairs, other)
-        }
-        Name::Keys => {
-            no_argument(args)?;
-            keys(alloc, pairs)
-        }
-        Name::ToList => {
-            no_argument(args)?;
-            to_list(alloc, pairs)
-        }
+        Name::Size => size_value(alloc, pairs.len()),
+        Name::Contains => contains(alloc, pairs, only_argument(args)),
+        Name::Get => get(alloc, pairs, only_argument(args)),
+        Name::GetOrElse => value_or(alloc, pairs, &args[0], &args[1]),
+        Name::Set => set_pair(alloc, pairs, &args[0], &args[1]),
+        Name::Delete => without_key(alloc, pairs, only_argument(args), args),
+        Name::Union => map_union(alloc, pairs, only_argument(args)),
+        Name::Keys => keys(alloc, pairs),
+        Name::ToList => to_list(alloc, pairs),
         _ => Err(OpStop::Fault(FaultKind::NoMethod)),
     }
 }
@@ -153,6 +126,16 @@ fn value_or(
         Some(pair) => copy_value(alloc, &pair.1),
         None => copy_value(alloc, default),
     }
+}
+
+// The value at a key, or Nil.
+fn get(alloc: Global, pairs: &[(Term, Term)], key: &Term) -> Result<Term, OpStop>
+    requires keys { All (λ p. IsOperand p.0) pairs.now }
+    requires up { IsAscending (map code (map pair_tree pairs.now)) }
+    requires key { IsOperand key.now }
+    ensures { Answers (gives (found (leaf par) key.now (map pair_tree pairs.now))) result }
+{
+    value_or(alloc, pairs, key, &Term::nil(alloc))
 }
 
 // The pairs and one more, which wins.

@@ -1,6 +1,6 @@
 // The names of the methods of lists, tuples, sets and maps.
 ghost use Rattle.std.specs.Prelude.{◌≡◌, MatchOption};
-ghost use Rattle.coll_ops.specs.Names.{name_of, IsNoName};
+ghost use Rattle.coll_ops.specs.Names.{name_of, takes_of, IsNoName};
 
 /// A method of lists, tuples, sets or maps, by its name alone.
 #[derive(Clone, Copy)]
@@ -43,5 +43,17 @@ pub(crate) fn find_name(name: &str) -> Option<Name>
         "set" => Some(Name::Set),
         "keys" => Some(Name::Keys),
         _ => None,
+    }
+}
+
+/// How many arguments a method takes.
+pub(crate) fn takes(name: Name) -> usize
+    ensures { result ≡ takes_of name }
+{
+    match name {
+        Name::Length | Name::ToSet | Name::Size | Name::ToList | Name::Keys => 0,
+        Name::Slice | Name::GetOrElse | Name::Set => 2,
+        Name::Nth | Name::Contains | Name::Add | Name::Delete => 1,
+        Name::Union | Name::Diff | Name::Get => 1,
     }
 }

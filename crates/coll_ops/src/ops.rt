@@ -7,7 +7,7 @@ ghost use Rattle.coll_ops.specs.Views.{IsCollection, IsNoEquality};
 
 use crate::lists::{list_binary, list_method, tuple_method};
 use crate::maps::{map_binary, map_method};
-use crate::names::{Name, find_name};
+use crate::names::{Name, find_name, takes};
 use crate::sets::{set_binary, set_method};
 use crate::views::{list_members, map_pairs, set_members, tuple_members};
 use calculus::{BinaryOp, FaultKind};
@@ -76,6 +76,10 @@ fn named_method(alloc: Global, name: Name, target: &Term, args: &[Term]) -> Resu
     requires args { All IsOperand args.now }
     ensures { Answers (among_methods (name_of name) args.now (methods (seen target.now))) result }
 {
+    let number = takes(name);
+    if args.len() != number {
+        return Err(OpStop::Fault(FaultKind::NoMethod));
+    }
     if let Some(members) = list_members(target) {
         return list_method(alloc, name, members, args);
     }

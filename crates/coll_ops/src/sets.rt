@@ -6,14 +6,12 @@ ghost use Rattle.calculus.specs.Order.{IsAscending};
 ghost use Rattle.calculus.specs.Methods.{among_methods, methods, with_set};
 ghost use Rattle.calculus.specs.Operators.{on_kinds, a_set, of_list, of_set, holds, is_among, without as those_without, seen};
 ghost use Rattle.calculus.specs.Outcome.{gives};
-ghost use Rattle.coll_ops.specs.Names.{name_of};
+ghost use Rattle.coll_ops.specs.Names.{name_of, takes_of};
 ghost use Rattle.value_ops.specs.Answers.{Answers, IsOperand};
 
 use crate::merge::{find, merged, without};
 use crate::names::Name;
-use crate::values::{
-    bool_value, copies, list_value, no_argument, one_argument, set_value, size_value,
-};
+use crate::values::{bool_value, copies, list_value, only_argument, set_value, size_value};
 use crate::views::set_members;
 use calculus::{BinaryOp, FaultKind};
 use rho_term::Term;
@@ -42,7 +40,7 @@ pub(crate) fn set_binary(
     }
 }
 
-/// A method of a set.
+/// A method of a set, with as many arguments as it takes.
 pub(crate) fn set_method(
     alloc: Global,
     name: Name,
@@ -53,37 +51,17 @@ pub(crate) fn set_method(
     requires up { IsAscending (map code members.now) }
     requires few { length members.now < 2 ^ 32 }
     requires args { All IsOperand args.now }
+    requires takes { length args.now ≡ takes_of name }
     ensures { Answers (among_methods (name_of name) args.now (methods (a_set members.now))) result }
 {
     match name {
-        Name::Size => {
-            no_argument(args)?;
-            size_value(alloc, members.len())
-        }
-        Name::Contains => {
-            let member = one_argument(args)?;
-            contains(alloc, members, member)
-        }
-        Name::Add => {
-            one_argument(args)?;
-            union(alloc, members, args)
-        }
-        Name::Delete => {
-            one_argument(args)?;
-            difference(alloc, members, args)
-        }
-        Name::Union => {
-            let other = one_argument(args)?;
-            set_union(alloc, members, other)
-        }
-        Name::Diff => {
-            let other = one_argument(args)?;
-            set_difference(alloc, members, other)
-        }
-        Name::ToList => {
-            no_argument(args)?;
-            to_list(alloc, members)
-        }
+        Name::Size => size_value(alloc, members.len()),
+        Name::Contains => contains(alloc, members, only_argument(args)),
+        Name::Add => union(alloc, members, args),
+        Name::Delete => difference(alloc, members, args),
+        Name::Union => set_union(alloc, members, only_argument(args)),
+        Name::Diff => set_difference(alloc, members, only_argument(args)),
+        Name::ToList => to_list(alloc, members),
         _ => Err(OpStop::Fault(FaultKind::NoMethod)),
     }
 }

@@ -1,5 +1,5 @@
 // Values that operators and methods give, and what they take of their arguments.
-ghost use Rattle.std.specs.Prelude.{◌≡◌, ◌<◌, ◌^◌, ◌++◌, [], ◌∷◌, pos, length, map, drop, take, IfOk, MatchResult};
+ghost use Rattle.std.specs.Prelude.{◌≡◌, ◌<◌, ◌^◌, ◌++◌, [], ◌∷◌, pos, length, map, drop, take, IfOk};
 ghost use Rattle.calculus.specs.Outcome.{gives};
 ghost use Rattle.calculus.specs.Operators.{of_bool, of_int, of_list};
 ghost use Rattle.calculus.specs.Shape.{many, only};
@@ -7,45 +7,18 @@ ghost use Rattle.calculus.specs.Tree.{set, dict};
 ghost use Rattle.rho_term.specs.Normal.{IsOrdered};
 ghost use Rattle.rho_term.specs.Parts.{pair_tree};
 ghost use Rattle.value_ops.specs.Answers.{Answers};
-ghost use Rattle.value_ops.specs.declared.stop.OpStop.TheVariants.{Fault};
-ghost use Rattle.calculus.specs.declared.fault.FaultKind.TheVariants.{NoMethod};
 
-use calculus::{FaultKind, Ground};
+use calculus::Ground;
 use rho_term::{Part, Term};
 use std::alloc::{AllocError, Global};
 use value_ops::OpStop;
 
-/// No arguments, or the fault that there is no such method.
-pub(crate) fn no_argument(args: &[Term]) -> Result<(), OpStop>
-    ensures { MatchResult result (λ _. args.now ≡ []) (λ e. (e ≡ Fault NoMethod) × (length args.now ≡ 0 → ⊥)) }
+/// The one argument.
+pub(crate) fn only_argument(args: &[Term]) -> &Term
+    requires { length args.now ≡ 1 }
+    ensures { args.now ≡ result.now ∷ [] }
 {
-    if args.is_empty() {
-        Ok(())
-    } else {
-        Err(OpStop::Fault(FaultKind::NoMethod))
-    }
-}
-
-/// The one argument, or the fault that there is no such method.
-pub(crate) fn one_argument(args: &[Term]) -> Result<&Term, OpStop>
-    ensures { MatchResult result (λ x. args.now ≡ x.now ∷ []) (λ e. (e ≡ Fault NoMethod) × (length args.now ≡ 1 → ⊥)) }
-{
-    if args.len() == 1 {
-        Ok(&args[0])
-    } else {
-        Err(OpStop::Fault(FaultKind::NoMethod))
-    }
-}
-
-/// That there are two arguments, or the fault that there is no such method.
-pub(crate) fn two_arguments(args: &[Term]) -> Result<(), OpStop>
-    ensures { MatchResult result (λ _. length args.now ≡ 2) (λ e. (e ≡ Fault NoMethod) × (length args.now ≡ 2 → ⊥)) }
-{
-    if args.len() == 2 {
-        Ok(())
-    } else {
-        Err(OpStop::Fault(FaultKind::NoMethod))
-    }
+    &args[0]
 }
 
 /// A Bool. Want of memory is the one stop.

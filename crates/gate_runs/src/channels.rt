@@ -5,7 +5,7 @@ ghost use Rattle.sources.specs.Sources.{IsSourceOf};
 
 use rho_term::Term;
 use sources::read_source;
-use std::alloc::Global;
+use std::alloc::{AllocError, Global};
 use table_lines::LineFault;
 use term_encoder::shard_of;
 
@@ -45,19 +45,25 @@ pub fn apart(alloc: Global) -> Result<Vec<u32>, LineFault> {
 }
 
 /// A receive for each number, in parallel.
-pub fn receives(alloc: Global, numbers: &[u32]) -> Result<String, LineFault> {
-    let mut text = String::from_str(alloc, "Nil")?;
-    for number in numbers {
-        text.push_str(format!(in alloc; " | for (@x <- @{number}) {{ Nil }}")?.as_str())?;
-    }
-    Ok(text)
+pub fn receives(alloc: Global, numbers: &[u32]) -> Result<String, AllocError> {
+    parallel(alloc, numbers, "for (@x <- @", ") { Nil }")
 }
 
 /// A send for each number, in parallel.
-pub fn sends(alloc: Global, numbers: &[u32]) -> Result<String, LineFault> {
+pub fn sends(alloc: Global, numbers: &[u32]) -> Result<String, AllocError> {
+    parallel(alloc, numbers, "@", "!(0)")
+}
+
+// These texts with each number between them, in parallel.
+fn parallel(
+    alloc: Global,
+    numbers: &[u32],
+    before: &str,
+    behind: &str,
+) -> Result<String, AllocError> {
     let mut text = String::from_str(alloc, "Nil")?;
     for number in numbers {
-        text.push_str(format!(in alloc; " | @{number}!(0)")?.as_str())?;
+        text.push_str(format!(in alloc; " | {before}{number}{behind}")?.as_str())?;
     }
     Ok(text)
 }

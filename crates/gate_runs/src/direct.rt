@@ -1,15 +1,13 @@
 //! Replays that are called directly.
-ghost use Rattle.std.specs.Prelude.{◌≤◌};
-
 use crate::channels::term_of;
 use base_states::read_base;
 use event_log::read_log;
 use name_seed::bytes_digest;
+use numbered_jobs::Crew;
 use price_table::Prices;
 use readable_logs::laws::read_logs_are_writable;
 use replay_runs::{Replayed, replay};
 use rho_outside::Gate;
-use std::alloc::Global;
 use std::sync::Wait;
 use std::thread::Threads;
 use table_lines::LineFault;
@@ -17,18 +15,14 @@ use table_lines::LineFault;
 /// The greatest number of bytes of a source.
 const SOURCE_MAX: usize = 1_048_576;
 
-/// Replays the log of a source from a state, each as the bytes of its file, under the standard prices.
+/// Replays by a crew the log of a source from a state, each as the bytes of its file, under the standard prices.
 pub fn replayed<R: Threads + Wait + Sync, G: Gate + Sync>(
-    rt: &R,
-    alloc: Global,
-    gate: &G,
-    workers: u32,
+    crew: &Crew<R, G>,
     state: &[u8],
     source: &[u8],
     log: &[u8],
-) -> Result<Replayed, LineFault>
-    requires { (1 ≤ workers) × (workers ≤ 32) }
-{
+) -> Result<Replayed, LineFault> {
+    let alloc = crew.alloc;
     if source.len() > SOURCE_MAX {
         return Err(LineFault::Field);
     }
@@ -46,10 +40,10 @@ pub fn replayed<R: Threads + Wait + Sync, G: Gate + Sync>(
     let root = checkpoint.root();
     let rows = checkpoint.rows();
     match replay(
-        rt,
+        crew.rt,
         alloc,
-        gate,
-        workers,
+        crew.gate,
+        crew.workers,
         rows,
         &root,
         &term,

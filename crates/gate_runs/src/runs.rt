@@ -2,10 +2,12 @@
 use crate::channels::{apart, receives, sends};
 use crate::direct::replayed;
 use crate::meeting::Meeting;
-use program_calls::call;
+use numbered_jobs::Crew;
+use program_calls::Harness;
 use replay_runs::Replayed;
-use rho_outside::{Gate, MemShelf, MemSink, OpenGate, Shelf};
-use std::alloc::Global;
+use rho_outside::{OpenGate, Shelf};
+use std::alloc::{AllocError, Global};
+use std::str;
 use std::sync::Wait;
 use std::thread::Threads;
 use table_lines::LineFault;
@@ -24,121 +26,101 @@ const DEPLOY: &str =
 const REPLAY: &str =
     "replay sends --state state --prices prices --log log --next again --workers 2";
 
-fn keep(alloc: Global, shelf: &mut MemShelf, name: &str, bytes: &[u8]) -> Result<(), LineFault> {
-    match shelf.keep(alloc, name, bytes) {
-        Ok(()) => Ok(()),
-        Err(_) => Err(LineFault::NoMemory),
+// Keeps the prices, the receives and the sends.
+fn keep_all(harness: &mut Harness, numbers: &[u32]) {
+    let alloc = harness.alloc;
+    harness.keep("prices", PRICES);
+    keep_made(harness, "receives", receives(alloc, numbers));
+    keep_made(harness, "sends", sends(alloc, numbers));
+}
+
+// Keeps a file of a text that was made.
+fn keep_made(harness: &mut Harness, name: &str, text: Result<String, AllocError>) {
+    match text {
+        Ok(text) => harness.keep(name, text.as_bytes()),
+        Err(_) => harness.fail(LineFault::NoMemory),
     }
 }
 
-// Files in memory: prices, receives and sends.
-fn files(alloc: Global) -> Result<MemShelf, LineFault> {
-    let numbers = apart(alloc)?;
-    let mut shelf = MemShelf::new(alloc);
-    match keep_all(alloc, &mut shelf, numbers.as_slice()) {
-        Ok(()) => Ok(shelf),
-        Err(fault) => Err(fault),
-    }
-}
-
-fn keep_all(alloc: Global, shelf: &mut MemShelf, numbers: &[u32]) -> Result<(), LineFault> {
-    let receives = receives(alloc, numbers)?;
-    let sends = sends(alloc, numbers)?;
-    keep(alloc, shelf, "prices", PRICES)?;
-    keep(alloc, shelf, "receives", receives.as_bytes())?;
-    keep(alloc, shelf, "sends", sends.as_bytes())
-}
-
-// Runs the words of a text with a gate: its code, and what it put.
-fn run<R: Threads + Wait + Sync, G: Gate + Sync>(
-    rt: &R,
-    alloc: Global,
-    shelf: &mut MemShelf,
-    gate: &G,
-    text: &str,
-) -> Result<String, LineFault> {
-    let mut out = MemSink::new(alloc);
-    let ended = call(rt, alloc, text, shelf, &mut out, gate)?;
-    let code = ended.code;
-    let put = String::from_utf8_lossy(alloc, out.bytes.as_slice())?;
-    Ok(format!(in alloc; "code {code}, {put}")?)
-}
-
-// Runs the words of a text with a gate at which two workers meet.
-fn meet<R: Threads + Wait + Sync>(
-    rt: &R,
-    alloc: Global,
-    shelf: &mut MemShelf,
-    text: &str,
-) -> Result<String, LineFault> {
+// Runs the words of a text with a gate at which two workers meet, and tells its code and what it put.
+fn meet<R: Threads + Wait + Sync>(rt: &R, harness: &mut Harness, name: &str, text: &str) {
     let gate = Meeting::new();
-    let came = run(rt, alloc, shelf, &gate, text)?;
-    let (met, failed) = gate.outcome(rt);
-    Ok(format!(in alloc; "met {met}, gave up {failed}, {came}")?)
+    harness.clear_output();
+    harness.call(rt, &gate, text);
+    tell_gate(rt, harness, name, &gate);
+    tell_end(harness);
 }
 
-// The bytes of a file.
-fn file(alloc: Global, shelf: &mut MemShelf, name: &str) -> Result<Vec<u8>, LineFault> {
-    match shelf.fetch(alloc, name, MOST) {
-        Ok(bytes) => Ok(bytes),
-        Err(_) => Err(LineFault::NoMemory),
+// Tells whether the workers met at a gate.
+fn tell_gate<R: Wait>(rt: &R, harness: &mut Harness, name: &str, gate: &Meeting) {
+    let alloc = harness.alloc;
+    let (met, failed) = gate.outcome(rt);
+    let text = format!(in alloc; "{name}: met {met}, gave up {failed}, ");
+    harness.tell_made(text);
+}
+
+// Tells the code of a call, and what it put.
+fn tell_end(harness: &mut Harness) {
+    let alloc = harness.alloc;
+    let put = str::from_utf8(harness.out.bytes.as_slice()).unwrap_or("no UTF-8");
+    let text = format!(in alloc; "code {}, {put}", harness.ended.code);
+    harness.tell_made(text);
+}
+
+// The bytes of a file; none where there is no such file.
+fn file(harness: &mut Harness, name: &str) -> Vec<u8> {
+    match harness.shelf.fetch(harness.alloc, name, MOST) {
+        Ok(bytes) => bytes,
+        Err(_) => Vec::new(harness.alloc),
     }
 }
 
 // The replay of the same log by two workers, called directly, with a gate.
 fn replay_directly<R: Threads + Wait + Sync>(
     rt: &R,
-    alloc: Global,
-    shelf: &mut MemShelf,
+    harness: &mut Harness,
     gate: &Meeting,
 ) -> Result<Replayed, LineFault> {
-    let state = file(alloc, shelf, "state")?;
-    let source = file(alloc, shelf, "sends")?;
-    let log = file(alloc, shelf, "log")?;
-    replayed(
+    let state = file(harness, "state");
+    let source = file(harness, "sends");
+    let log = file(harness, "log");
+    let crew = Crew {
         rt,
-        alloc,
+        alloc: harness.alloc,
         gate,
-        2,
-        state.as_slice(),
-        source.as_slice(),
-        log.as_slice(),
-    )
+        workers: 2,
+    };
+    replayed(&crew, state.as_slice(), source.as_slice(), log.as_slice())
 }
 
 // The same with a gate at which the workers meet.
-fn meet_directly<R: Threads + Wait + Sync>(
-    rt: &R,
-    alloc: Global,
-    shelf: &mut MemShelf,
-) -> Result<String, LineFault> {
+fn meet_directly<R: Threads + Wait + Sync>(rt: &R, harness: &mut Harness) {
     let gate = Meeting::new();
-    let ended = replay_directly(rt, alloc, shelf, &gate)?;
-    let (met, failed) = gate.outcome(rt);
-    Ok(format!(in alloc;
-        "directly: met {met}, gave up {failed}, {:?}, {} rows\n",
-        ended.verdict,
-        ended.rows.len()
-    )?)
+    match replay_directly(rt, harness, &gate) {
+        Ok(ended) => {
+            tell_gate(rt, harness, "directly", &gate);
+            tell_replayed(harness, &ended);
+        }
+        Err(fault) => harness.fail(fault),
+    }
 }
 
-// A deploy of eight sends by two workers, from a state of eight receives, and its replay by two.
-fn meet_all<R: Threads + Wait + Sync>(
-    rt: &R,
-    alloc: Global,
-    shelf: &mut MemShelf,
-) -> Result<String, LineFault> {
-    run(rt, alloc, shelf, &OpenGate, "genesis empty")?;
-    run(rt, alloc, shelf, &OpenGate, STORE)?;
-    let deployed = meet(rt, alloc, shelf, DEPLOY)?;
-    let again = meet(rt, alloc, shelf, REPLAY)?;
-    let directly = meet_directly(rt, alloc, shelf)?;
-    Ok(format!(in alloc; "deploy: {deployed}replay: {again}{directly}")?)
+fn tell_replayed(harness: &mut Harness, ended: &Replayed) {
+    let alloc = harness.alloc;
+    let text = format!(in alloc; "{:?}, {} rows\n", ended.verdict, ended.rows.len());
+    harness.tell_made(text);
 }
 
 /// A deploy of eight sends by two workers, from a state of eight receives, and its replay by two, each with a gate at which the
 /// workers meet.
 pub fn told<R: Threads + Wait + Sync>(rt: &R, alloc: Global) -> Result<String, LineFault> {
-    let mut shelf = files(alloc)?;
-    meet_all(rt, alloc, &mut shelf)
+    let numbers = apart(alloc)?;
+    let mut harness = Harness::new(alloc);
+    keep_all(&mut harness, numbers.as_slice());
+    harness.call(rt, &OpenGate, "genesis empty");
+    harness.call(rt, &OpenGate, STORE);
+    meet(rt, &mut harness, "deploy", DEPLOY);
+    meet(rt, &mut harness, "replay", REPLAY);
+    meet_directly(rt, &mut harness);
+    harness.told()
 }

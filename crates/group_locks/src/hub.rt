@@ -83,39 +83,33 @@ impl<S: Scene> Hub<S> {
         }
     }
 
-    /// A hub over these 64 shards, in the order of their numbers, with 1 to 32 seats. There is a store that the shards project, and with
-    /// which and these works a hub may open. The works are dealt out to the desks of the seats. `spent` is what was charged before, and
-    /// seats may go on while no more than `limit` is charged. The only error is want of memory; the arguments are then gone.
+    /// A hub over these 64 shards, in the order of their numbers, on these terms, with 1 to 32 seats. There is a store that the shards
+    /// project, and with which and these works a hub may open. The works are dealt out to the desks of the seats. Seats may go on while
+    /// no more than the limit is charged. The only error is want of memory; the arguments are then gone.
     pub fn start(
         alloc: Global,
         scene: S,
         shards: Vec<S::Shard>,
         work: Vec<S::Work>,
-        seats: u32,
-        spent: u64,
-        limit: u64,
+        terms: Terms,
     ) -> Result<Pool<S>, AllocError>
-        requires few { (1 ≤ seats) × (seats ≤ 32) }
-        requires low { (spent < 2 ^ 62) × (limit < 2 ^ 62) }
+        requires few { (1 ≤ terms.seats) × (terms.seats ≤ 32) }
+        requires low { (terms.spent < 2 ^ 62) × (terms.limit < 2 ^ 62) }
         requires long { length shards.items ≡ 64 }
         requires short { length work.items ≤ 2 ^ 58 }
         requires opens { (store : S.Store) × Projected S.meaning.projects store shards.items × S.meaning.opens store work.items }
         ensures opened { IfOk result (λ p. opened_shards p.hub.table.shared.key ≡ shards.items) }
         ensures works { IfOk result (λ p. opened_works p.hub.table.shared.key ≡ work.items) }
-        ensures key { IfOk result (λ p. seat_count p.hub.table.shared.key ≡ seats) }
-        ensures terms { IfOk result (λ p. (spent_of p.hub.table.shared.key ≡ spent) × (limit_of p.hub.table.shared.key ≡ limit)) }
-        ensures count { IfOk result (λ p. length p.seats.items ≡ seats) }
+        ensures key { IfOk result (λ p. seat_count p.hub.table.shared.key ≡ terms.seats) }
+        ensures terms { IfOk result (λ p. (spent_of p.hub.table.shared.key ≡ terms.spent) ×
+            (limit_of p.hub.table.shared.key ≡ terms.limit)) }
+        ensures count { IfOk result (λ p. length p.seats.items ≡ terms.seats) }
         ensures rest { IfOk result (λ p. All (λ s. AtRest p.hub.table.shared.table_id s.state) p.seats.items) }
         ensures drawn { IfOk result (λ p. All (λ s. HasDoneNothing s.state) p.seats.items) }
     {
-        let made = Vec::with_capacity(alloc, seats as usize)?;
-        let terms = Terms {
-            seats,
-            spent,
-            limit,
-        };
+        let made = Vec::with_capacity(alloc, terms.seats as usize)?;
         let (hub, token) = Hub::open(alloc, scene, shards, work, terms)?;
-        let seats = cut_seats(alloc, &hub.table.shared, token, made, seats);
+        let seats = cut_seats(alloc, &hub.table.shared, token, made, terms.seats);
         Ok(Pool { hub, seats })
     }
 }

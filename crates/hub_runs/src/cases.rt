@@ -3,9 +3,11 @@ ghost use Rattle.std.specs.Prelude.{◌≡◌, ℕ, ◌<◌, ◌^◌, ◌≤◌,
 ghost use Rattle.std.specs.List.{All};
 ghost use Rattle.group_locks.specs.Seats.{AtRest, IsIdle};
 
-use group_locks::{Closed, Hub, Pool, Seat, StopCause};
-use number_hub::{Busy, Hand, Numbers, do_work, side_by_side, zeros};
+use crate::runs::{Ran, close, open, run_hub};
+use group_locks::{Hub, Pool, Seat, StopCause};
+use number_hub::{Busy, Hand, Numbers, Site, do_work};
 use std::alloc::{AllocError, Global};
+use std::rt::Clock;
 use std::sync::Wait;
 use std::thread::Threads;
 use table_lines::{Case, LineFault, put_case};
@@ -25,12 +27,17 @@ fn work_and_stop<R: Wait>(
     requires { IsIdle hub.now.table.shared.table_id seat.state }
     ensures { AtRest hub.now.table.shared.table_id result.state }
 {
+    let site = Site {
+        rt,
+        alloc,
+        busy: AT_ONCE,
+    };
     let mut hand = Hand::empty();
     for _ in 0..3u64 {
         let Some(work) = seat.take_op(rt, hub) else {
             return seat;
         };
-        if !do_work(rt, alloc, hub, &mut seat, &mut hand, work, AT_ONCE) {
+        if !do_work(&site, hub, &mut seat, &mut hand, work) {
             return seat;
         }
     }
@@ -50,64 +57,50 @@ fn works(alloc: Global, count: u64) -> Result<Vec<u64>, AllocError>
     Ok(works)
 }
 
-// One seat after another works and stops the hub. Tells also of each whether it could go on before.
+// One seat after another works and stops the hub. Tells also whether the first could go on before, and whether one of the others could.
 fn one_by_one<R: Wait>(
     rt: &R,
     alloc: Global,
     hub: &Hub<Numbers>,
     seats: Vec<Seat<Numbers>>,
-) -> Result<(Vec<Seat<Numbers>>, Vec<bool>), AllocError>
+) -> Result<(Vec<Seat<Numbers>>, bool, bool), AllocError>
     requires each { All (λ s. IsIdle hub.now.table.shared.table_id s.state) seats.items }
     ensures count { IfOk result (λ v. length v.0.items ≡ length seats.items) }
     ensures each { IfOk result (λ v. All (λ s. AtRest hub.now.table.shared.table_id s.state) v.0.items) }
 {
     let mut done = Vec::new(alloc);
-    let mut went = Vec::new(alloc);
+    let mut first = false;
+    let mut later = false;
     for mut seat in seats {
-        went.push(seat.may_go(hub))?;
+        let may_go = seat.may_go(hub);
+        let is_first = done.is_empty();
+        first |= may_go & is_first;
+        later |= may_go & !is_first;
         done.push(work_and_stop(rt, alloc, hub, seat))?;
     }
-    Ok((done, went))
-}
-
-// Whether each of these seats drew the numbers from 0 on, one after another.
-fn count_up(seats: &Vec<Seat<Numbers>>) -> bool {
-    for seat in seats {
-        let drawn = seat.drawn();
-        for place in 0..drawn.len() {
-            if drawn[place].0 != place as u64 {
-                return false;
-            }
-        }
-    }
-    true
+    Ok((done, first, later))
 }
 
 // What a hub leaves on which so many seats do the works below this number.
-fn worked<R: Threads + Wait + Sync>(
+fn worked<R: Threads + Wait + Sync + Clock>(
     rt: &R,
     alloc: Global,
     count: u64,
     seats: u32,
     limit: u64,
-) -> Result<Closed<Numbers>, AllocError>
+) -> Result<Ran, AllocError>
     requires { (count ≤ 128) × (1 ≤ seats) × (seats ≤ 32) × (limit < 2 ^ 62) }
 {
-    let shards = zeros(alloc)?;
     let work = works(alloc, count)?;
-    let Pool { hub, seats } = Hub::start(alloc, Numbers, shards, work, seats, 0, limit)?;
-    let seats = side_by_side(rt, alloc, &hub, seats, AT_ONCE)?;
-    let Ok(closed) = hub.close(seats) else {
-        return Err(AllocError);
-    };
-    Ok(closed)
+    run_hub(rt, alloc, work, seats, AT_ONCE, limit)
 }
 
-fn seats_without_work_end_at_once<R: Threads + Wait + Sync>(
+fn seats_without_work_end_at_once<R: Threads + Wait + Sync + Clock>(
     rt: &R,
     alloc: Global,
 ) -> Result<Case, AllocError> {
-    let closed = worked(rt, alloc, 0, 2, 1000)?;
+    let ran = worked(rt, alloc, 0, 2, 1000)?;
+    let closed = &ran.closed;
     let mut case = Case::new();
     case.must(closed.entries.len() == 0);
     case.must(closed.shards.len() == 64);
@@ -124,19 +117,14 @@ fn are_threes(case: &mut Case, numbers: &Vec<u64>) {
     }
 }
 
-fn one_seat_does_all_works<R: Threads + Wait + Sync>(
+fn one_seat_does_all_works<R: Threads + Wait + Sync + Clock>(
     rt: &R,
     alloc: Global,
 ) -> Result<Case, AllocError> {
+    let ran = worked(rt, alloc, 128, 1, 1000)?;
+    let closed = &ran.closed;
     let mut case = Case::new();
-    let shards = zeros(alloc)?;
-    let work = works(alloc, 128)?;
-    let Pool { hub, seats } = Hub::start(alloc, Numbers, shards, work, 1, 0, 1000)?;
-    let seats = side_by_side(rt, alloc, &hub, seats, AT_ONCE)?;
-    case.must(count_up(&seats));
-    let Ok(closed) = hub.close(seats) else {
-        return Err(AllocError);
-    };
+    case.must(ran.counts_up);
     case.must(closed.entries.len() == 192);
     case.must(closed.charged == 192);
     case.must(closed.left.len() == 0);
@@ -144,11 +132,12 @@ fn one_seat_does_all_works<R: Threads + Wait + Sync>(
     Ok(case)
 }
 
-fn two_seats_do_all_works_side_by_side<R: Threads + Wait + Sync>(
+fn two_seats_do_all_works_side_by_side<R: Threads + Wait + Sync + Clock>(
     rt: &R,
     alloc: Global,
 ) -> Result<Case, AllocError> {
-    let closed = worked(rt, alloc, 128, 2, 1000)?;
+    let ran = worked(rt, alloc, 128, 2, 1000)?;
+    let closed = &ran.closed;
     let mut case = Case::new();
     case.must(closed.entries.len() == 192);
     case.must(closed.charged == 192);
@@ -157,70 +146,81 @@ fn two_seats_do_all_works_side_by_side<R: Threads + Wait + Sync>(
     Ok(case)
 }
 
-fn a_seat_ends_above_the_limit<R: Threads + Wait + Sync>(
+fn a_seat_ends_above_the_limit<R: Threads + Wait + Sync + Clock>(
     rt: &R,
     alloc: Global,
 ) -> Result<Case, AllocError> {
-    let closed = worked(rt, alloc, 128, 1, 10)?;
+    let ran = worked(rt, alloc, 128, 1, 10)?;
+    let closed = &ran.closed;
     let mut case = Case::new();
     case.must(closed.entries.len() == 11);
     case.must(closed.charged == 11);
     Ok(case)
 }
 
-fn a_stop_ends_the_other_seat<R: Threads + Wait + Sync>(
+fn a_stop_ends_the_other_seat<R: Threads + Wait + Sync + Clock>(
     rt: &R,
     alloc: Global,
 ) -> Result<Case, AllocError> {
-    let mut case = Case::new();
-    let shards = zeros(alloc)?;
     let work = works(alloc, 128)?;
-    let Pool { hub, seats } = Hub::start(alloc, Numbers, shards, work, 2, 0, 1000)?;
-    let (seats, went) = one_by_one(rt, alloc, &hub, seats)?;
-    case.must(went.get(0) == Some(&true));
-    case.must(went.get(1) == Some(&false));
-    let Ok(closed) = hub.close(seats) else {
-        return Err(AllocError);
-    };
+    let Pool { hub, seats } = open(alloc, work, 2, 1000)?;
+    let (seats, first, later) = one_by_one(rt, alloc, &hub, seats)?;
+    let closed = close(hub, seats)?;
+    let mut case = Case::new();
+    case.must(first);
+    case.must(!later);
     case.must(closed.entries.len() == 3);
     case.must(closed.stop == Some(StopCause::NoMemory));
     Ok(case)
 }
 
+// Puts the line of a case.
+fn put(
+    alloc: Global,
+    told: &mut String,
+    name: &str,
+    case: Result<Case, AllocError>,
+) -> Result<(), LineFault> {
+    match case {
+        Ok(case) => put_case(alloc, told, name, case),
+        Err(_) => Err(LineFault::NoMemory),
+    }
+}
+
 /// Puts the line of each case.
-pub fn put_all<R: Threads + Wait + Sync>(
+pub fn put_all<R: Threads + Wait + Sync + Clock>(
     rt: &R,
     alloc: Global,
     told: &mut String,
 ) -> Result<(), LineFault> {
-    put_case(
+    put(
         alloc,
         told,
         "seats_without_work_end_at_once",
-        seats_without_work_end_at_once(rt, alloc)?,
+        seats_without_work_end_at_once(rt, alloc),
     )?;
-    put_case(
+    put(
         alloc,
         told,
         "one_seat_does_all_works",
-        one_seat_does_all_works(rt, alloc)?,
+        one_seat_does_all_works(rt, alloc),
     )?;
-    put_case(
+    put(
         alloc,
         told,
         "two_seats_do_all_works_side_by_side",
-        two_seats_do_all_works_side_by_side(rt, alloc)?,
+        two_seats_do_all_works_side_by_side(rt, alloc),
     )?;
-    put_case(
+    put(
         alloc,
         told,
         "a_seat_ends_above_the_limit",
-        a_seat_ends_above_the_limit(rt, alloc)?,
+        a_seat_ends_above_the_limit(rt, alloc),
     )?;
-    put_case(
+    put(
         alloc,
         told,
         "a_stop_ends_the_other_seat",
-        a_stop_ends_the_other_seat(rt, alloc)?,
+        a_stop_ends_the_other_seat(rt, alloc),
     )
 }

@@ -6,12 +6,13 @@ mod runs;
 
 pub use runs::answer;
 use std::alloc::Global;
+use std::rt::Clock;
 use std::sync::Wait;
 use std::thread::Threads;
 use table_lines::LineFault;
 
 /// A line of each case.
-pub fn told<R: Threads + Wait + Sync>(rt: &R, alloc: Global) -> Result<String, LineFault> {
+pub fn told<R: Threads + Wait + Sync + Clock>(rt: &R, alloc: Global) -> Result<String, LineFault> {
     let mut text = String::new(alloc);
     match cases::put_all(rt, alloc, &mut text) {
         Ok(()) => Ok(text),

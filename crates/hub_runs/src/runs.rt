@@ -1,14 +1,16 @@
 //! One run of a hub, and the same works without a hub.
-ghost use Rattle.std.specs.Prelude.{◌≡◌, ◌≤◌, ◌^◌, ℕ, IfOk, length};
+ghost use Rattle.std.specs.Prelude.{◌≡◌, ◌<◌, ◌≤◌, ◌^◌, ℕ, IfOk, length};
+ghost use Rattle.std.specs.List.{All};
+ghost use Rattle.group_locks.specs.Seats.{AtRest, IsIdle, seat_count};
 
-use group_locks::{Closed, Hub, Pool};
+use group_locks::{Closed, Hub, Pool, Seat, Terms};
 use number_hub::{Busy, Numbers, side_by_side, spin, zeros};
 use std::alloc::{AllocError, Global};
 use std::rt::Clock;
 use std::sync::Wait;
 use std::thread::Threads;
-use std::time::{Duration, Instant};
-use table_lines::{LineFault, first_field, number};
+use std::time::Instant;
+use table_lines::{LineFault, number};
 
 /// How much is done.
 #[derive(Drop, Clone, Copy)]
@@ -24,30 +26,42 @@ struct Size {
 impl Size {
     /// The fields are the seats, the chains, how many works follow each, and the rounds inside and outside.
     fn read(fields: &str) -> Result<Size, LineFault> {
-        let (seats, fields) = first_field(fields)?;
-        let (chains, fields) = first_field(fields)?;
-        let (long, busy) = first_field(fields)?;
+        let [seats, chains, long, inside, outside] = five_numbers(fields)?;
         Ok(Size {
-            seats: number(seats)?,
-            chains: number(chains)?,
-            long: number(long)?,
-            busy: read_busy(busy)?,
+            seats,
+            chains,
+            long,
+            busy: Busy {
+                inside: u64::from(inside),
+                outside: u64::from(outside),
+            },
         })
     }
 }
 
-fn read_busy(fields: &str) -> Result<Busy, LineFault> {
-    let (inside, outside) = first_field(fields)?;
-    Ok(Busy {
-        inside: u64::from(number(inside)?),
-        outside: u64::from(number(outside)?),
-    })
+// Five numbers in decimal digits, with spaces between.
+fn five_numbers(fields: &str) -> Result<[u32; 5], LineFault> {
+    let mut numbers = [0u32; 5];
+    let mut count = 0usize;
+    for field in fields.split(' ') {
+        if count >= 5 {
+            return Err(LineFault::Field);
+        }
+        numbers[count] = number(field)?;
+        count += 1;
+    }
+    if count < 5 {
+        return Err(LineFault::Field);
+    }
+    Ok(numbers)
 }
 
-// What a hub left, and the times at which it was opened, worked through and closed, where there is a clock.
+/// What a hub left, whether each seat drew the numbers from 0 on, one after another, and the times at which the hub was opened, worked
+/// through and closed, where there is a clock.
 #[derive(Drop)]
-struct Ran {
-    closed: Closed<Numbers>,
+pub struct Ran {
+    pub closed: Closed<Numbers>,
+    pub counts_up: bool,
     start: Option<Instant>,
     opened: Option<Instant>,
     worked: Option<Instant>,
@@ -56,18 +70,6 @@ struct Ran {
 
 fn now<R: Clock>(rt: &R) -> Option<Instant> {
     Instant::now(rt).ok()
-}
-
-// The time between two times.
-fn between(
-    alloc: Global,
-    first: Option<Instant>,
-    last: Option<Instant>,
-) -> Result<Duration, LineFault> {
-    match (first, last) {
-        (Some(first), Some(last)) => Ok(last.duration_since(first)),
-        _ => Err(LineFault::Refused(String::from_str(alloc, "no clock")?)),
-    }
 }
 
 // So many works, each with so many that follow it: on all shards, or on one.
@@ -86,27 +88,72 @@ fn works(alloc: Global, size: &Size, spread: bool) -> Result<Vec<u64>, AllocErro
     Ok(works)
 }
 
-// Runs a hub until nothing is pending.
-fn run_hub<R: Threads + Wait + Sync + Clock>(
+/// A hub over the 64 numbers, all 0, that opens with these works.
+pub fn open(
+    alloc: Global,
+    work: Vec<u64>,
+    seats: u32,
+    limit: u64,
+) -> Result<Pool<Numbers>, AllocError>
+    requires { (1 ≤ seats) × (seats ≤ 32) × (limit < 2 ^ 62) × (length work.items ≤ 2 ^ 58) }
+    ensures count { IfOk result (λ p. length p.seats.items ≡ seat_count p.hub.table.shared.key) }
+    ensures each { IfOk result (λ p. All (λ s. IsIdle p.hub.table.shared.table_id s.state) p.seats.items) }
+{
+    let shards = zeros(alloc)?;
+    let terms = Terms {
+        seats,
+        spent: 0,
+        limit,
+    };
+    let pool = Hub::start(alloc, Numbers, shards, work, terms)?;
+    Ok(pool)
+}
+
+/// What a hub leaves.
+pub fn close(hub: Hub<Numbers>, seats: Vec<Seat<Numbers>>) -> Result<Closed<Numbers>, AllocError>
+    requires seats { All (λ s. AtRest hub.table.shared.table_id s.state) seats.items }
+    requires count { length seats.items ≡ seat_count hub.table.shared.key }
+{
+    match hub.close(seats) {
+        Ok(closed) => Ok(closed),
+        Err(_) => Err(AllocError),
+    }
+}
+
+// Whether each of these seats drew the numbers from 0 on, one after another.
+fn count_up(seats: &Vec<Seat<Numbers>>) -> bool {
+    for seat in seats {
+        let drawn = seat.drawn();
+        for place in 0..drawn.len() {
+            if drawn[place].0 != place as u64 {
+                return false;
+            }
+        }
+    }
+    true
+}
+
+/// Runs a hub until nothing is pending, or more is charged than the limit.
+pub fn run_hub<R: Threads + Wait + Sync + Clock>(
     rt: &R,
     alloc: Global,
     work: Vec<u64>,
     seats: u32,
     busy: Busy,
-) -> Result<Ran, LineFault>
-    requires { (1 ≤ seats) × (seats ≤ 32) × (length work.items ≤ 2 ^ 58) }
+    limit: u64,
+) -> Result<Ran, AllocError>
+    requires { (1 ≤ seats) × (seats ≤ 32) × (limit < 2 ^ 62) × (length work.items ≤ 2 ^ 58) }
 {
     let start = now(rt);
-    let shards = zeros(alloc)?;
-    let Pool { hub, seats } = Hub::start(alloc, Numbers, shards, work, seats, 0, 1 << 61)?;
+    let Pool { hub, seats } = open(alloc, work, seats, limit)?;
     let opened = now(rt);
     let seats = side_by_side(rt, alloc, &hub, seats, busy)?;
     let worked = now(rt);
-    let Some(closed) = hub.close(seats).ok() else {
-        return Err(LineFault::NoMemory);
-    };
+    let counts_up = count_up(&seats);
+    let closed = close(hub, seats)?;
     Ok(Ran {
         closed,
+        counts_up,
         start,
         opened,
         worked,
@@ -114,34 +161,64 @@ fn run_hub<R: Threads + Wait + Sync + Clock>(
     })
 }
 
-// Does all works one after another, and answers how many.
-fn run_plain(alloc: Global, mut works: Vec<u64>, busy: Busy) -> Result<usize, AllocError> {
-    let mut shards = [0u64; 64];
-    let mut entries: Vec<(u64, u64)> = Vec::new(alloc);
-    for number in 0..u64::MAX {
-        let Some(work) = works.pop() else {
-            break;
-        };
+// Works without a hub: those that are to be done, the numbers, and what was done.
+#[derive(Drop)]
+struct Plain {
+    works: Vec<u64>,
+    shards: [u64; 64],
+    entries: Vec<(u64, u64)>,
+}
+
+impl Plain {
+    // Does one work, as the one of this number. Its arithmetic never comes to 0.
+    fn do_work(
+        &mut self,
+        alloc: Global,
+        number: u64,
+        work: u64,
+        busy: Busy,
+    ) -> Result<u64, AllocError> {
         let mut ops = Vec::new(alloc);
         if work >= 64 {
             ops.push(work - 64)?;
         }
         let mixed = spin(busy.inside, (work % 64) + 1);
         let place = (work % 64) as usize;
-        shards[place] = shards[place].wrapping_add(1);
-        entries.push((number, work))?;
+        self.shards[place] = self.shards[place].wrapping_add(1);
+        self.entries.push((number, work))?;
+        self.leave(ops)?;
+        Ok(spin(busy.outside, mixed))
+    }
+
+    // Leaves works that are to be done.
+    fn leave(&mut self, ops: Vec<u64>) -> Result<(), AllocError> {
         for op in ops {
-            works.push(op)?;
+            self.works.push(op)?;
         }
-        if spin(busy.outside, mixed) == 0 {
+        Ok(())
+    }
+}
+
+// Does all works one after another, and answers how many.
+fn run_plain(alloc: Global, works: Vec<u64>, busy: Busy) -> Result<usize, AllocError> {
+    let mut plain = Plain {
+        works,
+        shards: [0; 64],
+        entries: Vec::new(alloc),
+    };
+    for number in 0..u64::MAX {
+        let Some(work) = plain.works.pop() else {
+            break;
+        };
+        if plain.do_work(alloc, number, work, busy)? == 0 {
             break;
         }
     }
-    Ok(entries.len())
+    Ok(plain.entries.len())
 }
 
 // What a hub left.
-fn told(alloc: Global, closed: &Closed<Numbers>) -> Result<String, LineFault> {
+fn told(alloc: Global, closed: &Closed<Numbers>, times: &str) -> Result<String, AllocError> {
     let mut sum = 0u64;
     for shard in &closed.shards {
         sum = sum.wrapping_add(*shard);
@@ -149,17 +226,48 @@ fn told(alloc: Global, closed: &Closed<Numbers>) -> Result<String, LineFault> {
     let entries = closed.entries.len();
     let charged = closed.charged;
     let left = closed.left.len();
-    Ok(format!(in alloc; "entries {entries} charged {charged} left {left} sum {sum}")?)
+    format!(in alloc; "entries {entries} charged {charged} left {left} sum {sum}{times}")
 }
 
-fn put_times(alloc: Global, told: &mut String, ran: &Ran) -> Result<(), LineFault> {
+// How long a hub took, or that there is no clock.
+fn times(alloc: Global, ran: &Ran) -> Result<String, AllocError> {
+    let (Some(start), Some(opened), Some(worked), Some(end)) = (
+        ran.start, ran.opened, ran.worked, ran.end,
+    ) else {
+        return String::from_str(alloc, ", no clock");
+    };
     let count = (ran.closed.entries.len() as u128).max(1);
-    let open = between(alloc, ran.start, ran.opened)?.as_micros();
-    let work = between(alloc, ran.opened, ran.worked)?.as_nanos() / count;
-    let close = between(alloc, ran.worked, ran.end)?.as_nanos() / count;
-    let times = format!(in alloc; ", open {open} us, {work} ns a work, close {close} ns an entry")?;
-    told.push_str(times.as_str())?;
-    Ok(())
+    let open = opened.duration_since(start).as_micros();
+    let work = worked.duration_since(opened).as_nanos() / count;
+    let close = end.duration_since(worked).as_nanos() / count;
+    format!(in alloc; ", open {open} us, {work} ns a work, close {close} ns an entry")
+}
+
+// What a hub left, and how long it took, where this is asked for.
+fn told_run(alloc: Global, ran: &Ran, timed: bool) -> Result<String, AllocError> {
+    if !timed {
+        return told(alloc, &ran.closed, "");
+    }
+    let times = times(alloc, ran)?;
+    told(alloc, &ran.closed, times.as_str())
+}
+
+// How long each of so many works took without a hub, or that there is no clock.
+fn plain_times(
+    alloc: Global,
+    entries: usize,
+    start: Option<Instant>,
+    end: Option<Instant>,
+) -> Result<String, AllocError> {
+    let (Some(start), Some(end)) = (start, end) else {
+        return String::from_str(alloc, ", no clock");
+    };
+    let each = end.duration_since(start).as_nanos() / (entries as u128).max(1);
+    format!(in alloc; ", {each} ns a work")
+}
+
+fn told_plain(alloc: Global, entries: usize, times: &str) -> Result<String, AllocError> {
+    format!(in alloc; "entries {entries}{times}")
 }
 
 // The works without a hub.
@@ -168,18 +276,33 @@ fn without_hub<R: Clock>(
     alloc: Global,
     size: &Size,
     timed: bool,
-) -> Result<String, LineFault> {
+) -> Result<String, AllocError> {
     let work = works(alloc, size, true)?;
     let start = now(rt);
     let entries = run_plain(alloc, work, size.busy)?;
     if !timed {
-        return Ok(format!(in alloc; "entries {entries}")?);
+        return told_plain(alloc, entries, "");
     }
-    let each = between(alloc, start, now(rt))?.as_nanos() / (entries as u128).max(1);
-    Ok(format!(in alloc; "entries {entries}, {each} ns a work")?)
+    let times = plain_times(alloc, entries, start, now(rt))?;
+    told_plain(alloc, entries, times.as_str())
 }
 
 // The works of a hub, on all shards or on one.
+fn hub_answer<R: Threads + Wait + Sync + Clock>(
+    rt: &R,
+    alloc: Global,
+    size: &Size,
+    spread: bool,
+    timed: bool,
+) -> Result<String, AllocError>
+    requires { (1 ≤ size.now.seats) × (size.now.seats ≤ 32) }
+{
+    let work = works(alloc, size, spread)?;
+    let ran = run_hub(rt, alloc, work, size.seats, size.busy, 1 << 61)?;
+    told_run(alloc, &ran, timed)
+}
+
+// The same, where a hub can have so many seats.
 fn with_hub<R: Threads + Wait + Sync + Clock>(
     rt: &R,
     alloc: Global,
@@ -190,13 +313,12 @@ fn with_hub<R: Threads + Wait + Sync + Clock>(
     if size.seats == 0 || size.seats > 32 {
         return Err(LineFault::Field);
     }
-    let work = works(alloc, size, spread)?;
-    let ran = run_hub(rt, alloc, work, size.seats, size.busy)?;
-    let mut told = told(alloc, &ran.closed)?;
-    if timed {
-        put_times(alloc, &mut told, &ran)?;
-    }
-    Ok(told)
+    served(hub_answer(rt, alloc, size, spread, timed))
+}
+
+// An answer, where memory served.
+fn served(told: Result<String, AllocError>) -> Result<String, LineFault> {
+    Ok(told?)
 }
 
 /// The answer to a line of this kind with these fields; where `timed`, also how long it took.
@@ -214,7 +336,7 @@ pub fn answer<R: Threads + Wait + Sync + Clock>(
         // They lie on one.
         "one-shard" => with_hub(rt, alloc, &size, false, timed),
         // No hub: one loop does all works.
-        "plain" => without_hub(rt, alloc, &size, timed),
+        "plain" => served(without_hub(rt, alloc, &size, timed)),
         _ => Err(LineFault::Kind),
     }
 }

@@ -40,3 +40,11 @@ one-least f n m h k = go (cases_order n m)
 -- so that it is a fact
 pub least-prop : (f : ℕ → Bool) → IsProp ((n : ℕ) × IsLeast f n)
 least-prop f u v = Σ_prop_path (λ n. ×_prop (Bool-set (f n) true) (Π_prop (λ m. Π_prop (λ l. Bool-set (f m) false)))) (one-least f u.0 v.0 u.1 v.1)
+
+-- this is the least room in which it is known what a process unfolds to
+abbrev pub IsLeastRoom : Prices → ℕ → Tree → List ℕ → ℕ → Type 0
+IsLeastRoom p cap t s n = IsLeast (is_known_in p cap t s) n
+
+-- there is one such room at most
+pub least_room-prop : (p : Prices) (cap : ℕ) (t : Tree) (s : List ℕ) → IsProp ((n : ℕ) × IsLeastRoom p cap t s n)
+least_room-prop p cap t s = least-prop (is_known_in p cap t s)

@@ -1,7 +1,7 @@
 ghost use Rattle.std.specs.Prelude.{◌≡◌, ℕ};
 ghost use Rattle.calculus.specs.Form.{IsClosed};
 ghost use Rattle.calculus.specs.Unfolding.{Unfolds};
-ghost use Rattle.known_work.specs.Rooms.{is_known_in, least-prop, work_in, IsLeast};
+ghost use Rattle.known_work.specs.Rooms.{least_room-prop, work_in, IsLeastRoom};
 
 use name_seed::Seed;
 use price_table::Prices;
@@ -16,7 +16,7 @@ pub struct KnownWork {
     pub cap: u64,
     pub term: Snapshot<Term>,
     pub seed: Seed,
-    pub ghost room: { (n : ℕ) × IsLeast (is_known_in prices cap term.value seed) n } by { least-prop (is_known_in prices cap term.value seed) },
+    pub ghost room: { (n : ℕ) × IsLeastRoom prices cap term.value seed n } by { least_room-prop prices cap term.value seed },
 }
 
 /// What a closed process unfolds to is known, since each does. Nothing is unfolded here.

@@ -9,7 +9,11 @@ ghost use Rattle.normal_parts.specs.Made.{normal_in, all_in, parts_in, pattern_p
 use bound_names::Names;
 use calculus::{Bind, Case, Name, NamePat, Pat, Proc};
 use code_order::make_par;
-use normal_parts::{closed_parts, copy_ground, one_part, one_pat_part, origins, rest_of};
+use normal_parts::{
+    closed_parts, copy_ground, one_binary, one_both, one_bundle, one_either, one_match, one_method,
+    one_new, one_part, one_pat_part, one_receive, one_send, one_send_pattern, one_unary, origins,
+    rest_of,
+};
 use pattern_names::{bind_binds, bind_declared, bind_pattern};
 use rho_term::{Part, PatPart, Term, TermBind, TermCase, TermPat};
 use std::alloc::{AllocError, Global};
@@ -44,60 +48,41 @@ fn parts_of(alloc: Global, scope: &mut Names, p: &Proc) -> Result<Vec<Part>, All
             args,
             persistent,
         } => {
-            let channel = make_name(alloc, scope, channel)?;
-            let args = make_terms(alloc, scope, args)?;
-            let persistent = *persistent;
-            one_part(
-                alloc,
-                Part::Send {
-                    channel,
-                    args,
-                    persistent,
-                },
-            )
+            let channel = make_name(alloc, scope, channel);
+            let args = make_terms(alloc, scope, args);
+            one_send(alloc, channel, args, *persistent)
         }
         Proc::Receive { kind, binds, body } => {
             let outside = scope.len();
             let made = make_binds(alloc, scope, binds)?;
             bind_binds(scope, binds)?;
-            let body = make_within(alloc, scope, outside, body)?;
-            let kind = *kind;
-            let binds = made;
-            one_part(alloc, Part::Receive { kind, binds, body })
+            let body = make_within(alloc, scope, outside, body);
+            one_receive(alloc, *kind, made, body)
         }
         Proc::New { names, body } => {
             let outside = scope.len();
             bind_declared(scope, names)?;
             let names = origins(alloc, names)?;
-            let body = make_within(alloc, scope, outside, body)?;
-            one_part(alloc, Part::New { names, body })
+            let body = make_within(alloc, scope, outside, body);
+            one_new(alloc, names, body)
         }
         Proc::Match { target, cases } => {
-            let target = make_term(alloc, scope, target)?;
-            let cases = make_cases(alloc, scope, cases)?;
-            one_part(alloc, Part::Match { target, cases })
+            let target = make_term(alloc, scope, target);
+            let cases = make_cases(alloc, scope, cases);
+            one_match(alloc, target, cases)
         }
-        Proc::Bundle { rights, body } => {
-            let rights = *rights;
-            let body = make_term(alloc, scope, body)?;
-            one_part(alloc, Part::Bundle { rights, body })
-        }
-        Proc::Unary { op, arg } => {
-            let op = *op;
-            let arg = make_term(alloc, scope, arg)?;
-            one_part(alloc, Part::Unary { op, arg })
-        }
+        Proc::Bundle { rights, body } => one_bundle(alloc, *rights, make_term(alloc, scope, body)),
+        Proc::Unary { op, arg } => one_unary(alloc, *op, make_term(alloc, scope, arg)),
         Proc::Binary { op, left, right } => {
-            let op = *op;
-            let left = make_term(alloc, scope, left)?;
-            let right = make_term(alloc, scope, right)?;
-            one_part(alloc, Part::Binary { op, left, right })
+            let left = make_term(alloc, scope, left);
+            let right = make_term(alloc, scope, right);
+            one_binary(alloc, *op, left, right)
         }
         Proc::Method { name, target, args } => {
             let name = name.clone()?;
-            let target = make_term(alloc, scope, target)?;
-            let args = make_terms(alloc, scope, args)?;
-            one_part(alloc, Part::Method { name, target, args })
+            let target = make_term(alloc, scope, target);
+            let args = make_terms(alloc, scope, args);
+            one_method(alloc, name, target, args)
         }
     }
 }
@@ -267,14 +252,14 @@ fn pat_parts_of(alloc: Global, scope: &mut Names, p: &Pat) -> Result<Vec<PatPart
         Pat::Same(inner) => one_pat_part(alloc, PatPart::Same(make_term(alloc, scope, inner)?)),
         Pat::Ground(value) => one_pat_part(alloc, PatPart::Ground(copy_ground(value)?)),
         Pat::Both(a, b) => {
-            let a = make_pat(alloc, scope, a)?;
-            let b = make_pat(alloc, scope, b)?;
-            one_pat_part(alloc, PatPart::Both(a, b))
+            let a = make_pat(alloc, scope, a);
+            let b = make_pat(alloc, scope, b);
+            one_both(alloc, a, b)
         }
         Pat::Either(a, b) => {
-            let a = make_pat(alloc, scope, a)?;
-            let b = make_pat(alloc, scope, b)?;
-            one_pat_part(alloc, PatPart::Either(a, b))
+            let a = make_pat(alloc, scope, a);
+            let b = make_pat(alloc, scope, b);
+            one_either(alloc, a, b)
         }
         Pat::Not(a) => one_pat_part(alloc, PatPart::Not(make_pat(alloc, scope, a)?)),
         Pat::List(ps, rest) => {
@@ -295,17 +280,9 @@ fn pat_parts_of(alloc: Global, scope: &mut Names, p: &Pat) -> Result<Vec<PatPart
             args,
             persistent,
         } => {
-            let channel = make_name_pat(alloc, scope, channel)?;
-            let args = make_pats(alloc, scope, args)?;
-            let persistent = *persistent;
-            one_pat_part(
-                alloc,
-                PatPart::Send {
-                    channel,
-                    args,
-                    persistent,
-                },
-            )
+            let channel = make_name_pat(alloc, scope, channel);
+            let args = make_pats(alloc, scope, args);
+            one_send_pattern(alloc, channel, args, *persistent)
         }
         Pat::Bundle { rights, body } => {
             let rights = *rights;

@@ -5,4 +5,4 @@ mod numbers;
 mod work;
 
 pub use crate::numbers::{Hand, Numbers};
-pub use crate::work::{Busy, do_work, side_by_side, spin, zeros};
+pub use crate::work::{Busy, Site, do_work, side_by_side, spin, zeros};

@@ -22,6 +22,14 @@ pub struct Busy {
     pub outside: u64,
 }
 
+/// Where a seat works: the runtime by which it waits, memory, and how many rounds of arithmetic it does at each work.
+#[derive(Drop)]
+pub struct Site<'a, R> {
+    pub rt: &'a R,
+    pub alloc: Global,
+    pub busy: Busy,
+}
+
 /// So many rounds of arithmetic, in which no number follows from a formula. From a seed above 0 it never comes to 0.
 pub fn spin(rounds: u64, seed: u64) -> u64 {
     let mut x = seed;
@@ -68,13 +76,11 @@ fn more_works(work: u64) -> u64
 
 /// Does one work under the turn of its shard, and leaves the work that it offers. False where memory was wanting.
 pub fn do_work<R: Wait>(
-    rt: &R,
-    alloc: Global,
+    site: &Site<R>,
     hub: &Hub<Numbers>,
     seat: &mut Seat<Numbers>,
     hand: &mut Hand,
     work: u64,
-    busy: Busy,
 ) -> bool
     requires seat { AtRest hub.now.table.shared.table_id seat.old.state × (due_of seat.old.state ≡ []) }
     requires leave { HasLeave seat.old.state × HasRoom seat.old.state }
@@ -84,20 +90,20 @@ pub fn do_work<R: Wait>(
     ensures empty { (k : ℕ) → slice_index_or hand.new.rows k None ≡ None }
     ensures left { result ≡ true → hand_of seat.new.state ≡ [] }
 {
-    let Ok(ops) = offered_works(alloc, work) else {
+    let Ok(ops) = offered_works(site.alloc, work) else {
         return false;
     };
-    seat.take_group(rt, hub, hand, Numbers.touches(&work));
-    let mixed = spin(busy.inside, (work % 64) + 1);
+    seat.take_group(site.rt, hub, hand, Numbers.touches(&work));
+    let mixed = spin(site.busy.inside, (work % 64) + 1);
     let drawn = draw_work(hub, seat, hand, work);
     seat.give_group(hub, hand);
     if !drawn {
         return false;
     }
-    let Ok(()) = seat.leave_ops(rt, hub, ops) else {
+    let Ok(()) = seat.leave_ops(site.rt, hub, ops) else {
         return false;
     };
-    spin(busy.outside, mixed) != 0
+    spin(site.busy.outside, mixed) != 0
 }
 
 // The works that a work offers.
@@ -114,21 +120,19 @@ fn offered_works(alloc: Global, work: u64) -> Result<Vec<u64>, AllocError>
 
 // Does works until there is an end.
 fn work_through<R: Wait>(
-    rt: &R,
-    alloc: Global,
+    site: &Site<R>,
     hub: &Hub<Numbers>,
     mut seat: Seat<Numbers>,
-    busy: Busy,
 ) -> Seat<Numbers>
     requires { IsIdle hub.now.table.shared.table_id seat.state }
     ensures { AtRest hub.now.table.shared.table_id result.state }
 {
     let mut hand = Hand::empty();
-    for _ in rt.forever() {
-        let Some(work) = seat.take_op(rt, hub) else {
+    for _ in site.rt.forever() {
+        let Some(work) = seat.take_op(site.rt, hub) else {
             return seat;
         };
-        if !do_work(rt, alloc, hub, &mut seat, &mut hand, work, busy) {
+        if !do_work(site, hub, &mut seat, &mut hand, work) {
             return seat;
         }
     }
@@ -153,7 +157,10 @@ pub fn side_by_side<R: Threads + Wait + Sync>(
         &|seat: Seat<Numbers>| -> Seat<Numbers>
             requires { IsIdle hub.now.table.shared.table_id seat.state }
             ensures { AtRest hub.entry.now.table.shared.table_id result.state }
-        { work_through(rt, alloc, hub, seat, busy) },
+        {
+            let site = Site { rt, alloc, busy };
+            work_through(&site, hub, seat)
+        },
     )
 }
 

@@ -9,7 +9,7 @@ use std::alloc::{AllocError, Global};
 use std::io::ErrorKind;
 use std::rt::Files;
 use std::sync::Wait;
-use table_lines::{Case, LineFault, put_case};
+use table_lines::{Case, LineFault, put_cases};
 
 // Whether a fetch gave these bytes.
 fn gave(fetched: Result<Vec<u8>, FetchFault>, bytes: &[u8]) -> bool {
@@ -139,75 +139,39 @@ fn open_gate_lets_all_pass<R: Wait>(rt: &R) -> Case {
     Case::new()
 }
 
-fn put_in_memory(alloc: Global, told: &mut String) -> Result<(), LineFault> {
-    put_case(
-        alloc,
-        told,
-        "calm_shelf_keeps_and_fetches",
-        calm_shelf_keeps_and_fetches(alloc),
-    )?;
-    put_case(
-        alloc,
-        told,
-        "mem_shelf_answers_by_the_limit",
-        mem_shelf_answers_by_the_limit(alloc),
-    )?;
-    put_case(
-        alloc,
-        told,
-        "mem_shelf_fails_the_named_calls",
-        mem_shelf_fails_the_named_calls(alloc)?,
-    )?;
-    put_case(
-        alloc,
-        told,
-        "mem_sink_fails_the_named_calls",
-        mem_sink_fails_the_named_calls(alloc)?,
-    )
-}
-
-fn put_of_system<R: Files + Print>(
-    rt: &R,
-    alloc: Global,
-    told: &mut String,
-) -> Result<(), LineFault> {
-    put_case(
-        alloc,
-        told,
-        "file_shelf_keeps_fetches_and_counts",
-        file_shelf_keeps_fetches_and_counts(rt, alloc),
-    )?;
-    put_case(alloc, told, "std_sink_puts", std_sink_puts(rt, alloc))
-}
-
-fn put_slow(alloc: Global, told: &mut String) -> Result<(), LineFault> {
-    put_case(
-        alloc,
-        told,
-        "an_interrupted_reader_is_read_on_and_a_failing_one_fails",
-        an_interrupted_reader_is_read_on_and_a_failing_one_fails(alloc),
-    )?;
-    put_case(
-        alloc,
-        told,
-        "a_writer_that_takes_nothing_or_fails_is_counted",
-        a_writer_that_takes_nothing_or_fails_is_counted(),
-    )
-}
-
 /// Puts the line of each case.
 pub fn put_all<R: Files + Print + Wait>(
     rt: &R,
     alloc: Global,
     told: &mut String,
 ) -> Result<(), LineFault> {
-    put_in_memory(alloc, told)?;
-    put_of_system(rt, alloc, told)?;
-    put_slow(alloc, told)?;
-    put_case(
-        alloc,
-        told,
-        "open_gate_lets_all_pass",
-        open_gate_lets_all_pass(rt),
-    )
+    let failing_shelf = mem_shelf_fails_the_named_calls(alloc)?;
+    let failing_sink = mem_sink_fails_the_named_calls(alloc)?;
+    let cases = [
+        (
+            "calm_shelf_keeps_and_fetches",
+            calm_shelf_keeps_and_fetches(alloc),
+        ),
+        (
+            "mem_shelf_answers_by_the_limit",
+            mem_shelf_answers_by_the_limit(alloc),
+        ),
+        ("mem_shelf_fails_the_named_calls", failing_shelf),
+        ("mem_sink_fails_the_named_calls", failing_sink),
+        (
+            "file_shelf_keeps_fetches_and_counts",
+            file_shelf_keeps_fetches_and_counts(rt, alloc),
+        ),
+        ("std_sink_puts", std_sink_puts(rt, alloc)),
+        (
+            "an_interrupted_reader_is_read_on_and_a_failing_one_fails",
+            an_interrupted_reader_is_read_on_and_a_failing_one_fails(alloc),
+        ),
+        (
+            "a_writer_that_takes_nothing_or_fails_is_counted",
+            a_writer_that_takes_nothing_or_fails_is_counted(),
+        ),
+        ("open_gate_lets_all_pass", open_gate_lets_all_pass(rt)),
+    ];
+    put_cases(alloc, told, cases.as_slice())
 }

@@ -1,8 +1,8 @@
 //! What deploys come to beside their replays: those of lines, by several workers, and those of the examples.
 #![tactic(auto)]
 
+mod calling;
 mod examples;
-mod place;
 mod races;
 
 pub use examples::told;

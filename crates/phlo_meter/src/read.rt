@@ -5,7 +5,7 @@ ghost use Rattle.phlo_meter.specs.Answers.{Gives, GivesAs};
 
 use crate::fault::PriceFault;
 use crate::table::{known_keys, price};
-use price_table::Prices;
+use price_table::{PriceList, Prices};
 use std::alloc::Global;
 use std::str;
 use toml::Table;
@@ -54,5 +54,13 @@ fn prices_from(alloc: Global, table: &Table) -> Result<Prices, PriceFault>
     let op = price(alloc, table, "op", 0)?;
     let byte = price(alloc, table, "byte", 0)?;
     known_keys(table)?;
-    Ok(Prices::new(comm, send, receive, name, cases, op, byte))
+    Ok(Prices::new(PriceList {
+        comm,
+        send,
+        receive,
+        name,
+        cases,
+        op,
+        byte,
+    }))
 }

@@ -6,7 +6,7 @@ ghost use Rattle.calculus.specs.Storing.{IsStorable};
 ghost use Rattle.calculus.specs.Unfolding.{rows_of};
 ghost use Rattle.group_locks.specs.Seats.{limit_of, seat_count, spent_of, IsIdle};
 
-use group_locks::{Hub, Pool};
+use group_locks::{Hub, Pool, Terms};
 use play_hub::{PlayScene, PlayTerms};
 use shard_tables::ShardTables;
 use space_row::Row;
@@ -46,5 +46,10 @@ pub(crate) fn open_play<J: PlayTerms + Sync, T: ShardTables + Sync>(
     }
     let scene = PlayScene::new();
     let shards = T::shards(alloc, base)?;
-    Hub::start(alloc, scene, shards, offers, workers, price, limit)
+    let terms = Terms {
+        seats: workers,
+        spent: price,
+        limit,
+    };
+    Hub::start(alloc, scene, shards, offers, terms)
 }

@@ -4,10 +4,23 @@
 ghost use Rattle.std.specs.Prelude.{◌≡◌, ◌≤◌, ◌<◌, ◌^◌};
 ghost use Rattle.calculus.specs.Bytes.{be64};
 ghost use Rattle.calculus.specs.Limits.{price_digest, most_limit as greatest_limit};
+ghost use Rattle.price_table.specs.Listed.{AreInRange, prices_listed};
 
 use calculus::Digest;
 use sha2::{Digest as _, Sha256};
 use std::marker::Model;
+
+/// Seven prices, in the order in which a digest takes them.
+#[derive(Clone, Copy, Debug, PartialEq, Eq)]
+pub struct PriceList {
+    pub comm: u64,
+    pub send: u64,
+    pub receive: u64,
+    pub name: u64,
+    pub cases: u64,
+    pub op: u64,
+    pub byte: u64,
+}
 
 /// What work costs: a step, an offered send or receive, a declared name, a case, an operator or method,
 /// and each byte of what is offered or worked on. Each price is at most 1,000,000, and that of a step at
@@ -16,26 +29,20 @@ use std::marker::Model;
 /// A contract sees the seven prices.
 #[derive(Clone, Copy, Debug, PartialEq, Eq)]
 pub struct Prices {
-    comm: u64,
-    send: u64,
-    receive: u64,
-    name: u64,
-    cases: u64,
-    op: u64,
-    byte: u64,
+    list: PriceList,
 }
 
 impl Model for Prices {
-    ghost use Rattle.std.specs.Prelude.{◌≤◌};
     ghost use Rattle.calculus.specs.Outcome.{Prices};
+    ghost use Rattle.price_table.specs.Listed.{AreInRange, list_of, prices_listed};
 
     ghost Value = { Prices };
 
-    ghost view = { λ p. record { comm = p.comm; send = p.send; receive = p.receive; name = p.name; case = p.cases; op = p.op; byte = p.byte } };
+    ghost view = { λ p. prices_listed p.list };
 
-    ghost inverse = { λ p. record { comm = p.comm; send = p.send; receive = p.receive; name = p.name; cases = p.case; op = p.op; byte = p.byte } };
+    ghost inverse = { λ p. record { list = list_of p } };
 
-    ghost invariant = { λ p. (1 ≤ p.comm) × (p.comm ≤ 1000000) × (p.send ≤ 1000000) × (p.receive ≤ 1000000) × (p.name ≤ 1000000) × (p.cases ≤ 1000000) × (p.op ≤ 1000000) × (p.byte ≤ 1000000) };
+    ghost invariant = { λ p. AreInRange p.list };
 }
 
 /// The greatest number of steps that a limit may pay for.
@@ -46,7 +53,7 @@ pub fn most_limit(prices: &Prices) -> u64
     ensures limit { result ≡ greatest_limit prices.now }
     ensures some { 1 ≤ result }
 {
-    prices.comm * MOST_STEPS
+    prices.list.comm * MOST_STEPS
 }
 
 impl Prices {
@@ -55,7 +62,7 @@ impl Prices {
     pub fn standard() -> Prices
         ensures { result ≡ record { comm = 10; send = 3; receive = 4; name = 2; case = 1; op = 1; byte = 0 } }
     {
-        Prices {
+        Prices::new(PriceList {
             comm: 10,
             send: 3,
             receive: 4,
@@ -63,37 +70,15 @@ impl Prices {
             cases: 1,
             op: 1,
             byte: 0,
-        }
+        })
     }
 
     /// These prices, each at most 1,000,000 and that of a step at least 1.
-    pub fn new(
-        comm: u64,
-        send: u64,
-        receive: u64,
-        name: u64,
-        cases: u64,
-        op: u64,
-        byte: u64,
-    ) -> Prices
-        requires comm { (1 ≤ comm) × (comm ≤ 1000000) }
-        requires send { send ≤ 1000000 }
-        requires receive { receive ≤ 1000000 }
-        requires name { name ≤ 1000000 }
-        requires cases { cases ≤ 1000000 }
-        requires op { op ≤ 1000000 }
-        requires byte { byte ≤ 1000000 }
-        ensures { result ≡ record { comm = comm; send = send; receive = receive; name = name; case = cases; op = op; byte = byte } }
+    pub fn new(list: PriceList) -> Prices
+        requires { AreInRange list }
+        ensures { result ≡ prices_listed list }
     {
-        Prices {
-            comm,
-            send,
-            receive,
-            name,
-            cases,
-            op,
-            byte,
-        }
+        Prices { list }
     }
 
     /// The price of a step.
@@ -102,7 +87,7 @@ impl Prices {
         ensures some { 1 ≤ result }
         ensures most { result ≤ 1000000 }
     {
-        self.comm
+        self.list.comm
     }
 
     /// The price of a send that is offered.
@@ -110,7 +95,7 @@ impl Prices {
         ensures price { result ≡ self.now.send }
         ensures most { result ≤ 1000000 }
     {
-        self.send
+        self.list.send
     }
 
     /// The price of a receive that is offered.
@@ -118,7 +103,7 @@ impl Prices {
         ensures price { result ≡ self.now.receive }
         ensures most { result ≤ 1000000 }
     {
-        self.receive
+        self.list.receive
     }
 
     /// The price of each name that a `new` declares.
@@ -126,7 +111,7 @@ impl Prices {
         ensures price { result ≡ self.now.name }
         ensures most { result ≤ 1000000 }
     {
-        self.name
+        self.list.name
     }
 
     /// The price of a case that is tried.
@@ -134,7 +119,7 @@ impl Prices {
         ensures price { result ≡ self.now.case }
         ensures most { result ≤ 1000000 }
     {
-        self.cases
+        self.list.cases
     }
 
     /// The price of an operator or a method.
@@ -142,7 +127,7 @@ impl Prices {
         ensures price { result ≡ self.now.op }
         ensures most { result ≤ 1000000 }
     {
-        self.op
+        self.list.op
     }
 
     /// The price of each byte of what is offered or worked on.
@@ -150,7 +135,7 @@ impl Prices {
         ensures price { result ≡ self.now.byte }
         ensures most { result ≤ 1000000 }
     {
-        self.byte
+        self.list.byte
     }
 
     /// SHA-256 of the seven prices in order, as eight bytes each, the high one first.
@@ -158,13 +143,13 @@ impl Prices {
         ensures { result.0 ≡ price_digest self.now }
     {
         let mut hasher = Sha256::new();
-        hasher.update(&eight_bytes(self.comm));
-        hasher.update(&eight_bytes(self.send));
-        hasher.update(&eight_bytes(self.receive));
-        hasher.update(&eight_bytes(self.name));
-        hasher.update(&eight_bytes(self.cases));
-        hasher.update(&eight_bytes(self.op));
-        hasher.update(&eight_bytes(self.byte));
+        hasher.update(&eight_bytes(self.list.comm));
+        hasher.update(&eight_bytes(self.list.send));
+        hasher.update(&eight_bytes(self.list.receive));
+        hasher.update(&eight_bytes(self.list.name));
+        hasher.update(&eight_bytes(self.list.cases));
+        hasher.update(&eight_bytes(self.list.op));
+        hasher.update(&eight_bytes(self.list.byte));
         Digest(hasher.finalize())
     }
 }

@@ -1,6 +1,8 @@
 //! Calls of the program over files in memory, whose ends are told without a status.
 #![tactic(auto)]
 
+mod harness;
 mod program;
 
-pub use program::{Ended, call};
+pub use harness::Harness;
+pub use program::Ended;

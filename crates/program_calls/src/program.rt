@@ -16,6 +16,17 @@ pub struct Ended {
     pub shown: String,
 }
 
+impl Ended {
+    /// The end of no call: code 0, and nothing told.
+    pub(crate) fn new(alloc: Global) -> Ended {
+        Ended {
+            code: 0,
+            message: Vec::new(alloc),
+            shown: String::new(alloc),
+        }
+    }
+}
+
 // What a status tells.
 fn ended_of(alloc: Global, status: &Status) -> Result<Ended, AllocError> {
     let message = status.message(alloc)?;

@@ -14,7 +14,7 @@ ghost use Rattle.replay_scene.specs.Spaces.{Space};
 ghost use Rattle.replay_hub.specs.Ends.{FoundAnEnd};
 ghost use Rattle.replay_hub.specs.Values.{entry_of, values};
 
-use group_locks::{Closed, Hub, Pool, Seat};
+use group_locks::{Closed, Hub, Pool, Seat, Terms};
 use numbered_jobs::{Crew, numbered};
 use replay_hub::{ReplayScene, Task, close_replay};
 use replay_worker::{ReplayTables, Site, work_through};
@@ -79,16 +79,12 @@ pub fn replay_side_by_side<J: ReplayTables + Sync + Drop, R: Threads + Wait + Sy
         (map J.part_of r.shards.items) ⊎ SomeClash J.deploy w J.steps) }
 {
     let scene = ReplayScene::new();
-    let workers = crew.workers;
-    let Pool { hub, seats } = Hub::start(
-        crew.alloc,
-        scene,
-        shards,
-        tasks,
-        workers,
-        0,
-        MOST_CHARGED,
-    )?;
+    let terms = Terms {
+        seats: crew.workers,
+        spent: 0,
+        limit: MOST_CHARGED,
+    };
+    let Pool { hub, seats } = Hub::start(crew.alloc, scene, shards, tasks, terms)?;
     let seats = side_by_side(crew.rt, crew.alloc, crew.gate, &tables, &hub, seats)?;
     drop(tables);
     let Ok(closed) = close_replay(hub, seats) else {

@@ -8,9 +8,9 @@ use Rattle.shard_rows.specs.Shards.{stands_in}
 use Rattle.replay_scene.specs.Spaces.{SeenRow, Part, IndexTry, new_row, arrived}
 use Rattle.replay_scene.specs.Entries.{arrives, PartBecomes}
 use Rattle.replay_space.specs.declared.seen.Seen.{Seen}
-use Rattle.replay_shards.specs.declared.kept.Kept.{Kept}
-use Rattle.replay_shards.specs.Rows.{part_of, arrived_seen, filed_rows}
-use Rattle.replay_shards.specs.Bits.{has_bit}
+use Rattle.replay_rows.specs.declared.kept.Kept.{Kept}
+use Rattle.replay_rows.specs.Rows.{part_of, arrived_seen, filed_rows}
+use Rattle.replay_rows.specs.Bits.{has_bit}
 use Rattle.replay_shards.specs.Hands.{InHand, Slot, parts_of, shard_at, GainsRow, GainsSeen, HasRoomAt, TouchedBecome, IsSlotFiled, AreSlotsFiled}
 use Rattle.replay_shards.proofs.Placing.{part-at, split, all-filed, filed-at}
 

@@ -8,7 +8,7 @@ use Rattle.list_laws.proofs.Permutations.{unmoved}
 use Rattle.run_entries.specs.Entries.{Making}
 use Rattle.replay_scene.specs.Spaces.{IndexTry}
 use Rattle.replay_scene.specs.Entries.{does, left_of, PartBecomes}
-use Rattle.replay_shards.specs.Rows.{settled_part}
+use Rattle.replay_rows.specs.Rows.{settled_part}
 use Rattle.replay_shards.specs.Hands.{InHand, shard_at, AllBecome}
 use Rattle.replay_shards.proofs.Placing.{mapped-at}
 

@@ -13,7 +13,7 @@ use Rattle.events.proofs.Making.{member}
 use Rattle.replay_scene.specs.Spaces.{SeenRow, Part, IndexTry, IsIn, bare}
 use Rattle.replay_scene.specs.Showing.{shown, HasShard, IdsTellSeen, IsIdle}
 use Rattle.replay_scene.proofs.Basics.{has, hold}
-use Rattle.replay_shards.specs.Rows.{find_seen}
+use Rattle.replay_rows.specs.Rows.{find_seen}
 use Rattle.replay_shards.specs.declared.ready.Ready.{Ready}
 use Rattle.replay_shards.specs.Ready.{IsReady}
 use Rattle.replay_shards.specs.Taken.{FitsNothing}

@@ -14,10 +14,10 @@ use Rattle.replay_scene.specs.Spaces.{SeenRow, bare, IsIn}
 use Rattle.replay_scene.specs.Showing.{Fit, IdsTellSeen, IsLower}
 use Rattle.replay_scene.proofs.Basics.{has, hold}
 use Rattle.replay_shards.specs.declared.ready.Ready.{Ready}
-use Rattle.replay_shards.specs.Rows.{find_seen, has_full}
+use Rattle.replay_rows.specs.Rows.{find_seen, has_full}
 use Rattle.replay_shards.specs.Taken.{AreFound, AreTaken, IsNotTaken, IsTaken, OneIsNotTaken, FitsNothing}
 use Rattle.replay_shards.specs.Ready.{IsReady, Meet, MeetNot}
-use Rattle.replay_shards.proofs.Filing.{same-id, is-same}
+use Rattle.replay_rows.proofs.Filing.{same-id, is-same}
 use Rattle.replay_shards.proofs.Fullness.{low-where, full-where}
 use Rattle.replay_shards.proofs.Trying.{found-id, found-in}
 

@@ -17,11 +17,11 @@ use Rattle.replay_scene.specs.Spaces.{SeenRow}
 use Rattle.replay_scene.proofs.Basics.{has}
 use Rattle.calculus.specs.Rows.{Row}
 use Rattle.replay_space.specs.declared.seen.Seen.{Seen}
-use Rattle.replay_shards.specs.Filing.{is_key, Filed}
-use Rattle.replay_shards.specs.Rows.{seen_row, id_of, filed_rows, is_full, has_full, AreFiled, AreLow}
-use Rattle.replay_shards.proofs.Filing.{order, is-other, none-later, not-found}
-use Rattle.replay_shards.proofs.Under.{other-id, none-has}
-use Rattle.replay_shards.proofs.Settling.{or-true}
+use Rattle.replay_rows.specs.Filing.{is_key, Filed}
+use Rattle.replay_rows.specs.Rows.{seen_row, id_of, filed_rows, is_full, has_full, AreFiled, AreLow}
+use Rattle.replay_rows.proofs.Filing.{order, is-other, none-later, not-found}
+use Rattle.replay_rows.proofs.Under.{other-id, none-has}
+use Rattle.replay_rows.proofs.Settling.{or-true}
 
 either : {A : Type 0} (f : A → Bool) (xs ys : List A) → list_any f (xs ++ ys) ≡ list_any f xs || list_any f ys
 either f [] ys = refl

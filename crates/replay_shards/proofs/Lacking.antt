@@ -10,10 +10,10 @@ use Rattle.event_log.specs.View.{step_of, steps_of}
 use Rattle.replay_scene.specs.Spaces.{SeenRow, IsIn}
 use Rattle.replay_scene.specs.Entries.{indices}
 use Rattle.replay_shards.specs.declared.ready.Try.{Try}
-use Rattle.replay_shards.specs.Rows.{find_seen}
+use Rattle.replay_rows.specs.Rows.{find_seen}
 use Rattle.replay_shards.specs.Taken.{bytes_of}
 use Rattle.replay_shards.specs.Ready.{index_tries, AreBut, LacksAt, LacksOne, StartsEarly}
-use Rattle.replay_shards.proofs.Filing.{is-same}
+use Rattle.replay_rows.proofs.Filing.{is-same}
 use Rattle.replay_shards.proofs.Trying.{at-place}
 
 -- where no row is found, none has the id

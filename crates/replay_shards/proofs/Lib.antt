@@ -1,10 +1,4 @@
-pub mod Filing
-pub mod Under
-pub mod Settled
-pub mod Counting
-pub mod Settling
 pub mod Stepping
-pub mod Shifting
 pub mod Placing
 pub mod Arriving
 pub mod Fullness

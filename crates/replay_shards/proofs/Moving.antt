@@ -8,8 +8,8 @@ use Rattle.std.proofs.lemmas.List.{map-id, map-append}
 use Rattle.replay_scene.specs.Spaces.{SeenRow, bare}
 use Rattle.calculus.specs.Rows.{Row}
 use Rattle.replay_space.specs.declared.seen.Seen.{Seen}
-use Rattle.replay_shards.specs.Filing.{Filed}
-use Rattle.replay_shards.specs.Rows.{filed_rows, seen_row}
+use Rattle.replay_rows.specs.Filing.{Filed}
+use Rattle.replay_rows.specs.Rows.{filed_rows, seen_row}
 
 -- all entries came where no more comes
 pub all-came : (all xs s t u : List (Filed (Seen Row))) (r : Option (Filed (Seen Row))) → s ≡ all → Yields (TakesFirst (λ e. e)) s xs t → r ≡ None → TakesFirst (λ e. e) t r u → xs ≡ all

@@ -4,9 +4,9 @@ use Rattle.std.specs.Prelude.{◌⊎◌, set, Some, None, IsSome, option_map}
 use Rattle.std.specs.Str.{bytes_eq}
 use Rattle.list_laws.proofs.Members.{Member, member-left, member-right}
 use Rattle.replay_scene.specs.Spaces.{SeenRow, Part}
-use Rattle.replay_shards.specs.Rows.{part_of, find_seen}
+use Rattle.replay_rows.specs.Rows.{part_of, find_seen}
 use Rattle.replay_shards.specs.Hands.{InHand, Slot, parts_of, shard_at, shown_at, all_shown, AreSlotsFiled, IsSlotFiled, HasRoomAt}
-use Rattle.replay_shards.proofs.Settling.{same-at}
+use Rattle.replay_rows.proofs.Settling.{same-at}
 use Rattle.replay_shards.proofs.Stepping.{UpTo, one-further, its-place, other-place}
 
 -- one more at the end

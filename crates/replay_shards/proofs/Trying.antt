@@ -16,11 +16,11 @@ use Rattle.replay_scene.specs.Showing.{later_use, use_at, one_or_none, IsUse}
 use Rattle.replay_scene.proofs.Basics.{has, hold}
 use Rattle.replay_space.proofs.Filed.{mapped-more}
 use Rattle.replay_shards.specs.declared.ready.Try.{Try}
-use Rattle.replay_shards.specs.Rows.{find_seen}
+use Rattle.replay_rows.specs.Rows.{find_seen}
 use Rattle.replay_shards.specs.declared.taking.TakenRows.{TakenRows}
 use Rattle.replay_shards.specs.Taken.{bytes_of, taken_rows, AreFound, AreTaken, IsNotTaken, IsTaken, IsTakenAlone, OneIsNotTaken}
 use Rattle.replay_shards.specs.Ready.{index_try, index_tries, AreNext, Follow, IsUseTry}
-use Rattle.replay_shards.proofs.Filing.{same-id}
+use Rattle.replay_rows.proofs.Filing.{same-id}
 
 uses-from : (x : List ℕ) (j : ℕ) (ss : List Step) (n i : ℕ) → slice_get (uses x j ss) n ≡ Some i → j ≤ i
 uses-from x j [] n i e = cc

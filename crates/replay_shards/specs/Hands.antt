@@ -3,10 +3,10 @@ use Rattle.std.specs.Prelude.{◌≡◌, ◌≤◌, ◌<◌, ⊤, ℕ, Bool, tru
 use Rattle.calculus.specs.Rows.{Row}
 use Rattle.replay_scene.specs.Spaces.{SeenRow, Part, standing_row, seen_in}
 use Rattle.replay_scene.specs.Entries.{Deed, PartBecomes}
-use Rattle.replay_shards.specs.Filing.{HasRoom}
-use Rattle.replay_shards.specs.declared.kept.Kept.{Kept}
+use Rattle.replay_rows.specs.Filing.{HasRoom}
+use Rattle.replay_rows.specs.declared.kept.Kept.{Kept}
 use Rattle.replay_space.specs.declared.seen.Seen.{Seen}
-use Rattle.replay_shards.specs.Rows.{part_of, own_built, seen_row, filed_rows, AreFiled}
+use Rattle.replay_rows.specs.Rows.{part_of, own_built, seen_row, filed_rows, AreFiled}
 
 -- the shards in hand, by number: each of 64 is there or not
 abbrev pub InHand : Type 0

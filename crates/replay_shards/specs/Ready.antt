@@ -10,7 +10,7 @@ use Rattle.replay_scene.specs.Showing.{later_use, use_at, Fit, IsUse}
 use Rattle.row_meeting.specs.Meeting.{IsMeeting}
 use Rattle.replay_shards.specs.declared.ready.Ready.{Ready}
 use Rattle.replay_shards.specs.declared.ready.Try.{Try}
-use Rattle.replay_shards.specs.Rows.{find_seen, AreLow}
+use Rattle.replay_rows.specs.Rows.{find_seen, AreLow}
 use Rattle.replay_shards.specs.Taken.{bytes_of}
 
 -- a try

@@ -7,7 +7,7 @@ use Rattle.calculus.specs.Steps.{Meeting}
 use Rattle.racing_replays.specs.Counted.{uses}
 use Rattle.replay_scene.specs.Spaces.{SeenRow, IsIn}
 use Rattle.replay_scene.specs.Showing.{Fit, IdsTellSeen, IsLower}
-use Rattle.replay_shards.specs.Rows.{find_seen}
+use Rattle.replay_rows.specs.Rows.{find_seen}
 use Rattle.replay_shards.specs.declared.taking.TakenRows.{TakenRows}
 
 -- the ids themselves

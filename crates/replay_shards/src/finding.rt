@@ -1,12 +1,12 @@
 // Rows in hand, found by their ids.
 ghost use Rattle.std.specs.Prelude.{◌≡◌, map as each, option_map, option_copied};
 ghost use Rattle.replay_shards.specs.Hands.{all_shown, parts_of, shown_at, AreSlotsFiled, IsSlotFiled};
-ghost use Rattle.replay_shards.specs.Rows.{find_seen, part_of, seen_row};
+ghost use Rattle.replay_rows.specs.Rows.{find_seen, part_of, seen_row};
 
-use crate::rows::find;
-use crate::sharded::ShardedRow;
 use crate::slots::Slot;
 use calculus::Digest;
+use replay_rows::rows::find;
+use replay_rows::sharded::ShardedRow;
 use replay_space::Seen;
 
 // The first of these receivers with this id.

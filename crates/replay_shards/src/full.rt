@@ -3,13 +3,13 @@ ghost use Rattle.std.specs.Prelude.{◌≡◌, map as each, option_map};
 ghost use Rattle.std.specs.List.{list_any};
 ghost use Rattle.event_log.specs.View.{step_of};
 ghost use Rattle.replay_shards.specs.Hands.{all_shown, parts_of, shown_at, AreSlotsFiled, IsSlotFiled};
-ghost use Rattle.replay_shards.specs.Rows.{filed_rows, has_full, is_full, part_of, seen_row, AreFiled};
+ghost use Rattle.replay_rows.specs.Rows.{filed_rows, has_full, is_full, part_of, seen_row, AreFiled};
 
-use crate::rows::Rows;
-use crate::sharded::ShardedRow;
 use crate::slots::Slot;
 use calculus::Digest;
 use event_log::LogStep;
+use replay_rows::rows::Rows;
+use replay_rows::sharded::ShardedRow;
 use replay_space::Seen;
 
 // Whether a count is full at one of these rows with this id.

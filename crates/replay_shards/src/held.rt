@@ -7,23 +7,24 @@ ghost use Rattle.replay_space.specs.Rigs.{IsRigOf};
 ghost use Rattle.replay_scene.specs.Spaces.{IndexTry, SeenRow, new_row};
 ghost use Rattle.replay_scene.specs.Entries.{arrives, does};
 ghost use Rattle.shard_rows.specs.Shards.{stands_in};
-ghost use Rattle.replay_shards.specs.Bits.{has_bit};
+ghost use Rattle.replay_rows.specs.Bits.{has_bit};
 ghost use Rattle.replay_shards.specs.Hands.{all_shown, parts_of, shard_at, AllBecome, AreSlotsFiled, TouchedBecome};
 ghost use Rattle.replay_shards.specs.Ready.{IsReady};
-ghost use Rattle.replay_shards.specs.Rows.{find_seen, AreLow};
+ghost use Rattle.replay_rows.specs.Rows.{find_seen, AreLow};
 ghost use Rattle.replay_shards.specs.Taken.{bytes_of, FitsNothing};
 
-use crate::bits::only_shard;
+use crate::attempt::Attempt;
 use crate::finding::find_in;
 use crate::fit::fit;
-use crate::kept::Kept;
 use crate::places::{first_from, widened};
 use crate::ready::Ready;
 use crate::shard::ReplayShard;
-use crate::sharded::ShardedRow;
 use crate::slots::{Slot, arrive_at, arrive_in, settle_all};
 use calculus::Digest;
 use event_log::Log;
+use replay_rows::bits::only_shard;
+use replay_rows::kept::Kept;
+use replay_rows::sharded::ShardedRow;
 use replay_space::Rig;
 use std::alloc::{AllocError, Global};
 use std::marker::Model;
@@ -162,14 +163,13 @@ impl ReplayHeld {
             (FitsNothing (steps_of log.now.steps.items) (all_shown self.now) before s step)
             (IsReady (steps_of log.now.steps.items) (all_shown self.now) before s step)) }
     {
-        fit(
-            alloc,
-            self.taken(),
+        let attempt = Attempt {
+            slots: self.taken(),
             rig,
-            log.steps.as_slice(),
-            &log.steps[step as usize],
+            steps: log.steps.as_slice(),
             step,
-        )
+        };
+        fit(alloc, &attempt, &log.steps[step as usize])
     }
 
     /// A step is done, and the rows with these ids leave: each shard in hand becomes what the step makes of it. It takes no

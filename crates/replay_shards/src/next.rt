@@ -7,15 +7,15 @@ ghost use Rattle.replay_scene.specs.Showing.{IsFirstUse};
 ghost use Rattle.replay_space.specs.Rigs.{IsRigOf};
 ghost use Rattle.replay_shards.specs.Hands.{all_shown, parts_of, AreSlotsFiled};
 ghost use Rattle.replay_shards.specs.Ready.{if_any, index_tries, AreNext, Follow, IsUseTry};
-ghost use Rattle.replay_shards.specs.Rows.{find_seen};
+ghost use Rattle.replay_rows.specs.Rows.{find_seen};
 ghost use Rattle.replay_shards.specs.Taken.{bytes_of, AreFound};
 
+use crate::attempt::Attempt;
 use crate::finding::find_in;
-use crate::kept::is_among;
 use crate::ready::Try;
-use crate::sharded::ShardedRow;
-use crate::slots::Slot;
 use calculus::Digest;
+use replay_rows::kept::is_among;
+use replay_rows::sharded::ShardedRow;
 use replay_space::Rig;
 use std::alloc::{AllocError, Global};
 
@@ -62,29 +62,29 @@ pub fn first_tries(
     }
 }
 
-// Adds the try that follows for the first row in hand with this id, unless it leaves. A step names it at this place.
+// Adds the try that follows for the first row in hand with this id, unless it leaves. The step names it at this place.
 fn add_next(
-    slots: &[Slot],
-    rig: &Rig,
-    step: u32,
+    attempt: &Attempt,
     place: usize,
     gone: &[Digest],
     id: &Digest,
     next: &mut Vec<Try>,
 ) -> Result<(), AllocError>
-    requires { AreSlotsFiled slots.now }
-    ensures { (ss : List Step) (q : SeenRow) → IsRigOf ss rig.now →
-        find_seen id.now.0 (all_shown (parts_of slots.now)) ≡ Some q →
+    requires { AreSlotsFiled attempt.now.slots.now }
+    ensures { (ss : List Step) (q : SeenRow) → IsRigOf ss attempt.now.rig.now →
+        find_seen id.now.0 (all_shown (parts_of attempt.now.slots.now)) ≡ Some q →
         OnOk result (Follow ss (bytes_of gone.now) q next.old.items next.new.items) }
 {
     if is_among(id, gone) {
         return Ok(());
     }
-    let Some(seen) = find_in(slots, id) else {
+    let Some(seen) = find_in(attempt.slots, id) else {
         return Ok(());
     };
     let done = seen.done as usize + 1;
-    let next_use = rig.next_use_at(&seen.row.id(), step, place, done);
+    let next_use = attempt
+        .rig
+        .next_use_at(&seen.row.id(), attempt.step, place, done);
     match use_try(&seen.row, next_use) {
         None => Ok(()),
         Some(tried) => {
@@ -94,26 +94,24 @@ fn add_next(
     }
 }
 
-/// The tries that follow for the first rows in hand with these ids, which a step names, but for those that leave.
+/// The tries that follow for the first rows in hand with these ids, which the step names, but for those that leave.
 pub(crate) fn all_next(
     alloc: Global,
-    slots: &[Slot],
-    rig: &Rig,
-    step: u32,
+    attempt: &Attempt,
     gone: &[Digest],
     first: &Digest,
     others: &[Digest],
 ) -> Result<Vec<Try>, AllocError>
-    requires { AreSlotsFiled slots.now }
-    ensures { (ss : List Step) (r : SeenRow) (ds : List SeenRow) → IsRigOf ss rig.now →
-        AreFound (all_shown (parts_of slots.now)) (first.now.0 ∷ bytes_of others.now) (r ∷ ds) →
+    requires { AreSlotsFiled attempt.now.slots.now }
+    ensures { (ss : List Step) (r : SeenRow) (ds : List SeenRow) → IsRigOf ss attempt.now.rig.now →
+        AreFound (all_shown (parts_of attempt.now.slots.now)) (first.now.0 ∷ bytes_of others.now) (r ∷ ds) →
         IfOk result (λ v. AreNext ss (bytes_of gone.now) (r ∷ ds) v.items) }
 {
     let mut next = Vec::new(alloc);
-    add_next(slots, rig, step, 0, gone, first, &mut next)?;
+    add_next(attempt, 0, gone, first, &mut next)?;
     let mut place = 1usize;
     for id in others {
-        add_next(slots, rig, step, place, gone, id, &mut next)?;
+        add_next(attempt, place, gone, id, &mut next)?;
         place = place.saturating_add(1);
     }
     Ok(next)

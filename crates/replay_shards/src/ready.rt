@@ -1,5 +1,5 @@
 //! What a step may be done with.
-use crate::sharded::ShardedChannel;
+use replay_rows::sharded::ShardedChannel;
 use row_search::Found;
 
 /// The number of a step that is to be tried, with a channel of one of the rows that it names.

@@ -4,12 +4,12 @@ ghost use Rattle.calculus.specs.Storing.{IsStorable};
 ghost use Rattle.rho_term.specs.Rows.{row_of_op};
 ghost use Rattle.replay_scene.specs.Spaces.{bare, seen_in, standing_row};
 ghost use Rattle.replay_shards.specs.Hands.{IsOpened};
-ghost use Rattle.replay_shards.specs.Rows.{filed_rows, own_built, seen_row};
+ghost use Rattle.replay_rows.specs.Rows.{filed_rows, own_built, seen_row};
 
-use crate::bits::is_set;
-use crate::kept::Kept;
-use crate::rows::Rows;
-use crate::sharded::ShardedRow;
+use replay_rows::bits::is_set;
+use replay_rows::kept::Kept;
+use replay_rows::rows::Rows;
+use replay_rows::sharded::ShardedRow;
 use replay_space::Seen;
 use rho_term::Op;
 use space_row::Row;
@@ -32,7 +32,7 @@ impl Model for ReplayShard {
 
     ghost coded = { part_code };
 
-    ghost use Rattle.replay_shards.specs.Rows.{part_of, AreFiled};
+    ghost use Rattle.replay_rows.specs.Rows.{part_of, AreFiled};
 
     ghost view = { λ a. part_of a.kept };
 

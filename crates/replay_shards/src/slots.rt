@@ -4,16 +4,16 @@ ghost use Rattle.event_log.specs.View.{step_of};
 ghost use Rattle.replay_scene.specs.Spaces.{IndexTry, new_row};
 ghost use Rattle.replay_scene.specs.Entries.{arrives};
 ghost use Rattle.shard_rows.specs.Shards.{stands_in};
-ghost use Rattle.replay_shards.specs.Bits.{has_bit};
+ghost use Rattle.replay_rows.specs.Bits.{has_bit};
 ghost use Rattle.replay_shards.specs.Hands.{all_shown, parts_of, shard_at, shown_at, AreSlotsFiled, GainsRow, GainsSeen, HasRoomAt, IsSlotFiled, TouchedBecome};
-ghost use Rattle.replay_shards.specs.Rows.{arrived_seen, part_of, settled_part, AreLow};
+ghost use Rattle.replay_rows.specs.Rows.{arrived_seen, part_of, settled_part, AreLow};
 
-use crate::bits::is_set;
-use crate::kept::{Kept, settle_shard};
-use crate::rows::{make_room, put};
-use crate::sharded::ShardedRow;
 use calculus::Digest;
 use event_log::LogStep;
+use replay_rows::bits::is_set;
+use replay_rows::kept::{Kept, settle_shard};
+use replay_rows::rows::{make_room, put};
+use replay_rows::sharded::ShardedRow;
 use replay_space::Seen;
 use std::alloc::{AllocError, Global};
 

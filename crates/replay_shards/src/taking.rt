@@ -9,9 +9,9 @@ ghost use Rattle.replay_shards.specs.Hands.{all_shown, parts_of, AreSlotsFiled};
 ghost use Rattle.replay_shards.specs.Taken.{bytes_of, taken_rows, AreTaken, IsNotTaken, IsTaken, IsTakenAlone, OneIsNotTaken};
 
 use crate::finding::find_in;
-use crate::sharded::ShardedRow;
 use crate::slots::Slot;
 use calculus::Digest;
+use replay_rows::sharded::ShardedRow;
 use replay_space::{Rig, Seen};
 use space_row::Row;
 use std::alloc::{AllocError, Global};

@@ -11,7 +11,7 @@ use Rattle.calculus.specs.Rows.{Row}
 use Rattle.shard_rows.specs.Shards.{stands_in}
 use Rattle.replay_scene.specs.Spaces.{SeenRow, Part, IndexTry, new_row, seen_in, standing_row}
 use Rattle.replay_scene.specs.Entries.{arrives, PartBecomes}
-use Rattle.replay_shards.specs.Bits.{has_bit}
+use Rattle.replay_rows.specs.Bits.{has_bit}
 use Rattle.replay_shards.specs.Hands.{InHand, shard_at, IsOpened, TouchedBecome}
 use Rattle.replay_store.specs.Stores.{AreAll, AreOpened, AreOpenedBelow, AreOpenedShards}
 

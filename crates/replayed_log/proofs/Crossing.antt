@@ -5,8 +5,8 @@ use Rattle.std.proofs.Crossing.{crosses}
 use Rattle.std.proofs.MapsCrossing.{crosses as maps_cross}
 use Rattle.sent_rows.proofs.Crossing.{row-send, row-sync}
 use Rattle.replay_space.specs.contracts.seen.Seen as Seen
-use Rattle.replay_shards.specs.contracts.sharded.ShardedChannel as Channel
-use Rattle.replay_shards.specs.contracts.sharded.ShardedRow as ShardedRow
+use Rattle.replay_rows.specs.contracts.sharded.ShardedChannel as Channel
+use Rattle.replay_rows.specs.contracts.sharded.ShardedRow as ShardedRow
 use Rattle.replay_shards.specs.contracts.held.ReplayHeld as Held
 use Rattle.replay_shards.specs.contracts.shard.ReplayShard as Shard
 use Rattle.replayed_log.specs.contracts.log_replay.LogReplay as Replay

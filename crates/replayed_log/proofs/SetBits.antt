@@ -6,7 +6,7 @@ use Rattle.std.proofs.lemmas.Bool.Decides.{nat_tests}
 use Rattle.std.proofs.lemmas.Nat.{pow_below}
 use Rattle.std.proofs.lemmas.Nat.Bits.{bit_at-lt, bit_at_and, bit_at_not, bit_at-pow_same, bit_at-trailing_zeros}
 use Rattle.replay_hub.specs.Values.{has_bit}
-use Rattle.replay_shards.proofs.Shifting.{no-bits, one-shifted}
+use Rattle.replay_rows.proofs.Shifting.{no-bits, one-shifted}
 use Rattle.replay_worker.proofs.Hands.{set}
 
 -- the bit of one shard

@@ -12,7 +12,7 @@ ghost use Rattle.value_ops.specs.Answers.{IsOperand};
 
 use crate::limits::limited;
 use crate::operation::{call, operate_one, operate_two};
-use capped_work::{EvalStop, Priced};
+use capped_work::{Budget, EvalStop, Priced};
 use code_order::make_par;
 use coll_ops::{map_of, set_of};
 use price_table::Prices;
@@ -202,34 +202,23 @@ pub fn eval_part(
         }
         Part::Unary { op, arg } => {
             let arg = eval_term(alloc, arg, prices, cap, price)?;
-            operate_one(alloc, *op, &arg.value, prices, cap, arg.price)
+            let price = arg.price;
+            let budget = Budget { prices, cap, price };
+            operate_one(alloc, *op, &arg.value, budget)
         }
         Part::Binary { op, left, right } => {
             let left = eval_term(alloc, left, prices, cap, price)?;
             let right = eval_term(alloc, right, prices, cap, left.price)?;
-            operate_two(
-                alloc,
-                *op,
-                &left.value,
-                &right.value,
-                prices,
-                cap,
-                right.price,
-            )
+            let price = right.price;
+            let budget = Budget { prices, cap, price };
+            operate_two(alloc, *op, &left.value, &right.value, budget)
         }
         Part::Method { name, target, args } => {
             let target = eval_term(alloc, target, prices, cap, price)?;
             let args = eval_terms(alloc, args, prices, cap, target.price)?;
             let price = args.price;
-            call(
-                alloc,
-                name.as_str(),
-                &target.value,
-                &args.value,
-                prices,
-                cap,
-                price,
-            )
+            let budget = Budget { prices, cap, price };
+            call(alloc, name.as_str(), &target.value, &args.value, budget)
         }
         other => {
             let value = Term::from_part(alloc, other.copy(alloc)?)?;

@@ -1,12 +1,11 @@
 // Prices under a cap, and the limits on heights and codes.
-ghost use Rattle.std.specs.Prelude.{◌≡◌, ◌≤◌, ◌<◌, ◌+◌, ◌*◌, ◌-◌, ◌^◌, MatchResult, ℕ};
+ghost use Rattle.std.specs.Prelude.{◌≡◌, ◌≤◌, ◌<◌, ◌+◌, ◌*◌, MatchResult, ℕ};
 ghost use Rattle.term_encoder.specs.Sizes.{in_u64};
 ghost use Rattle.calculus.specs.Outcome.{free, within_limits};
 ghost use Rattle.capped_work.specs.Outcomes.{Came, Stopped};
 
 use calculus::FaultKind;
-use capped_work::{EvalStop, Priced};
-use price_table::Prices;
+use capped_work::{Budget, EvalStop, Priced};
 use rho_term::{MOST_BYTES, MOST_HEIGHT, Term};
 use term_encoder::code_len;
 
@@ -28,20 +27,16 @@ pub fn limited(term: Term, price: u64, cap: u64) -> Result<Priced<Term>, EvalSto
 }
 
 /// The price so far and that of an operator or a method on operands of so many bytes, where they do not pass the cap.
-pub(crate) fn charge(prices: &Prices, bytes: u64, price: u64, cap: u64) -> Result<u64, EvalStop>
-    requires { cap < 2 ^ 64 - 1 }
+pub(crate) fn charge(bytes: u64, budget: Budget) -> Result<u64, EvalStop>
     ensures { MatchResult result (λ n. (l : ℕ) → bytes ≡ in_u64 l →
-        (n ≡ price + (prices.now.op + prices.now.byte * l)) × (n ≤ cap))
-        (λ e. (e ≡ EvalStop.Over) × ((l : ℕ) → bytes ≡ in_u64 l → cap < price +
-        (prices.now.op + prices.now.byte * l))) }
+        (n ≡ budget.entry.price + (budget.entry.prices.now.op + budget.entry.prices.now.byte * l)) × (n ≤ budget.entry.cap))
+        (λ e. (e ≡ EvalStop.Over) × ((l : ℕ) → bytes ≡ in_u64 l →
+        budget.entry.cap < budget.entry.price + (budget.entry.prices.now.op + budget.entry.prices.now.byte * l))) }
 {
-    let cost = prices
-        .byte()
+    let byte = budget.prices.byte();
+    let cost = byte
         .saturating_mul(bytes)
-        .saturating_add(prices.op());
-    let total = price.saturating_add(cost);
-    if total > cap {
-        return Err(EvalStop::Over);
-    }
-    Ok(total)
+        .saturating_add(budget.prices.op());
+    let price = budget.charge(cost)?;
+    Ok(price)
 }

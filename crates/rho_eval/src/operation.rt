@@ -1,5 +1,5 @@
 // Operators and methods on values: first the price, then the answer or its fault, then the limits.
-ghost use Rattle.std.specs.Prelude.{◌≡◌, ◌≤◌, ◌<◌, ◌-◌, ◌^◌, ◌∷◌, [], length, sum_by, All, MatchBool, MatchResult, string_bytes};
+ghost use Rattle.std.specs.Prelude.{◌≡◌, ◌≤◌, ◌∷◌, [], length, sum_by, All, MatchBool, MatchResult, string_bytes};
 ghost use Rattle.calculus.specs.Code.{code};
 ghost use Rattle.calculus.specs.Methods.{method_answer};
 ghost use Rattle.calculus.specs.Operators.{unary_answer, binary_answer, seen, seen_part};
@@ -8,86 +8,71 @@ ghost use Rattle.calculus.specs.Tree.{Tree};
 ghost use Rattle.calculus.specs.Values.{checked, operated};
 ghost use Rattle.coll_ops.specs.Views.{IsCollection, IsCollectionKind, IsNoEquality};
 ghost use Rattle.capped_work.specs.Outcomes.{Came, Stopped};
+ghost use Rattle.capped_work.specs.Results.{ComesTo};
 ghost use Rattle.rho_term.specs.Parts.{part_tree};
 ghost use Rattle.term_encoder.specs.Sizes.{in_u64};
 ghost use Rattle.value_ops.specs.Answers.{Answers, IsEquality, IsNoCollection, IsOperand};
 
 use crate::limits::{charge, limited};
 use calculus::{BinaryOp, UnaryOp};
-use capped_work::{EvalStop, Priced};
+use capped_work::{Budget, EvalStop, Priced};
 use coll_ops::{coll_binary, coll_method};
-use price_table::Prices;
 use rho_term::{Part, Term};
 use std::alloc::Global;
 use term_encoder::code_len;
 use value_ops::{OpStop, binary, text_method, unary};
 
-/// An operator on one value, at this price so far.
+/// An operator on one value, within this budget.
 pub(crate) fn operate_one(
     alloc: Global,
     op: UnaryOp,
     arg: &Term,
-    prices: &Prices,
-    cap: u64,
-    price: u64,
+    budget: Budget,
 ) -> Result<Priced<Term>, EvalStop>
-    requires cap { cap < 2 ^ 64 - 1 }
-    ensures { MatchResult result (λ p. Came cap price p.price p.value
-        (operated prices.now (arg.now ∷ []) (unary_answer op arg.now)))
-        (λ e. Stopped cap price (operated prices.now (arg.now ∷ []) (unary_answer op arg.now)) e) }
+    ensures { ComesTo result budget.entry (operated budget.entry.prices.now (arg.now ∷ []) (unary_answer op arg.now)) }
 {
     let bytes = code_len(arg);
-    let price = charge(prices, bytes, price, cap)?;
+    let price = charge(bytes, budget)?;
     let answer = unary(alloc, op, arg);
-    answered(answer, price, cap)
+    answered(answer, price, budget.cap)
 }
 
-/// An operator on two values, at this price so far.
+/// An operator on two values, within this budget.
 pub(crate) fn operate_two(
     alloc: Global,
     op: BinaryOp,
     left: &Term,
     right: &Term,
-    prices: &Prices,
-    cap: u64,
-    price: u64,
+    budget: Budget,
 ) -> Result<Priced<Term>, EvalStop>
-    requires cap { cap < 2 ^ 64 - 1 }
     requires left { IsOperand left.now }
     requires right { IsOperand right.now }
-    ensures { MatchResult result (λ p. Came cap price p.price p.value
-        (operated prices.now (left.now ∷ right.now ∷ []) (binary_answer op left.now right.now)))
-        (λ e. Stopped cap price (operated prices.now (left.now ∷ right.now ∷ []) (binary_answer op left.now right.now))
-        e) }
+    ensures { ComesTo result budget.entry
+        (operated budget.entry.prices.now (left.now ∷ right.now ∷ []) (binary_answer op left.now right.now)) }
 {
     let bytes = code_len(left).saturating_add(code_len(right));
-    let price = charge(prices, bytes, price, cap)?;
+    let price = charge(bytes, budget)?;
     let answer = on_two(alloc, op, left, right);
-    answered(answer, price, cap)
+    answered(answer, price, budget.cap)
 }
 
-/// A method of a value, at this price so far.
+/// A method of a value, within this budget.
 pub(crate) fn call(
     alloc: Global,
     name: &str,
     target: &Term,
     args: &Vec<Term>,
-    prices: &Prices,
-    cap: u64,
-    price: u64,
+    budget: Budget,
 ) -> Result<Priced<Term>, EvalStop>
-    requires cap { cap < 2 ^ 64 - 1 }
     requires target { IsOperand target.now }
     requires args { All IsOperand args.now.items }
-    ensures { MatchResult result (λ p. Came cap price p.price p.value
-        (operated prices.now (target.now ∷ args.now.items) (method_answer name.now target.now args.now.items)))
-        (λ e. Stopped cap price (operated prices.now (target.now ∷ args.now.items)
-        (method_answer name.now target.now args.now.items)) e) }
+    ensures { ComesTo result budget.entry
+        (operated budget.entry.prices.now (target.now ∷ args.now.items) (method_answer name.now target.now args.now.items)) }
 {
     let bytes = code_len(target).saturating_add(bytes_of(args));
-    let price = charge(prices, bytes, price, cap)?;
+    let price = charge(bytes, budget)?;
     let answer = on_target(alloc, name, target, args.as_slice());
-    answered(answer, price, cap)
+    answered(answer, price, budget.cap)
 }
 
 // How many bytes the codes of these have together, or the greatest `u64` where they are more.

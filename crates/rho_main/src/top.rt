@@ -11,6 +11,7 @@ ghost use Rattle.run_reports.specs.World.{world};
 ghost use Rattle.run_workloads.specs.Workloads.{IsWorkload};
 
 use crate::accepting::{Accepted, accept};
+use command_words::Run;
 use numbered_jobs::Crew;
 use rho_outside::{Gate, Shelf, Sink};
 use run_deploys::deploy_accepted;
@@ -21,6 +22,16 @@ use run_workloads::workload;
 use std::alloc::Global;
 use std::sync::Wait;
 use std::thread::Threads;
+
+// The crew of a run, of as many workers as its words name.
+fn crew_of<'a, R, G>(rt: &'a R, alloc: Global, gate: &'a G, run: &Run) -> Crew<'a, R, G> {
+    Crew {
+        rt,
+        alloc,
+        gate,
+        workers: worker_count(run.workers),
+    }
+}
 
 /// Does what the words of a command line ask, as `run` does.
 fn run_words<R: Threads + Wait + Sync, S: Shelf, O: Sink, G: Gate + Sync>(
@@ -38,21 +49,11 @@ fn run_words<R: Threads + Wait + Sync, S: Shelf, O: Sink, G: Gate + Sync>(
     match accept(alloc, words, shelf, out) {
         Accepted::Ended(status) => status,
         Accepted::Deploy { run, limit, inputs } => {
-            let crew = Crew {
-                rt,
-                alloc,
-                gate,
-                workers: worker_count(run.workers),
-            };
+            let crew = crew_of(rt, alloc, gate, &run);
             deploy_accepted(&crew, &run, limit, inputs, shelf, out)
         }
         Accepted::Replay { run, inputs } => {
-            let crew = Crew {
-                rt,
-                alloc,
-                gate,
-                workers: worker_count(run.workers),
-            };
+            let crew = crew_of(rt, alloc, gate, &run);
             replay_accepted(&crew, &run, inputs, shelf, out)
         }
         Accepted::Workload(request) => workload(rt, alloc, &request, shelf, out, gate),

@@ -1,10 +1,8 @@
 -- The steps of descent of the forms that hold further processes.
-use Rattle.std.proofs.Common.{◌≡◌, ◌-◌, zero, suc, not, refl, Option, arith, max, map, ◌++◌, ℕ, List, ◌∷◌, [], Result, Ok, Err, None, Some, subst, sym, ap, ◌∙◌, Bool, true, false}
+use Rattle.std.proofs.Common.{◌≡◌, ◌-◌, zero, suc, not, refl, Option, arith, max, map, ◌++◌, ℕ, List, ◌∷◌, [], Result, Ok, Err, None, Some, subst, sym, ◌∙◌, Bool, true, false}
 use Rattle.std.specs.Prelude.{IfOk, MatchResult}
 use Rattle.std.proofs.lemmas.List.{map-append}
-use Rattle.calculus.specs.Meaning.{pair_of, pat_written, proc_written}
 use Rattle.calculus.specs.Written.{Written}
-use Rattle.calculus.specs.declared.process.Pat.{Pat}
 use Rattle.calculus.specs.declared.process.Proc.{Proc}
 use Rattle.grammar.specs.declared.dialect.Dialect.TheVariants.{Tutorial}
 use Rattle.grammar.specs.declared.fault.Fault.{Fault}
@@ -14,11 +12,11 @@ use Rattle.std.proofs.lemmas.Bool.{false≢true}
 use Rattle.calculus.specs.declared.plain.Kind.{Kind}
 use Rattle.rho_lexer.specs.declared.token.Token.{Token}
 use Rattle.grammar.specs.Choice.{choose}
-use Rattle.grammar.specs.Descent.{Outcome, read, fault, Runs, Stuck, Takes, shows, runs_sign, runs_next, runs_at, no_at, runs_last, runs_under, no_under, no_memory}
+use Rattle.grammar.specs.Descent.{Outcome, read, fault, Runs, Takes, shows, runs_sign, runs_next, runs_at, no_at, runs_last, no_memory}
 use Rattle.grammar.specs.Grammar.{rule}
 use Rattle.grammar.specs.Productions.{Prod}
 use Rattle.grammar.specs.declared.mark.Mark.{Mark}
-use Rattle.grammar.specs.Rules.{Bracket, Separator, Sort, Rule, at, last, next, sign, under}
+use Rattle.grammar.specs.Rules.{Bracket, Separator, Sort, Rule, at, last, next, sign}
 use Rattle.grammar.specs.Terminals.{Terminal, mark, sees}
 use Rattle.grammar.specs.Values.{Side, Spelt, spelt}
 use Rattle.token_cursor.specs.Levels.{inner_of, level_or_prefix, operand_of, sort_of, tail_of}
@@ -26,9 +24,11 @@ use Rattle.token_cursor.specs.declared.level.Level.{Level}
 use Rattle.token_cursor.specs.declared.level.Level.TheVariants as levels
 use Rattle.syntax_forms.specs.declared.part.Part.{Part}
 use Rattle.token_cursor.specs.Meaning.{view}
-use Rattle.token_cursor.specs.Reading.{Makes, Turns, sees_bind, sees_member, pairs_written, pat_pairs_written}
+use Rattle.form_steps.specs.Parts.{form_sort}
+use Rattle.form_steps.specs.declared.step.FormKey.{FormKey}
+use Rattle.token_cursor.specs.Reading.{Makes, Turns, of_proc, sees_bind, sees_member}
 use Rattle.form_steps.proofs.Handed.{at_read}
-use Rattle.form_steps.proofs.Turning.{as_rule, chosen, sees_comma, tails}
+use Rattle.form_steps.proofs.Turning.{as_rule, chosen, tails}
 use Rattle.token_cursor.proofs.Steps.{comma, faulty}
 
 -- a tail goes on with the value that is made, unless memory runs out
@@ -57,35 +57,12 @@ pub grown : {T : Type 0} {free : ℕ} {ts : List Terminal} (s : Sort) (us : List
     → Turns free (at s (λ a. tail (map f xs ++ (a.tree ∷ [])) (max h a.height))) (λ p. tail (map f (xs ++ (p.value ∷ []))) (max h p.height)) ts res us
 grown {T} {free} {ts} s us f tail xs h res g = appended free (at s (λ a. tail (map f xs ++ (a.tree ∷ [])) (max h a.height))) ts us f tail xs h res (at_read s us (λ p. spelt (f p.value) p.height) (λ a. tail (map f xs ++ (a.tree ∷ [])) (max h a.height)) res g)
 
--- a value after its key, in one more pair
-pub pair_grown : {T : Type 0} {ts : List Terminal} (free : ℕ) (s : Sort) (us : List Terminal) (f : T → Written) (of : List (T × T) → List Written) (tail : List Written → ℕ → Rule) (xs : List (T × T)) (h : ℕ) (key : Part T) (res : Result (Part T) Fault)
-    → ((v : T) → of (xs ++ ((key.value, v) ∷ [])) ≡ of xs ++ (pair_of (f key.value, f v) ∷ []))
-    → Makes (free - 1) (rule Tutorial (choose s ts)) (λ p. spelt (f p.value) p.height) ts res us
-    → Turns free (under s (λ v. tail (of xs ++ (pair_of (f key.value, v.tree) ∷ [])) (max h (max key.height v.height)))) (λ v. tail (of (xs ++ ((key.value, v.value) ∷ []))) (max h (max key.height v.height))) ts res us
-pair_grown {T} {ts} free s us f of tail xs h key (Ok v) e g = λ out k. runs_under g (subst (λ (qs : List Written). Runs Tutorial free (tail qs (max h (max key.height v.height))) us out) (e v.value) k)
-pair_grown free s us f of tail xs h key (Err d) e g = no_under g
-
--- pairs, and one more of them
-pub pairs_pushed : (ps : List (Proc × Proc)) (p : Proc × Proc) (a b : Proc) → p ≡ (a, b) → pairs_written (ps ++ (p ∷ [])) ≡ pairs_written ps ++ (pair_of (proc_written a, proc_written b) ∷ [])
-pairs_pushed ps p a b e =
-    ap (map pair_of) (map-append (λ q. (proc_written q.0, proc_written q.1)) ps (p ∷ [])) ∙ (map-append pair_of (map (λ q. (proc_written q.0, proc_written q.1)) ps) ((proc_written p.0, proc_written p.1) ∷ [])
-    ∙ ap (λ q. pairs_written ps ++ (pair_of (proc_written q.0, proc_written q.1) ∷ [])) e)
-
-pub pat_pairs_pushed : (ps : List (Pat × Pat)) (p : Pat × Pat) (a b : Pat) → p ≡ (a, b) → pat_pairs_written (ps ++ (p ∷ [])) ≡ pat_pairs_written ps ++ (pair_of (pat_written a, pat_written b) ∷ [])
-pat_pairs_pushed ps p a b e =
-    ap (map pair_of) (map-append (λ q. (pat_written q.0, pat_written q.1)) ps (p ∷ [])) ∙ (map-append pair_of (map (λ q. (pat_written q.0, pat_written q.1)) ps) ((pat_written p.0, pat_written p.1) ∷ [])
-    ∙ ap (λ q. pat_pairs_written ps ++ (pair_of (pat_written q.0, pat_written q.1) ∷ [])) e)
-
 not_true : (b : Bool) → not b ≡ true → b ≡ false
 not_true false e = refl
 not_true true e = absurd (false≢true e)
 
 member_next : {ts us : List Terminal} → sees_member ts ≡ true → Takes marks.Comma ts us → sees marks.Ellipsis us ≡ false
 member_next {ts} {us} m t = not_true (sees marks.Ellipsis us) (sym (comma t) ∙ m)
-
--- where a member follows a comma, the comma isn't missing
-pub no_comma : {free : ℕ} {r : Rule} {ts us : List Terminal} {e : Fault} → sees_member ts ≡ true → Stuck (sees marks.Comma ts) ts e us → Runs Tutorial free r ts (fault e us)
-no_comma {ts = ts} m s = absurd (false≢true (sym s.no ∙ sees_comma ts m))
 
 -- a comma and a pattern of a name
 pub left_on : {free : ℕ} {out : Outcome} (ps : List Written) (h : ℕ) (ts us : List Terminal) → sees_member ts ≡ true → Takes marks.Comma ts us
@@ -192,3 +169,13 @@ unlast no_memory = no_memory
 pub first_on : {free : ℕ} {ts : List Terminal} {out : Outcome} (k : Kind) (b : Spelt) (m : Separator) → rule Tutorial (choose (Sort.FirstTail k b) ts) ≡ rule Tutorial (choose (Sort.BindsTail k m 15 (b.tree ∷ []) b.height) ts)
     → Runs Tutorial free (last (Sort.BindsTail k m 15 (b.tree ∷ []) b.height)) ts out → Runs Tutorial free (last (Sort.FirstTail k b)) ts out
 first_on k b m e h = runs_last (as_rule _ _ e (unlast h))
+
+-- the step that begins is this one
+pub at_step : {S : Type 0} {free : ℕ} {r : Rule} {ts us : List Terminal} (after : S → Rule) (x y : S) → x ≡ y → ((out : Outcome) → Runs Tutorial free (after x) us out → Runs Tutorial free r ts out)
+    → (out : Outcome) → Runs Tutorial free (after y) us out → Runs Tutorial free r ts out
+at_step {S} {free} {r} {ts} {us} after x y e h = λ out k. h out (subst (λ (z : S). Runs Tutorial free (after z) us out) (sym e) k)
+
+-- the form that is read is this one
+pub form_as : {free : ℕ} {ts : List Terminal} (us : List Terminal) (res : Result (Part Proc) Fault) (k j : FormKey) → k ≡ j
+    → Makes free (rule Tutorial (choose (form_sort j) ts)) of_proc ts res us → Makes free (rule Tutorial (choose (form_sort k) ts)) of_proc ts res us
+form_as {free} {ts} us res k j e h = subst (λ (x : FormKey). Makes free (rule Tutorial (choose (form_sort x) ts)) of_proc ts res us) (sym e) h

@@ -1,11 +1,10 @@
 -- What is left of a production after a constituent.
 use Rattle.std.proofs.Common.{max, ℕ, List, ◌∷◌, ◌++◌, []}
-use Rattle.calculus.specs.Meaning.{pair_of}
 use Rattle.calculus.specs.Written.{Written}
 use Rattle.calculus.specs.declared.plain.Kind.{Kind}
 use Rattle.grammar.specs.declared.mark.Mark.TheVariants as marks
-use Rattle.grammar.specs.Rules.{Separator, Sort, Rule, done, last, sign, under}
-use Rattle.grammar.specs.Values.{Side, Spelt, bind_of, case_of, contract_of, opened, processes, receive_of}
+use Rattle.grammar.specs.Rules.{Sort, Rule, done, last, sign, under}
+use Rattle.grammar.specs.Values.{Spelt, bind_of, case_of, contract_of, opened, processes, receive_of}
 
 -- the first branch of an `if`
 abbrev pub branches : Spelt → Rule
@@ -27,10 +26,6 @@ contract_left n = under Sort.Left (λ l. sign marks.Close (sign marks.Assign (co
 abbrev pub first_channel : Kind → Spelt → Rule
 first_channel k l = under Sort.Name (λ n. last (Sort.FirstTail k (bind_of l n)))
 
--- the channel of a further bind
-abbrev pub next_channel : Kind → Separator → ℕ → List Written → ℕ → Spelt → Rule
-next_channel k m left bs h l = under Sort.Name (λ n. last (Sort.BindsTail k m left (bs ++ ((bind_of l n).tree ∷ [])) (max h (bind_of l n).height)))
-
 -- the body of a receive, and the brace after it
 abbrev pub receive_body : Kind → List Written → ℕ → Rule
 receive_body k bs h = under (Sort.Par processes) (λ p. sign marks.CloseBrace (done (opened (receive_of k bs p.tree) (max h p.height))))
@@ -38,7 +33,3 @@ receive_body k bs h = under (Sort.Par processes) (λ p. sign marks.CloseBrace (d
 -- the body of a case
 abbrev pub case_body : Spelt → List Written → ℕ → Spelt → Rule
 case_body t cs h p = under Sort.One (λ b. last (Sort.CaseTail t (cs ++ (case_of p.tree b.tree ∷ [])) (max h (max p.height b.height))))
-
--- the value of a pair
-abbrev pub pair_value : Side → (List Written → ℕ → Sort) → List Written → ℕ → Spelt → Rule
-pair_value side tail ps h k = under (Sort.Par side) (λ v. last (tail (ps ++ (pair_of (k.tree, v.tree) ∷ [])) (max h (max k.height v.height))))

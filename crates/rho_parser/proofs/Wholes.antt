@@ -1,5 +1,5 @@
 -- What a parser answers for the tokens of a text.
-use Rattle.std.proofs.Common.{◌≡◌, ◌∙◌, ℕ, ◌-◌, ◌≤◌, max, List, [], ◌∷◌, true, false, length, sym, ap, subst, arith}
+use Rattle.std.proofs.Common.{◌≡◌, ◌∙◌, ℕ, ◌-◌, ◌≤◌, max, List, [], ◌∷◌, true, false, length, sym, ap, subst, arith, Result, Err}
 use Rattle.std.proofs.lemmas.List.{length-map}
 use Rattle.calculus.specs.Written.{Written}
 use Rattle.tokens.specs.Token.{source}
@@ -20,7 +20,10 @@ use Rattle.places.proofs.Exact as exact
 use Rattle.places.proofs.Framed.{frames}
 use Rattle.rho_lexer.specs.declared.token.Token.{Token}
 use Rattle.token_cursor.specs.Meaning.{most_height, plain_tokens, view}
-use Rattle.rho_parser.specs.Parsed.{AreOfText, place_of, IsTooDeep, IsIllFormed}
+use Rattle.calculus.specs.declared.process.Proc.{Proc}
+use Rattle.std.specs.Prelude.{IfErr, IfOk}
+use Rattle.rho_parser.specs.declared.parse_fault.ParseFault.{ParseFault}
+use Rattle.rho_parser.specs.Parsed.{AreOfText, IsRefused, place_of, IsTooDeep, IsIllFormed}
 use Rattle.rho_parser.proofs.Ends.{end_is_last}
 
 -- what the greatest height is
@@ -94,3 +97,10 @@ not_deep ts at h p d l s = let g = higher source Tutorial most_height (plain_tok
 -- and is one process
 pub same : (ts : List Token) (p q : Written) (h k : ℕ) → Spells source Tutorial (plain_tokens ts) p h → Spells source Tutorial (plain_tokens ts) q k → p ≡ q
 same ts p q h k a b = (one_reading source Tutorial (plain_tokens ts) p q h k a b).0
+
+-- where a value is let go with a fault, the fault is the answer
+pub refused_as : (ts : List Token) (res : Result Proc ParseFault) (e : ParseFault) → res ≡ Err e → IsRefused ts e → IfErr res (IsRefused ts)
+refused_as ts res e g h = subst (λ (x : Result Proc ParseFault). IfErr x (IsRefused ts)) (sym g) h
+
+pub none_found : (P : Proc → Type 0) (res : Result Proc ParseFault) (e : ParseFault) → res ≡ Err e → IfOk res P
+none_found P res e g = subst (λ (x : Result Proc ParseFault). IfOk x P) (sym g) tt

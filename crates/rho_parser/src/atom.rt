@@ -5,9 +5,10 @@ ghost use Rattle.grammar.specs.Productions.{Prod};
 ghost use Rattle.grammar.specs.Rules.{Sort, last};
 ghost use Rattle.grammar.specs.Values.{processes};
 ghost use Rattle.grammar.specs.declared.dialect.Dialect.TheVariants.{Tutorial};
+ghost use Rattle.rho_parser.specs.Reading.{ReadsPair, process_pair};
 ghost use Rattle.token_cursor.specs.Meaning.{view};
 ghost use Rattle.token_cursor.specs.Reading.{Gives, Makes, Turns, bracket_of, of_name, of_proc, of_row, pairs_written};
-ghost use Rattle.std.specs.Prelude.{◌<◌, ◌≤◌, IfOk, MatchResult, length, map};
+ghost use Rattle.std.specs.Prelude.{◌-◌, ◌<◌, ◌≤◌, IfOk, MatchResult, length, map};
 
 use crate::parser::Parser;
 use crate::row::tuple;
@@ -85,13 +86,24 @@ impl<'a> Parser<'a> {
         let pair = paired(inner, self.par(free - 1));
         let mut pairs = first_of(self.cursor.alloc, pair)?;
         'each: while skip(&mut self.cursor, Mark::Comma) {
-            let found = self.par(free - 1);
-            let key = then_mark(&mut self.cursor, found, Mark::Colon)?;
-            let value = self.par(free - 1);
-            let next = paired(key, value);
+            let next = self.pair(free);
             pairs = one_more(pairs, next)?;
         }
         self.cursor.map_close(pairs)
+    }
+
+    /// A further pair of a map.
+    #[cycle(parse)]
+    fn pair(&mut self, free: u32) -> Result<Part<(Proc, Proc)>, Fault>
+        requires { 0 < free }
+        ensures reads { ReadsPair free processes process_pair (view self.old.cursor.rest.now) result (view self.new.cursor.rest.now) }
+        ensures room { IfOk result (λ p. p.height ≤ free - 1) }
+        ensures shorter { length self.new.cursor.rest.now ≤ length self.old.cursor.rest.now }
+    {
+        let found = self.par(free - 1);
+        let key = then_mark(&mut self.cursor, found, Mark::Colon)?;
+        let value = self.par(free - 1);
+        paired(key, value)
     }
 
     /// Row ::= [ Par { "," Par } ], and the sign that closes it

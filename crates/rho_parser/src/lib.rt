@@ -4,7 +4,9 @@
 
 mod atom;
 mod closed_form;
+mod form_end;
 mod left;
+mod next_marks;
 mod operation;
 pub mod parse_fault;
 mod parser;

@@ -6,9 +6,11 @@ ghost use Rattle.grammar.specs.Productions.{Prod};
 ghost use Rattle.grammar.specs.Rules.{Sort, last};
 ghost use Rattle.grammar.specs.Values.{patterns};
 ghost use Rattle.grammar.specs.declared.dialect.Dialect.TheVariants.{Tutorial};
+ghost use Rattle.rho_parser.specs.Reading.{ReadsPair, pattern_pair};
 ghost use Rattle.token_cursor.specs.Meaning.{view};
-ghost use Rattle.token_cursor.specs.Reading.{Gives, Makes, Turns, bracket_of, of_pat, of_pat_row, of_sequence, pat_pairs_written, sees_member};
-ghost use Rattle.std.specs.Prelude.{◌≡◌, ◌<◌, ◌≤◌, IfOk, MatchResult, length, map, true};
+ghost use Rattle.token_cursor.specs.Reading.{Gives, Makes, Turns, bracket_of, of_pat, of_pat_row, of_sequence};
+ghost use Rattle.token_cursor.specs.Reading.{pat_pairs_written, sees_member};
+ghost use Rattle.std.specs.Prelude.{◌≡◌, ◌-◌, ◌<◌, ◌≤◌, IfOk, MatchResult, length, map, true};
 
 use crate::parser::Parser;
 use calculus::Pat;
@@ -76,12 +78,23 @@ impl<'a> Parser<'a> {
         let pair = paired(first, self.pattern_par(free - 1));
         let mut pairs = first_of(self.cursor.alloc, pair)?;
         'each: while skip_comma(&mut self.cursor) {
-            let found = self.pattern_par(free - 1);
-            let key = then_mark(&mut self.cursor, found, Mark::Colon)?;
-            let value = self.pattern_par(free - 1);
-            let next = paired(key, value);
+            let next = self.pattern_pair(free);
             pairs = one_more(pairs, next)?;
         }
         self.cursor.pairs_end(pairs)
+    }
+
+    /// A further pair of a map.
+    #[cycle(parse)]
+    fn pattern_pair(&mut self, free: u32) -> Result<Part<(Pat, Pat)>, Fault>
+        requires { 0 < free }
+        ensures reads { ReadsPair free patterns pattern_pair (view self.old.cursor.rest.now) result (view self.new.cursor.rest.now) }
+        ensures room { IfOk result (λ p. p.height ≤ free - 1) }
+        ensures shorter { length self.new.cursor.rest.now ≤ length self.old.cursor.rest.now }
+    {
+        let found = self.pattern_par(free - 1);
+        let key = then_mark(&mut self.cursor, found, Mark::Colon)?;
+        let value = self.pattern_par(free - 1);
+        paired(key, value)
     }
 }

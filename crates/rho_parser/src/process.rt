@@ -10,6 +10,7 @@ ghost use Rattle.token_cursor.specs.Meaning.{view};
 ghost use Rattle.token_cursor.specs.Reading.{Gives, Makes, Turns, of_name, of_proc};
 ghost use Rattle.std.specs.Prelude.{◌≡◌, ◌<◌, ◌≤◌, IfOk, MatchResult, length, map};
 
+use crate::form_end::{contract_head, contract_with_body, if_with_else};
 use crate::parser::Parser;
 use crate::row::sent;
 use calculus::Proc;
@@ -97,8 +98,8 @@ impl<'a> Parser<'a> {
         if !skip(&mut self.cursor, Mark::Else) {
             return process_forms::if_only(self.cursor.alloc, arms.0, arms.1);
         }
-        let all = both(arms, self.one(free - 1))?;
-        process_forms::choice(self.cursor.alloc, all.0.0, all.0.1, all.1)
+        let other = self.one(free - 1);
+        if_with_else(self.cursor.alloc, arms, other)
     }
 
     /// Contract ::= "contract" Name "(" Left ")" "=" One
@@ -112,10 +113,9 @@ impl<'a> Parser<'a> {
         let channel = self.name(free - 1);
         let name = then_mark(&mut self.cursor, channel, Mark::Open)?;
         let left = self.left(free - 1);
-        let closed = then_mark(&mut self.cursor, both(name, left), Mark::Close);
-        let head = then_mark(&mut self.cursor, closed, Mark::Assign)?;
-        let all = both(head, self.one(free - 1))?;
-        process_forms::contract(self.cursor.alloc, all.0.0, all.0.1, all.1)
+        let head = contract_head(&mut self.cursor, name, left)?;
+        let body = self.one(free - 1);
+        contract_with_body(self.cursor.alloc, head, body)
     }
 
     /// Two ::= For | Match | Bundle | Name ( "!" | "!!" ) "(" [ Par { "," Par } ] ")" | Or

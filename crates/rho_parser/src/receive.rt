@@ -5,16 +5,16 @@ ghost use Rattle.grammar.specs.Productions.{Prod};
 ghost use Rattle.grammar.specs.Rules.{Sort, last, separator_mark, sign};
 ghost use Rattle.grammar.specs.declared.dialect.Dialect.TheVariants.{Tutorial};
 ghost use Rattle.token_cursor.specs.Meaning.{view};
-ghost use Rattle.rho_parser.specs.Reading.{ReadsCase};
+ghost use Rattle.rho_parser.specs.Reading.{ReadsBind, ReadsCase};
 ghost use Rattle.token_cursor.specs.Reading.{Gives, Makes, Turns, of_bind, of_left, of_proc, separator_of};
 ghost use Rattle.grammar.specs.Rules as separators;
-ghost use Rattle.std.specs.Prelude.{◌<◌, ◌≤◌, IfOk, MatchResult, ℕ, length, map};
+ghost use Rattle.std.specs.Prelude.{◌-◌, ◌<◌, ◌≤◌, IfOk, MatchResult, ℕ, length, map};
 
+use crate::form_end::close_receive;
+use crate::next_marks::{skip_separator, then_marks};
 use crate::parser::Parser;
 use calculus::{Bind, Case, Kind, Proc};
-use form_steps::{
-    arrow_mark, both, bound, cased, first_of, next_separator, one_more, skip, then_mark,
-};
+use form_steps::{arrow_mark, bound, cased, first_of, next_separator, one_more, skip, then_mark};
 use grammar::{Fault, Mark};
 use token_cursor::part::{Left, Part, Separator};
 use token_cursor::{Level, parts, process_forms};
@@ -55,19 +55,27 @@ impl<'a> Parser<'a> {
         ensures room { IfOk result (λ p. p.height ≤ free) }
         ensures shorter { length self.new.cursor.rest.now ≤ length self.old.cursor.rest.now }
     {
-        if self.cursor.sees_bind(separator, more) {
-            self.cursor.expect_separator(separator)?;
-            let pats = self.left(free - 1);
-            let left = then_mark(&mut self.cursor, pats, arrow_mark(kind))?;
-            let bind = bound(left, self.name(free - 1));
-            let all = one_more(binds, bind)?;
+        if skip_separator(&mut self.cursor, separator, more) {
+            let next = self.bind(kind, free);
+            let all = one_more(binds, next)?;
             return self.binds_tail(kind, separator, more - 1, all, free);
         }
-        let closed = then_mark(&mut self.cursor, Ok(binds), Mark::Close);
-        let head = then_mark(&mut self.cursor, closed, Mark::OpenBrace)?;
+        let head = then_marks(&mut self.cursor, Ok(binds), Mark::Close, Mark::OpenBrace)?;
         let body = self.par(free - 1);
-        let whole = then_mark(&mut self.cursor, both(head, body), Mark::CloseBrace)?;
-        process_forms::receive(self.cursor.alloc, kind, whole.0, whole.1)
+        close_receive(&mut self.cursor, kind, head, body)
+    }
+
+    /// A further bind of this kind.
+    #[cycle(parse)]
+    fn bind(&mut self, kind: Kind, free: u32) -> Result<Part<Bind>, Fault>
+        requires { 0 < free }
+        ensures reads { ReadsBind free kind (view self.old.cursor.rest.now) result (view self.new.cursor.rest.now) }
+        ensures room { IfOk result (λ b. b.height ≤ free - 1) }
+        ensures shorter { length self.new.cursor.rest.now ≤ length self.old.cursor.rest.now }
+    {
+        let pats = self.left(free - 1);
+        let left = then_mark(&mut self.cursor, pats, arrow_mark(kind))?;
+        bound(left, self.name(free - 1))
     }
 
     /// Match ::= "match" Or "{" Case { Case } "}"

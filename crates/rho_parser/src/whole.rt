@@ -28,6 +28,13 @@ fn place(tokens: &[Token], left: usize) -> usize
     }
 }
 
+/// The fault, with a value let go.
+fn refuse<T: Drop, U>(_value: T, fault: ParseFault) -> Result<U, ParseFault>
+    ensures { result ≡ Err fault }
+{
+    Err(fault)
+}
+
 /// The process that the tokens of a text spell, of a height of at most 200; or where it shows that they
 /// spell none. Want of memory is the one other error.
 pub fn parse(alloc: Global, tokens: &[Token], dialect: Dialect) -> Result<Proc, ParseFault>
@@ -53,7 +60,7 @@ pub fn parse(alloc: Global, tokens: &[Token], dialect: Dialect) -> Result<Proc, 
                 Ok(part.value)
             } else {
                 let at = place(tokens, parser.cursor.rest.len());
-                Err(ParseFault::Syntax { at })
+                refuse(part, ParseFault::Syntax { at })
             }
         }
         Err(Fault::Syntax) => {

@@ -1,28 +1,27 @@
 -- Binds, cases and closed forms that have been written.
-use Rattle.std.proofs.Common.{◌≡◌, ℕ, suc, ◌+◌, ◌<◌, ◌≤◌, max, Bool, true, false, cond, ltb, List, [], ◌∷◌, ◌++◌, length, map as each, refl, sym, ap, ◌∙◌, subst, arith, append_assoc, append-nil, length-append, codes}
+use Rattle.std.proofs.Common.{◌≡◌, ℕ, ◌+◌, ◌<◌, ◌≤◌, max, Bool, true, false, cond, ltb, List, [], ◌∷◌, ◌++◌, length, map as each, refl, sym, ap, ◌∙◌, subst, arith, append-nil, length-append, codes}
 use Rattle.std.proofs.lemmas.Bool.{lt-ltb, le-ltb}
 use Rattle.calculus.specs.declared.plain.Kind.{Kind}
 use Rattle.calculus.specs.declared.plain.TermRest.{TermRest}
 use Rattle.calculus.specs.declared.plain.Ground.{Ground}
 use Rattle.calculus.specs.declared.plain.Ground.TheVariants as ground
-use Rattle.calculus.specs.Tree.{row, tuple, bind, case, rest, par, pattern, Tree, node, trees}
-use Rattle.calculus.specs.Shape.{leaf, two, three, many, held, only, label_of}
-use Rattle.calculus.specs.Variables.{Sense, bound, bound_all}
-use Rattle.calculus.specs.Form.{term, part, a_bind, a_case, pat, name_pat, pat_part, name_part, row_of, all}
+use Rattle.calculus.specs.Tree.{row, tuple, bind, rest, Tree, trees}
+use Rattle.calculus.specs.Shape.{leaf, three, many, held, only}
+use Rattle.calculus.specs.Variables.{bound, bound_all}
+use Rattle.calculus.specs.Form.{term, part, a_bind, a_case, pat, name_pat, pat_part, name_part, all}
 use Rattle.calculus.specs.Printed.{Printed, name_text, with_commas, rest_text, bind_text, arrow_text, block, parallel_text}
 use Rattle.calculus.proofs.Formed.{Formed, Holds}
 use Rattle.calculus.proofs.Tails.{IsFine}
 use Rattle.calculus.proofs.Binding.{no_bound}
-use Rattle.rho_term.specs.Parts.{part_tree, pat_part_tree, term_tree, bind_tree, case_tree, ground_tree}
+use Rattle.rho_term.specs.Parts.{part_tree, term_tree, bind_tree, case_tree, ground_tree}
 use Rattle.rho_term.specs.declared.term.Part.{Part}
 use Rattle.rho_term.specs.declared.term.Part.TheVariants as parts
 use Rattle.rho_term.specs.declared.term.TermBind.{TermBind}
 use Rattle.rho_term.specs.declared.term.TermCase.{TermCase}
-use Rattle.calculus.specs.Printed.{printed}
 use Rattle.rho_printer.specs.Texts.{text_of, texts_of, left_text, bind_text_of, IsClosedForm, Writes}
-use Rattle.rho_printer.proofs.Rows.{nothing_more, row_printed, single_name_pat, ordered_texts}
+use Rattle.rho_printer.proofs.Rows.{row_printed, single_name_pat, ordered_texts}
 use Rattle.rho_printer.proofs.Forms.{after, shown, no_variables, WritesText}
-use Rattle.rho_printer.proofs.PatternForms.{goes_on-number, pat_formed}
+use Rattle.rho_printer.proofs.PatternForms.{pat_formed}
 
 -- what a bind binds, beside its channel
 pub bind-bound : (c : Tree) (ts : List Tree) (r : TermRest) (n : ℕ) → Formed IsFine term c

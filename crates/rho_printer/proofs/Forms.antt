@@ -1,5 +1,5 @@
 -- Forms of processes that have been written.
-use Rattle.std.proofs.Common.{◌≡◌, ℕ, suc, ◌+◌, ◌-◌, ◌<◌, ◌≤◌, max, Bool, true, false, cond, eqb, List, [], ◌∷◌, ◌++◌, length, map as each, refl, sym, ap, ◌∙◌, subst, arith, append_assoc, append-nil, length-append, codes}
+use Rattle.std.proofs.Common.{◌≡◌, ℕ, suc, ◌+◌, ◌-◌, max, Bool, false, cond, eqb, List, [], ◌∷◌, ◌++◌, length, map as each, refl, sym, ap, ◌∙◌, subst, arith, append_assoc, length-append, codes}
 use Rattle.std.proofs.lemmas.List.{length-map}
 use Rattle.std.proofs.lemmas.Bool.{ne_eqb}
 use Rattle.calculus.specs.declared.plain.Kind.{Kind}
@@ -7,21 +7,20 @@ use Rattle.calculus.specs.declared.plain.Rights.{Rights}
 use Rattle.calculus.specs.declared.plain.BinaryOp.{BinaryOp}
 use Rattle.calculus.specs.declared.plain.UnaryOp.TheVariants as unary_op
 use Rattle.calculus.specs.declared.plain.Origin.{Origin}
-use Rattle.calculus.specs.Tree.{par, row, list, tuple, set, dict, send, receive, new, match, case, bundle, unary, binary, method, Tree, node, Trees, trees}
+use Rattle.calculus.specs.Tree.{par, row, list, tuple, set, dict, send, receive, new, match, bundle, unary, binary, method, Tree, trees}
 use Rattle.calculus.specs.Shape.{held, one, two, many}
-use Rattle.calculus.specs.Variables.{Sense, a_name, bound, bound_all}
-use Rattle.calculus.specs.Form.{Sort, term, part, a_bind, a_case, pat, name_pat, row_of, pair_of, all}
+use Rattle.calculus.specs.Variables.{a_name, bound, bound_all}
+use Rattle.calculus.specs.Form.{Sort, term, part, a_bind, a_case, pair_of, all}
 use Rattle.calculus.specs.Normal.{by_code}
-use Rattle.calculus.specs.Printed.{Printed, marks, operand_text, name_text, braced, block, tuple_text, with_commas, separated, parallel_text, declared_texts, op_text, rights_text, in_order_of, bind_texts}
+use Rattle.calculus.specs.Printed.{Printed, marks, operand_text, name_text, braced, block, tuple_text, with_commas, separated, parallel_text, declared_texts, op_text, rights_text}
 use Rattle.calculus.proofs.Formed.{Formed, Holds}
 use Rattle.calculus.proofs.Tails.{IsFine}
 use Rattle.calculus.proofs.Binding.{no_bound}
 use Rattle.rho_term.specs.Normal.{IsNormal, IsOrdered}
 use Rattle.rho_term.specs.Parts.{part_tree, term_tree, pair_tree}
 use Rattle.rho_term.specs.declared.term.Part.{Part}
-use Rattle.calculus.specs.Printed.{printed}
-use Rattle.rho_printer.specs.Texts.{text_of, texts_of, binds_texts, Writes, WritesAll}
-use Rattle.rho_printer.proofs.Rows.{nothing_more, row_printed, binds_printed, single_term, single_pair, single_case, each_first, ordered_texts}
+use Rattle.rho_printer.specs.Texts.{text_of, texts_of, binds_texts, Writes, WritesAll, WritesMembers}
+use Rattle.rho_printer.proofs.Rows.{nothing_more, row_printed, binds_printed, single_term, single_case, each_first, ordered_texts}
 
 -- what has been written in turn
 pub after : (x a b : List ℕ) {y z : List ℕ} → y ≡ x ++ a → z ≡ y ++ b → z ≡ x ++ (a ++ b)
@@ -56,9 +55,8 @@ process-writes (p ∷ ps) t d old written e o z w h n =
     let k = subst (λ (u : Tree). Formed IsFine term u) e h in
     shown old (ap (λ (u : Tree). text_of term u d n) e ∙ process_text p ps d n (subst IsNormal e o)) (w k.1 n)
 
-pub list-writes : (ts : List Tree) (d : ℕ) (old x y written : List ℕ) → x ≡ old ++ codes "[" → WritesAll (codes ", ") term ts d x y → written ≡ y ++ codes "]" → Writes part (many list ts) d old written
-list-writes ts d old x y written p w q h n =
-    shown old (ap (λ (xs : List (List ℕ)). codes "[" ++ (with_commas xs ++ codes "]")) (each_first term ts 0 d n)) (after old (codes "[") ((separated (codes ", ") (texts_of term ts d n)) ++ (codes "]")) (p) (after x (separated (codes ", ") (texts_of term ts d n)) (codes "]") (w h.1 n) (q)))
+pub list-writes : (ts : List Tree) (d : ℕ) (old written : List ℕ) → WritesMembers (codes "[") ts (codes "]") d old written → Writes part (many list ts) d old written
+list-writes ts d old written w h n = shown old (ap (λ (xs : List (List ℕ)). codes "[" ++ (with_commas xs ++ codes "]")) (each_first term ts 0 d n)) (w h.1 n)
 
 not_one : (n : ℕ) → eqb (suc (suc n)) 1 ≡ false
 not_one n = ne_eqb (suc (suc n)) 1 (λ e. omega (arith, e))
@@ -77,14 +75,14 @@ pub tuple_written : (s : Sort) (ts : List Tree) (d n : ℕ) → codes "(" ++ (wi
 tuple_written s ts d n =
     ap (λ (x : List ℕ). codes "(" ++ x) (ap (λ (k : ℕ). with_commas (texts_of s ts d n) ++ cond (eqb k 1) (codes ",)") (codes ")")) (sym (length-texts s ts d n)) ∙ sym (tuple_closed (texts_of s ts d n)))
 
-pub tuple-writes : (ts : List Tree) (d : ℕ) (old x y written : List ℕ) → x ≡ old ++ codes "(" → WritesAll (codes ", ") term ts d x y
-    → written ≡ y ++ cond (eqb (length ts) 1) (codes ",)") (codes ")") → Writes part (many tuple ts) d old written
-tuple-writes ts d old x y written p w q h n =
-    shown old (ap (λ (xs : List (List ℕ)). codes "(" ++ (tuple_text xs ++ codes ")")) (each_first term ts 0 d n) ∙ sym (tuple_written term ts d n)) (after old (codes "(") ((separated (codes ", ") (texts_of term ts d n)) ++ (cond (eqb (length ts) 1) (codes ",)") (codes ")"))) (p) (after x (separated (codes ", ") (texts_of term ts d n)) (cond (eqb (length ts) 1) (codes ",)") (codes ")")) (w h.1 n) (q)))
+pub tuple-writes : (ts : List Tree) (d : ℕ) (closing old written : List ℕ) → closing ≡ cond (eqb (length ts) 1) (codes ",)") (codes ")") → WritesMembers (codes "(") ts closing d old written
+    → Writes part (many tuple ts) d old written
+tuple-writes ts d closing old written e w h n =
+    shown old (ap (λ (xs : List (List ℕ)). codes "(" ++ (tuple_text xs ++ codes ")")) (each_first term ts 0 d n) ∙ sym (tuple_written term ts d n))
+    (w h.1 n ∙ ap (λ (x : List ℕ). old ++ (codes "(" ++ (with_commas (texts_of term ts d n) ++ x))) e)
 
-pub set-writes : (ts : List Tree) (d : ℕ) (old x y written : List ℕ) → IsOrdered (many set ts) → x ≡ old ++ codes "Set(" → WritesAll (codes ", ") term ts d x y → written ≡ y ++ codes ")" → Writes part (many set ts) d old written
-set-writes ts d old x y written o p w q h n =
-    shown old (ap (λ (xs : List (List ℕ)). codes "Set(" ++ (with_commas xs ++ codes ")")) (ordered_texts term ts 0 d n o)) (after old (codes "Set(") ((separated (codes ", ") (texts_of term ts d n)) ++ (codes ")")) (p) (after x (separated (codes ", ") (texts_of term ts d n)) (codes ")") (w h.1 n) (q)))
+pub set-writes : (ts : List Tree) (d : ℕ) (old written : List ℕ) → IsOrdered (many set ts) → WritesMembers (codes "Set(") ts (codes ")") d old written → Writes part (many set ts) d old written
+set-writes ts d old written o w h n = shown old (ap (λ (xs : List (List ℕ)). codes "Set(" ++ (with_commas xs ++ codes ")")) (ordered_texts term ts 0 d n o)) (w h.1 n)
 
 pub map-writes : (ts : List Tree) (d : ℕ) (old x y written : List ℕ) → IsOrdered (many dict ts) → x ≡ old ++ codes "{" → WritesAll (codes ", ") (pair_of term) ts d x y → written ≡ y ++ codes "}" → Writes part (many dict ts) d old written
 map-writes ts d old x y written o p w q h n =

@@ -6,3 +6,4 @@ pub mod BindForms
 pub mod Singles
 pub mod Declared
 pub mod Moving
+pub mod Growing

@@ -1,28 +1,25 @@
 -- Forms of patterns that have been written.
-use Rattle.std.proofs.Common.{◌≡◌, ℕ, suc, ◌+◌, ◌<◌, ◌≤◌, max, Bool, true, false, cond, eqb, leb, List, [], ◌∷◌, ◌++◌, length, map as each, refl, sym, ap, ◌∙◌, subst, arith, append_assoc, append-nil, length-append, codes}
+use Rattle.std.proofs.Common.{◌≡◌, ℕ, ◌+◌, ◌≤◌, max, Bool, cond, eqb, leb, List, [], ◌∷◌, ◌++◌, length, map as each, refl, sym, ap, ◌∙◌, subst, arith, append_assoc, append-nil, length-append, codes}
 use Rattle.calculus.specs.declared.plain.Rights.{Rights}
 use Rattle.calculus.specs.declared.plain.TermRest.{TermRest}
 use Rattle.calculus.specs.declared.plain.TermRest.TheVariants as rests
-use Rattle.calculus.specs.declared.plain.Ground.{Ground}
 use Rattle.calculus.specs.declared.plain.Ground.TheVariants as ground
-use Rattle.calculus.specs.Tree.{Label, some_name, row, tuple, send, bind, case, pair, bundle, rest, same, both, either, not_this, pattern, list_pattern, set_pattern, map_pattern, Tree, node, Trees, none, also, trees}
-use Rattle.calculus.specs.Shape.{leaf, one, two, three, many, held, count, listed}
+use Rattle.calculus.specs.Tree.{Label, some_name, row, tuple, send, bundle, rest, same, both, either, not_this, pattern, list_pattern, set_pattern, map_pattern, Tree, node, Trees, none, also, trees}
+use Rattle.calculus.specs.Shape.{leaf, one, two, many, held, count, listed}
 use Rattle.calculus.specs.Variables.{Sense, bound, bound_all}
-use Rattle.calculus.specs.Form.{Sort, term, part, a_bind, a_case, a_rest, pat, name_pat, pat_part, name_part, row_of, pair_of, all, these, pat_kids, name_kids}
-use Rattle.calculus.specs.Printed.{Printed, marks, operand_text, name_text, name_pattern_text, braced, block, tuple_text, with_commas, with_rest, separated, parallel_text, rights_text, rest_text, variable_text, bind_text, arrow_text}
+use Rattle.calculus.specs.Form.{Sort, term, a_rest, pat, name_pat, pat_part, name_part, row_of, pair_of, all, pat_kids, name_kids}
+use Rattle.calculus.specs.Printed.{Printed, marks, operand_text, name_pattern_text, braced, block, tuple_text, with_commas, with_rest, separated, parallel_text, rights_text, rest_text, variable_text}
 use Rattle.calculus.proofs.Formed.{Formed, Holds}
 use Rattle.calculus.proofs.Tails.{IsFine}
-use Rattle.calculus.proofs.Binding.{no_bound}
-use Rattle.rho_term.specs.Parts.{part_tree, pat_part_tree, pat_tree, pair_tree, bind_tree, case_tree}
-use Rattle.rho_term.specs.declared.term.Part.{Part}
+use Rattle.rho_term.specs.Parts.{pat_part_tree, pat_tree, pair_tree}
 use Rattle.rho_term.specs.declared.term.Part.TheVariants as parts
 use Rattle.rho_term.specs.declared.term.PatPart.{PatPart}
 use Rattle.calculus.specs.Printed.{printed}
-use Rattle.printed_words.specs.Words.{before, remainder}
-use Rattle.rho_printer.specs.Texts.{text_of, texts_of, members_text, left_text, joined_text, bind_text_of, IsClosedForm, Writes}
+use Rattle.printed_words.specs.Words.{remainder}
+use Rattle.rho_printer.specs.Texts.{text_of, texts_of, members_text, left_text, joined_text}
 use Rattle.rho_printer.proofs.Lists.{before_some}
-use Rattle.rho_printer.proofs.Rows.{nothing_more, row_printed, single_pat, single_pair, single_name_pat, each_first, first_either, listed-trees, trees-listed}
-use Rattle.rho_printer.proofs.Forms.{after, shown, no_variables, tuple_written, length-texts}
+use Rattle.rho_printer.proofs.Rows.{nothing_more, row_printed, single_pat, single_pair, each_first, first_either, listed-trees, trees-listed}
+use Rattle.rho_printer.proofs.Forms.{after, shown, tuple_written, length-texts}
 
 as_name : (l : Label) (ts : Trees) → Holds IsFine (pat_kids l) ts → Holds IsFine (name_kids l) ts
 as_name some_name ts h = absurd h
@@ -112,6 +109,14 @@ same-text t d n = ap (λ (e : ℕ). codes "=" ++ braced (text_of term t e (max (
 
 pub pattern_tuple-text : (ts : List Tree) (d n : ℕ) → text_of pat_part (many tuple ts) d n ≡ codes "(" ++ (with_commas (texts_of pat ts d n) ++ cond (eqb (length ts) 1) (codes ",)") (codes ")"))
 pattern_tuple-text ts d n = ap (λ (xs : List (List ℕ)). codes "(" ++ (tuple_text xs ++ codes ")")) (each_first pat ts 0 d n) ∙ sym (tuple_written pat ts d n)
+
+pub tuple_pattern-writes : (ts : List Tree) (d n : ℕ) (closing old new : List ℕ) → closing ≡ cond (eqb (length ts) 1) (codes ",)") (codes ")")
+    → (Holds IsFine (all pat) (trees ts) → new ≡ old ++ (codes "(" ++ (members_text pat ts rests.No d n ++ closing))) → Formed IsFine name_part (many tuple ts) → new ≡ old ++ text_of pat_part (many tuple ts) d n
+tuple_pattern-writes ts d n closing old new e w h = shown old (pattern_tuple-text ts d n) (w h.1 ∙ ap (λ (x : List ℕ). old ++ (codes "(" ++ (with_commas (texts_of pat ts d n) ++ x))) e)
+
+pub tuple_pattern-bound : (ts : List Tree) (n m : ℕ) → (Holds IsFine (all pat) (trees ts) → m ≡ n + length (bound_all (trees ts)) + length (bound (leaf (rest rests.No))))
+    → Formed IsFine name_part (many tuple ts) → m ≡ n + length (bound (many tuple ts))
+tuple_pattern-bound ts n m w h = omega (arith, w h.1)
 
 pub pattern_send-text : (q : Bool) (t : Tree) (ts : List Tree) (d n : ℕ) → d ≤ n
     → text_of pat_part (two (send q) t (many row ts)) d n ≡ text_of name_pat t d n ++ (marks q ++ (with_commas (texts_of pat ts d (n + length (bound t))) ++ codes ")"))

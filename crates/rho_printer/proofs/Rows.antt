@@ -1,14 +1,14 @@
 -- What lists of constituents print.
-use Rattle.std.proofs.Common.{◌≡◌, ℕ, ◌+◌, ◌≤◌, max, Bool, true, false, cond, List, [], ◌∷◌, ◌++◌, length, map as each, zip, flat_map, refl, sym, ap, ◌∙◌, subst, arith}
+use Rattle.std.proofs.Common.{◌≡◌, ℕ, ◌+◌, Bool, true, false, cond, List, [], ◌∷◌, ◌++◌, length, map as each, zip, flat_map, refl, ap, ◌∙◌, arith}
 use Rattle.calculus.specs.declared.plain.Kind.{Kind}
-use Rattle.calculus.specs.Tree.{Label, some_name, row, par, set, dict, pattern, Tree, node, Trees, none, also, trees}
-use Rattle.calculus.specs.Shape.{count, listed, many}
+use Rattle.calculus.specs.Tree.{some_name, row, Tree, node, Trees, none, also, trees}
+use Rattle.calculus.specs.Shape.{listed, many}
 use Rattle.calculus.specs.Variables.{bound}
-use Rattle.calculus.specs.Order.{up_to, IsAscending}
+use Rattle.calculus.specs.Order.{IsAscending}
 use Rattle.calculus.specs.Code.{codes as tree_codes}
-use Rattle.calculus.specs.Form.{Sort, term, part, a_bind, a_case, pat, name_pat, pat_part, name_part, row_of, pair_of, all}
-use Rattle.calculus.specs.Normal.{by_code, placed_by, arranged_by}
-use Rattle.calculus.specs.Printed.{Printed, first_text, in_order_of, bind_texts, parallel_text}
+use Rattle.calculus.specs.Form.{Sort, term, a_bind, a_case, pat, name_pat, pat_part, name_part, row_of, pair_of, all}
+use Rattle.calculus.specs.Normal.{by_code, placed_by}
+use Rattle.calculus.specs.Printed.{Printed, first_text, in_order_of, bind_texts}
 use Rattle.calculus.specs.Printed.{printed, all_printed}
 use Rattle.rho_printer.specs.Texts.{text_of, texts_of, bind_text_of, binds_texts}
 

@@ -1,9 +1,9 @@
 -- Processes and patterns of one part, and of other numbers of parts.
-use Rattle.std.proofs.Common.{◌≡◌, ℕ, ◌+◌, ◌-◌, Bool, true, false, cond, List, [], ◌∷◌, ◌++◌, length, drop, refl, sym, ap, ◌∙◌, codes}
-use Rattle.calculus.specs.Tree.{Tree, name_var, fresh}
+use Rattle.std.proofs.Common.{◌≡◌, ℕ, ◌+◌, ◌-◌, Bool, false, cond, List, [], ◌∷◌, ◌++◌, length, drop, refl, sym, ap, ◌∙◌, codes}
+use Rattle.calculus.specs.Tree.{Tree}
 use Rattle.calculus.specs.Texts.{to_hex}
 use Rattle.calculus.specs.Shape.{held, label_of, only}
-use Rattle.calculus.specs.Form.{term, part}
+use Rattle.calculus.specs.Form.{term}
 use Rattle.calculus.specs.Printed.{operand_text, name_text, name_pattern_text, is_drop, braced, variable_text}
 use Rattle.calculus.specs.declared.plain.Ground.{Ground}
 use Rattle.calculus.specs.declared.plain.Ground.TheVariants as ground

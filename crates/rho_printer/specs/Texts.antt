@@ -72,6 +72,10 @@ Writes s t d old new = Formed IsFine s t → (n : ℕ) → new ≡ old ++ text_o
 abbrev pub WritesAll : List ℕ → Sort → List Tree → ℕ → List ℕ → List ℕ → Type 0
 WritesAll mark s ts d old new = Holds IsFine (all s) (trees ts) → (n : ℕ) → new ≡ old ++ separated mark (texts_of s ts d n)
 
+-- the same with a comma between each two, and between two words
+abbrev pub WritesMembers : List ℕ → List Tree → List ℕ → ℕ → List ℕ → List ℕ → Type 0
+WritesMembers opening ts closing d old new = Holds IsFine (all term) (trees ts) → (n : ℕ) → new ≡ old ++ (opening ++ (separated (codes ", ") (texts_of term ts d n) ++ closing))
+
 -- a process has been written after this text, in such a form of its own text
 abbrev pub WritesAs : (List ℕ → List ℕ) → Tree → ℕ → List ℕ → List ℕ → Type 0
 WritesAs form t d old new = Formed IsFine term t → (n : ℕ) → new ≡ old ++ form (text_of term t d n)

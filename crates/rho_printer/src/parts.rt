@@ -3,10 +3,10 @@ ghost use Rattle.std.specs.Prelude.{◌≡◌, ◌++◌, ◌+◌, ◌≤◌, map
 ghost use Rattle.calculus.specs.Form.{part};
 ghost use Rattle.calculus.specs.Printed.{is_atom, declared_texts, separated};
 ghost use Rattle.calculus.specs.Shape.{label_of, one, two, many};
-ghost use Rattle.calculus.specs.Tree.{row, list, tuple, set, dict, send, receive, new, match, bundle, unary, binary, method};
+ghost use Rattle.calculus.specs.Tree.{row, dict, send, receive, new, match, bundle, unary, binary, method};
 ghost use Rattle.rho_term.specs.Normal.{IsOrdered};
 ghost use Rattle.rho_term.specs.Parts.{part_tree, ground_tree, pair_tree, bind_tree, case_tree};
-ghost use Rattle.rho_printer.specs.Texts.{text_of, Writes};
+ghost use Rattle.rho_printer.specs.Texts.{text_of, Writes, WritesMembers};
 
 use crate::binds::{put_binds, put_cases};
 use crate::terms::{put_block, put_braced, put_name, put_operand, put_pairs, put_term, put_terms};
@@ -36,9 +36,9 @@ pub(crate) fn put_part(out: &mut Vec<u8>, p: &Part, depth: usize) -> Result<(), 
             put(out, b"*")?;
             put_variable(out, number_of(depth, *i))
         }
-        Part::List(members) => put_list(out, members, depth),
-        Part::Tuple(members) => put_tuple(out, members, depth),
-        Part::Set(members) => put_set(out, members, depth),
+        Part::List(members) => put_members(out, b"[", members, b"]", depth),
+        Part::Tuple(members) => put_members(out, b"(", members, tuple_end(members.len()), depth),
+        Part::Set(members) => put_members(out, b"Set(", members, b")", depth),
         Part::Map(pairs) => put_map(out, pairs, depth),
         Part::Send {
             channel,
@@ -86,38 +86,22 @@ pub(crate) fn put_ground(out: &mut Vec<u8>, g: &Ground) -> Result<(), AllocError
     }
 }
 
+// Members between two words.
 #[cycle(print)]
-fn put_list(out: &mut Vec<u8>, members: &[Term], depth: usize) -> Result<(), AllocError>
+fn put_members(
+    out: &mut Vec<u8>,
+    opening: &[u8],
+    members: &[Term],
+    closing: &[u8],
+    depth: usize,
+) -> Result<(), AllocError>
     requires { depth ≤ length out.old.items }
-    ensures text { OnOk result (Writes part (many list members.now) depth out.old.items out.new.items) }
+    ensures text { OnOk result (WritesMembers opening.now members.now closing.now depth out.old.items out.new.items) }
     ensures grows { OnOk result (length out.old.items ≤ length out.new.items) }
 {
-    put(out, b"[")?;
+    put(out, opening)?;
     put_terms(out, members, depth)?;
-    put(out, b"]")
-}
-
-#[cycle(print)]
-fn put_tuple(out: &mut Vec<u8>, members: &[Term], depth: usize) -> Result<(), AllocError>
-    requires { depth ≤ length out.old.items }
-    ensures text { OnOk result (Writes part (many tuple members.now) depth out.old.items out.new.items) }
-    ensures grows { OnOk result (length out.old.items ≤ length out.new.items) }
-{
-    put(out, b"(")?;
-    put_terms(out, members, depth)?;
-    put(out, tuple_end(members.len()))
-}
-
-#[cycle(print)]
-fn put_set(out: &mut Vec<u8>, members: &[Term], depth: usize) -> Result<(), AllocError>
-    requires room { depth ≤ length out.old.items }
-    requires ordered { IsOrdered (many set members.now) }
-    ensures text { OnOk result (Writes part (many set members.now) depth out.old.items out.new.items) }
-    ensures grows { OnOk result (length out.old.items ≤ length out.new.items) }
-{
-    put(out, b"Set(")?;
-    put_terms(out, members, depth)?;
-    put(out, b")")
+    put(out, closing)
 }
 
 #[cycle(print)]

@@ -3,7 +3,7 @@ ghost use Rattle.std.specs.Prelude.{◌≡◌, ◌++◌, ◌+◌, ◌≤◌, ◌
 ghost use Rattle.calculus.specs.Form.{all, pat, name_pat, pair_of, name_part};
 ghost use Rattle.calculus.specs.Printed.{is_atom, is_bare_name, variable_text};
 ghost use Rattle.calculus.specs.Shape.{label_of, one, two, many};
-ghost use Rattle.calculus.specs.Tree.{row, rest, tuple, send, bundle, trees};
+ghost use Rattle.calculus.specs.Tree.{row, rest, send, bundle, trees};
 ghost use Rattle.calculus.specs.Variables.{bound};
 ghost use Rattle.calculus.specs.Formed.{IsFine, Formed, Holds};
 ghost use Rattle.rho_term.specs.Normal.{IsOrdered};
@@ -53,11 +53,30 @@ pub(crate) fn put_pat_part(
             put(out, b"~")?;
             put_pat_operand(out, inner, depth, next)
         }
-        PatPart::List(members, rest) => put_pat_list(out, b"[", members, *rest, b"]", depth, next),
-        PatPart::Tuple(members) => put_pat_tuple(out, members, depth, next),
-        PatPart::Set(members, rest) => put_pat_list(
-            out, b"Set(", members, *rest, b")", depth, next,
-        ),
+        PatPart::List(members, rest) => {
+            let brackets = Brackets {
+                opening: b"[",
+                ending: *rest,
+                closing: b"]",
+            };
+            put_pat_list(out, brackets, members, depth, next)
+        }
+        PatPart::Tuple(members) => {
+            let brackets = Brackets {
+                opening: b"(",
+                ending: TermRest::No,
+                closing: tuple_end(members.len()),
+            };
+            put_pat_list(out, brackets, members, depth, next)
+        }
+        PatPart::Set(members, rest) => {
+            let brackets = Brackets {
+                opening: b"Set(",
+                ending: *rest,
+                closing: b")",
+            };
+            put_pat_list(out, brackets, members, depth, next)
+        }
         PatPart::Map(pairs, rest) => put_pat_map(out, pairs, *rest, depth, next),
         PatPart::Send {
             channel,
@@ -133,28 +152,36 @@ fn put_joined(
     Ok(after)
 }
 
-// Members with their remainder, between two words.
+// What stands round the members of a collection: the word before them, the remainder behind them and
+// the word that closes it.
+#[derive(Clone, Copy)]
+struct Brackets<'a> {
+    opening: &'a [u8],
+    ending: TermRest,
+    closing: &'a [u8],
+}
+
+// Members in their brackets.
 #[cycle(print)]
 fn put_pat_list(
     out: &mut Vec<u8>,
-    opening: &[u8],
+    brackets: Brackets<'_>,
     members: &[TermPat],
-    ending: TermRest,
-    closing: &[u8],
     depth: usize,
     next: usize,
 ) -> Result<usize, AllocError>
     requires { HasRoom depth next out.old.items }
     ensures text { OnOk result (WritesIfFine pat members.now
-        (opening.now ++ (members_text pat members.now ending depth next ++ closing.now)) out.old.items out.new.items) }
-    ensures next { IfOk result (NumbersPastRest pat members.now ending next) }
+        (brackets.entry.opening.now ++ (members_text pat members.now brackets.entry.ending depth next ++
+        brackets.entry.closing.now)) out.old.items out.new.items) }
+    ensures next { IfOk result (NumbersPastRest pat members.now brackets.entry.ending next) }
     ensures room { IfOk result (λ m. HasRoom next m out.new.items) }
     ensures grows { OnOk result (length out.old.items ≤ length out.new.items) }
 {
-    put(out, opening)?;
+    put(out, brackets.opening)?;
     let middle = put_pats(out, members, depth, next)?;
-    let after = put_rest(out, members.len(), b" ", b"...", ending, middle)?;
-    put(out, closing)?;
+    let after = put_rest(out, members.len(), b" ", b"...", brackets.ending, middle)?;
+    put(out, brackets.closing)?;
     Ok(after)
 }
 
@@ -178,25 +205,6 @@ fn put_pat_map(
     let middle = put_pat_pairs(out, pairs, depth, next)?;
     let after = put_rest(out, pairs.len(), b" ", b"...", ending, middle)?;
     put(out, b"}")?;
-    Ok(after)
-}
-
-#[cycle(print)]
-fn put_pat_tuple(
-    out: &mut Vec<u8>,
-    members: &[TermPat],
-    depth: usize,
-    next: usize,
-) -> Result<usize, AllocError>
-    requires { HasRoom depth next out.old.items }
-    ensures text { OnOk result (WritesPart (many tuple members.now) depth next out.old.items out.new.items) }
-    ensures next { IfOk result (NumbersPast name_part (many tuple members.now) next) }
-    ensures room { IfOk result (λ m. HasRoom next m out.new.items) }
-    ensures grows { OnOk result (length out.old.items ≤ length out.new.items) }
-{
-    put(out, b"(")?;
-    let after = put_pats(out, members, depth, next)?;
-    put(out, tuple_end(members.len()))?;
     Ok(after)
 }
 

@@ -1,10 +1,11 @@
 -- A loop over things that stand for trees, which counts their faults one after another.
-use Rattle.std.proofs.Common.{◌≡◌, ℕ, ◌+◌, ◌<◌, ◌^◌, List, [], ◌∷◌, map, drop, length, refl, arith}
+use Rattle.std.proofs.Common.{◌≡◌, ℕ, ◌+◌, ◌<◌, ◌^◌, List, [], ◌∷◌, map, drop, length, get_or, refl, ap, arith}
 use Rattle.calculus.specs.Tree.{Tree, trees}
 use Rattle.calculus.specs.Shape.{count}
 use Rattle.calculus.specs.Form.{Sort, all}
-use Rattle.rho_term.specs.Measures.{sign}
-use Rattle.rho_term.specs.Faults.{all_faults}
+use Rattle.rho_term.specs.Measures.{in_u32, sign}
+use Rattle.rho_term.specs.Faults.{faults, all_faults}
+use Rattle.rho_term.proofs.Measuring.{next}
 
 -- there are faults so far or in what is left exactly where there are some at all
 abbrev pub HasFaults : {A : Type 0} (s : Sort) (f : A → Tree) (xs : List A) (i n : ℕ) → Type 0
@@ -13,3 +14,11 @@ HasFaults s f xs i n = (n < 2 ^ 32) × (sign (n + all_faults (all s) (trees (map
 pub count-trees : (ts : List Tree) → count (trees ts) ≡ length ts
 count-trees [] = refl
 count-trees (t ∷ ts) = omega (arith, count-trees ts)
+
+-- a turn of a loop that counts faults
+pub faults-step : {A : Type 0} (s : Sort) (f : A → Tree) (xs : List A) (i n k m : ℕ) (d : A) → i < length xs → d ≡ get_or xs i d → sign k ≡ sign (faults s (f d)) → m ≡ in_u32 (n + k) → HasFaults s f xs i n → HasFaults s f xs (i + 1) m
+faults-step s f xs i n k m d h e q p r =
+    let l : all_faults (all s) (trees (map f (drop i xs))) ≡ faults s (f d) + all_faults (all s) (trees (map f (drop (i + 1) xs))) = ap (λ z. all_faults (all s) (trees (map f z))) (next xs i d h e) in
+    let a : n < 2 ^ 32 = r.0 in
+    let b : sign (n + all_faults (all s) (trees (map f (drop i xs)))) ≡ sign (all_faults (all s) (trees (map f xs))) = r.1 in
+    (omega arith, omega arith)

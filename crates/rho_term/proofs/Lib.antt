@@ -1,3 +1,4 @@
 pub mod Measuring
 pub mod Faulting
 pub mod Trees
+pub mod Copying

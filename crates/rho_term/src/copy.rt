@@ -96,7 +96,7 @@ pub(crate) fn copy_pat(alloc: Global, pat: &TermPat) -> Result<TermPat, AllocErr
     for part in pat.parts() {
         parts.push(copy_pat_part(alloc, part)?)?;
     }
-    Ok(TermPat { parts })
+    Ok(pat.with_parts(parts))
 }
 
 #[cycle(copy)]

@@ -151,25 +151,18 @@ pub struct TermCase {
 }
 
 impl Model for Term {
-    ghost use Rattle.std.specs.Prelude.{◌≡◌};
     ghost use Rattle.calculus.specs.Tree.{Tree, tree_code, weight};
-    ghost use Rattle.calculus.specs.Size.{height as height_of};
 
     ghost Value = { Tree };
 
     ghost coded = { tree_code };
 
     ghost use Rattle.rho_term.specs.Parts.{term_tree};
-    ghost use Rattle.rho_term.specs.Normal.{IsNormal};
-    ghost use Rattle.rho_term.specs.Measures.{in_u32, sign};
-    ghost use Rattle.rho_term.specs.Sizes.{in_u64, size as code_size};
-    ghost use Rattle.rho_term.specs.Faults.{faults};
-    ghost use Rattle.calculus.specs.Form.{term};
-    ghost use Rattle.std.specs.Prelude.{◌≤◌};
+    ghost use Rattle.rho_term.specs.Measured.{IsMeasured};
 
     ghost view = { λ a. term_tree a.parts.items };
 
-    ghost invariant = { λ a. IsNormal (term_tree a.parts.items) × (a.height ≡ in_u32 (height_of (term_tree a.parts.items))) × (a.code_length ≡ in_u64 (code_size (term_tree a.parts.items))) × (sign a.fault_count ≡ sign (faults term (term_tree a.parts.items))) };
+    ghost invariant = { λ a. IsMeasured (term_tree a.parts.items) a.height a.fault_count a.code_length };
 
     ghost size = { weight };
 
@@ -329,6 +322,15 @@ impl TermPat {
         ensures normal { IsNormal self.now }
     {
         self.parts.as_slice()
+    }
+
+    // The same pattern from parts that stand for the same trees.
+    pub(crate) fn with_parts(&self, parts: Vec<PatPart>) -> TermPat
+        requires { pat_tree parts.items ≡ self.now }
+        ensures { result ≡ self.now }
+    {
+        let _parts = self.parts();
+        TermPat { parts }
     }
 
     /// An equal pattern. Want of memory is the one error.

@@ -11,16 +11,16 @@ use event_log::Log;
 use replay_space::Rig;
 use space_row::Row;
 use std::alloc::Global;
-use table_lines::{LineFault, digest, number};
+use table_lines::{Fields, LineFault};
 
 /// In how many orders the jobs of a line are done.
 const ORDERS: u32 = 12;
 
 /// The indices of the steps of a log that use an id: the digits of the id and of the log.
 pub fn uses(alloc: Global, fields: &str) -> Result<String, LineFault> {
-    let (id, log) = fields.split_once(' ').ok_or(LineFault::Field)?;
-    let id = Digest(digest(id)?);
-    let log = read_digits(alloc, log)?;
+    let mut fields = Fields::new(fields);
+    let id = Digest(fields.digest());
+    let log = read_digits(alloc, fields.rest()?)?;
     let rig = Rig::from_log(alloc, &log)?;
     Ok(format!(in alloc; "{:?}", rig.uses(&id))?)
 }
@@ -28,25 +28,28 @@ pub fn uses(alloc: Global, fields: &str) -> Result<String, LineFault> {
 /// Whether a log comes to the same in all orders, and by the plain walk: a number that draws the orders, the digits of the log, and the
 /// source.
 pub fn any_order(alloc: Global, fields: &str) -> Result<String, LineFault> {
-    match raced(alloc, fields)? {
-        Some(_) => Ok(String::from_str(alloc, "agree")?),
-        None => Ok(String::from_str(alloc, "other steps or rows")?),
-    }
+    let told = match raced(alloc, fields)? {
+        Some(_) => "agree",
+        None => "other steps or rows",
+    };
+    Ok(String::from_str(alloc, told)?)
 }
 
 /// The same, with the indices of the steps that are done and of how many there are.
 pub fn done(alloc: Global, fields: &str) -> Result<String, LineFault> {
-    match raced(alloc, fields)? {
-        Some(done) => Ok(format!(in alloc; "agree, done {:?}", done)?),
-        None => Ok(String::from_str(alloc, "other steps or rows")?),
-    }
+    let told = match raced(alloc, fields)? {
+        Some(done) => format!(in alloc; "agree, done {:?}", done),
+        None => String::from_str(alloc, "other steps or rows"),
+    };
+    Ok(told?)
 }
 
 // The steps that are done of a log, where it comes to the same in all orders and by the plain walk.
 fn raced(alloc: Global, fields: &str) -> Result<Option<Vec<u32>>, LineFault> {
-    let (seed, rest) = fields.split_once(' ').ok_or(LineFault::Field)?;
-    let (log, source) = rest.split_once(' ').ok_or(LineFault::Field)?;
-    let seed = u64::from(number(seed)?);
+    let mut fields = Fields::new(fields);
+    let seed = u64::from(fields.number());
+    let log = fields.word();
+    let source = fields.rest()?;
     let log = read_digits(alloc, log)?;
     let rows = read_rows(alloc, &log.header.base, source)?;
     raced_rows(alloc, &log, rows.as_slice(), seed)

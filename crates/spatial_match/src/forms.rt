@@ -12,8 +12,8 @@ ghost use Rattle.spatial_match.specs.Given.{AllReady, AllTries, IsCompared, Read
 ghost use Rattle.spatial_match.specs.Found.{IsFirst, found, tried_pats};
 
 use crate::compare::{is_of_kind, same_closed, same_ground};
-use crate::members::find_members;
-use crate::pairs::find_pairs;
+use crate::members::{SetSearch, find_members};
+use crate::pairs::{MapSearch, find_pairs};
 use crate::parts::find_whole;
 use crate::split::{found_if, found_one, joined};
 use calculus::{Rights, TermRest};
@@ -138,7 +138,12 @@ fn find_set(
 {
     let none: [usize; 0] = [];
     match target {
-        Part::Set(terms) => find_members(alloc, pats, 0, remainder, terms, &none),
+        Part::Set(terms) => {
+            let rest = remainder;
+            let terms = terms.as_slice();
+            let search = SetSearch { pats, rest, terms };
+            find_members(alloc, search, 0, &none)
+        }
         _ => Ok(None),
     }
 }
@@ -158,7 +163,12 @@ fn find_map(
 {
     let none: [usize; 0] = [];
     match target {
-        Part::Map(pairs) => find_pairs(alloc, pats, 0, remainder, pairs, &none),
+        Part::Map(pairs) => {
+            let rest = remainder;
+            let pairs = pairs.as_slice();
+            let search = MapSearch { pats, rest, pairs };
+            find_pairs(alloc, search, 0, &none)
+        }
         _ => Ok(None),
     }
 }

@@ -18,29 +18,36 @@ use calculus::TermRest;
 use rho_term::{Part, Term, TermPat};
 use std::alloc::{AllocError, Global};
 
+/// The members of a set pattern and its remainder, and the members of a set.
+#[derive(Clone, Copy)]
+pub(crate) struct SetSearch<'a> {
+    pub pats: &'a [TermPat],
+    pub rest: TermRest,
+    pub terms: &'a [Term],
+}
+
 // The members from number i on. Members before them have used some of the target's.
 #[cycle(find)]
 pub(crate) fn find_members(
     alloc: Global,
-    pats: &[TermPat],
+    search: SetSearch,
     i: usize,
-    rest: TermRest,
-    terms: &[Term],
     used: &[usize],
 ) -> Result<Option<Vec<Term>>, AllocError>
-    requires within { i ≤ length pats.now }
-    requires tries { AllTries pats.now }
-    requires ready { AllReady term terms.now }
-    requires ordered { IsAscending (codes (trees terms.now)) }
-    ensures { IfOk result (λ o. IsFirstMembers rest (λ vs. only (many set vs))
-        (ways (drop i (tried_pats pats.now)) (left_from 0 used.now terms.now)) o) }
+    requires within { i ≤ length search.pats.now }
+    requires tries { AllTries search.pats.now }
+    requires ready { AllReady term search.terms.now }
+    requires ordered { IsAscending (codes (trees search.terms.now)) }
+    ensures { IfOk result (λ o. IsFirstMembers search.entry.rest (λ vs. only (many set vs))
+        (ways (drop i (tried_pats search.entry.pats.now)) (left_from 0 used.now search.entry.terms.now)) o) }
 {
+    let SetSearch { pats, rest, terms } = search;
     if i >= pats.len() {
         return rest_members(alloc, rest, terms, used);
     }
     let _given = pats[i].parts();
     for j in 0..terms.len() {
-        let found = try_member(alloc, pats, i, rest, terms, used, j)?;
+        let found = try_member(alloc, search, i, used, j)?;
         if found.is_some() {
             return Ok(found);
         }
@@ -53,23 +60,23 @@ pub(crate) fn find_members(
 #[cycle(find)]
 fn try_member(
     alloc: Global,
-    pats: &[TermPat],
+    search: SetSearch,
     i: usize,
-    rest: TermRest,
-    terms: &[Term],
     used: &[usize],
     j: usize,
 ) -> Result<Option<Vec<Term>>, AllocError>
-    requires within { i < length pats.now }
-    requires target_within { j < length terms.now }
-    requires failed { FailedBefore (may_rest rest) (member_at i (tried_pats pats.now))
-        (drop (i + 1) (tried_pats pats.now)) used.now terms.now j }
-    requires tries { AllTries pats.now }
-    requires ready { AllReady term terms.now }
-    requires ordered { IsAscending (codes (trees terms.now)) }
-    ensures { IfOk result (λ o. IsFirstMembers rest (λ vs. only (many set vs))
-        (at_place (member_at i (tried_pats pats.now)) (drop (i + 1) (tried_pats pats.now)) used.now terms.now j) o) }
+    requires within { i < length search.pats.now }
+    requires target_within { j < length search.terms.now }
+    requires failed { FailedBefore (may_rest search.rest) (member_at i (tried_pats search.pats.now))
+        (drop (i + 1) (tried_pats search.pats.now)) used.now search.terms.now j }
+    requires tries { AllTries search.pats.now }
+    requires ready { AllReady term search.terms.now }
+    requires ordered { IsAscending (codes (trees search.terms.now)) }
+    ensures { IfOk result (λ o. IsFirstMembers search.entry.rest (λ vs. only (many set vs))
+        (at_place (member_at i (tried_pats search.entry.pats.now)) (drop (i + 1) (tried_pats search.entry.pats.now))
+        used.now search.entry.terms.now j) o) }
 {
+    let SetSearch { pats, terms, .. } = search;
     if !is_free(used, j) {
         return Ok(None);
     }
@@ -80,7 +87,7 @@ fn try_member(
         None => Ok(None),
         Some(found) => {
             let next = with_place(alloc, used, j)?;
-            match find_members(alloc, pats, i + 1, rest, terms, &next)? {
+            match find_members(alloc, search, i + 1, &next)? {
                 None => Ok(None),
                 Some(others) => Ok(Some(joined(found, others)?)),
             }

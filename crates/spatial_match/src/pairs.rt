@@ -19,28 +19,35 @@ use calculus::TermRest;
 use rho_term::{Part, Term, TermPat};
 use std::alloc::{AllocError, Global};
 
+/// The pairs of a map pattern and its remainder, and the pairs of a map.
+#[derive(Clone, Copy)]
+pub(crate) struct MapSearch<'a> {
+    pub pats: &'a [(TermPat, TermPat)],
+    pub rest: TermRest,
+    pub pairs: &'a [(Term, Term)],
+}
+
 // The pairs from number i on. Pairs before them have used some of the target's.
 #[cycle(find)]
 pub(crate) fn find_pairs(
     alloc: Global,
-    pats: &[(TermPat, TermPat)],
+    search: MapSearch,
     i: usize,
-    rest: TermRest,
-    pairs: &[(Term, Term)],
     used: &[usize],
 ) -> Result<Option<Vec<Term>>, AllocError>
-    requires within { i ≤ length pats.now }
-    requires tries { AllTries (map pair_tree pats.now) }
-    requires ready { AllReady (pair_of term) (map pair_tree pairs.now) }
-    requires ordered { IsAscending (codes (trees (map pair_tree pairs.now))) }
-    ensures { IfOk result (λ o. IsFirstMembers rest (λ vs. only (many dict vs))
-        (ways (drop i (tried_pairs pats.now)) (left_from 0 used.now (map pair_tree pairs.now))) o) }
+    requires within { i ≤ length search.pats.now }
+    requires tries { AllTries (map pair_tree search.pats.now) }
+    requires ready { AllReady (pair_of term) (map pair_tree search.pairs.now) }
+    requires ordered { IsAscending (codes (trees (map pair_tree search.pairs.now))) }
+    ensures { IfOk result (λ o. IsFirstMembers search.entry.rest (λ vs. only (many dict vs))
+        (ways (drop i (tried_pairs search.entry.pats.now)) (left_from 0 used.now (map pair_tree search.entry.pairs.now))) o) }
 {
+    let MapSearch { pats, rest, pairs } = search;
     if i >= pats.len() {
         return rest_pairs(alloc, rest, pairs, used);
     }
     for j in 0..pairs.len() {
-        let found = try_pair(alloc, pats, i, rest, pairs, used, j)?;
+        let found = try_pair(alloc, search, i, used, j)?;
         if found.is_some() {
             return Ok(found);
         }
@@ -53,24 +60,23 @@ pub(crate) fn find_pairs(
 #[cycle(find)]
 fn try_pair(
     alloc: Global,
-    pats: &[(TermPat, TermPat)],
+    search: MapSearch,
     i: usize,
-    rest: TermRest,
-    pairs: &[(Term, Term)],
     used: &[usize],
     j: usize,
 ) -> Result<Option<Vec<Term>>, AllocError>
-    requires within { i < length pats.now }
-    requires target_within { j < length pairs.now }
-    requires failed { FailedBefore (may_rest rest) (member_at i (tried_pairs pats.now))
-        (drop (i + 1) (tried_pairs pats.now)) used.now (map pair_tree pairs.now) j }
-    requires tries { AllTries (map pair_tree pats.now) }
-    requires ready { AllReady (pair_of term) (map pair_tree pairs.now) }
-    requires ordered { IsAscending (codes (trees (map pair_tree pairs.now))) }
-    ensures { IfOk result (λ o. IsFirstMembers rest (λ vs. only (many dict vs))
-        (at_place (member_at i (tried_pairs pats.now)) (drop (i + 1) (tried_pairs pats.now)) used.now
-        (map pair_tree pairs.now) j) o) }
+    requires within { i < length search.pats.now }
+    requires target_within { j < length search.pairs.now }
+    requires failed { FailedBefore (may_rest search.rest) (member_at i (tried_pairs search.pats.now))
+        (drop (i + 1) (tried_pairs search.pats.now)) used.now (map pair_tree search.pairs.now) j }
+    requires tries { AllTries (map pair_tree search.pats.now) }
+    requires ready { AllReady (pair_of term) (map pair_tree search.pairs.now) }
+    requires ordered { IsAscending (codes (trees (map pair_tree search.pairs.now))) }
+    ensures { IfOk result (λ o. IsFirstMembers search.entry.rest (λ vs. only (many dict vs))
+        (at_place (member_at i (tried_pairs search.entry.pats.now)) (drop (i + 1) (tried_pairs search.entry.pats.now))
+        used.now (map pair_tree search.entry.pairs.now) j) o) }
 {
+    let MapSearch { pats, pairs, .. } = search;
     if !is_free(used, j) {
         return Ok(None);
     }
@@ -81,7 +87,7 @@ fn try_pair(
         None => Ok(None),
         Some(found) => {
             let next = with_place(alloc, used, j)?;
-            match find_pairs(alloc, pats, i + 1, rest, pairs, &next)? {
+            match find_pairs(alloc, search, i + 1, &next)? {
                 None => Ok(None),
                 Some(others) => Ok(Some(joined(found, others)?)),
             }

@@ -6,13 +6,13 @@ ghost use Rattle.rho_term.specs.Parts.{bind_tree};
 ghost use Rattle.row_search.specs.Choices.{AllBindsReady};
 ghost use Rattle.spatial_match.specs.Given.{Ready};
 
-use crate::meets::push_terms;
+use crate::meets::put_terms;
 use crate::reading::{read_rows, read_term};
 use join_index::JoinIndex;
 use rho_term::{Op, Term, TermBind};
 use space_row::Row;
 use std::alloc::{AllocError, Global};
-use table_lines::{LineFault, unescape};
+use table_lines::{Answer, LineFault, two_sources, unescape};
 use term_encoder::code_len;
 
 /// The most bytes of a channel's code.
@@ -21,7 +21,7 @@ const MOST_BYTES: u64 = 4_294_967_295;
 /// Adds the groups of the receives of a source to an index, and asks it for those that hold a channel: its source and the other have
 /// ` <=> ` between them.
 pub fn groups(alloc: Global, fields: &str) -> Result<String, LineFault> {
-    let (channel, source) = fields.split_once(" <=> ").ok_or(LineFault::Field)?;
+    let (channel, source) = two_sources(fields)?;
     let channel = read_term(alloc, unescape(alloc, channel)?.as_slice())?;
     let rows = read_rows(alloc, source)?;
     told_short(alloc, rows.as_slice(), &channel)
@@ -34,7 +34,7 @@ fn told_short(alloc: Global, rows: &[Row], channel: &Term) -> Result<String, Lin
     if code_len(channel) > MOST_BYTES {
         return Err(LineFault::Field);
     }
-    Ok(told(alloc, &index_of(alloc, rows)?, channel)?)
+    told(alloc, &index_of(alloc, rows)?, channel)
 }
 
 // The groups of rows.
@@ -78,13 +78,13 @@ fn channels_of(alloc: Global, binds: &[TermBind]) -> Result<Vec<Term>, AllocErro
 }
 
 // The groups that hold a channel, each in brackets.
-fn told(alloc: Global, index: &JoinIndex, channel: &Term) -> Result<String, AllocError>
+fn told(alloc: Global, index: &JoinIndex, channel: &Term) -> Result<String, LineFault>
     requires { IsChannel channel.now }
 {
     let groups = index.groups_of(alloc, channel)?;
-    let mut told = String::new(alloc);
+    let mut answer = Answer::new(alloc);
     for group in groups.as_slice() {
-        push_terms(alloc, &mut told, group.as_slice())?;
+        put_terms(alloc, &mut answer, group.as_slice());
     }
-    Ok(told)
+    answer.text()
 }

@@ -8,22 +8,23 @@ use rspace_table::SpaceTables;
 use shard_tables::ShardTables;
 use space_row::Row;
 use std::alloc::{AllocError, Global};
-use std::str;
-use table_lines::LineFault;
+use table_lines::{Answer, LineFault, first_field};
 
 /// Stores the receives of a source, and then tells for each of its sends what it meets, or the other way round: `send` or `receive`
 /// stands before the source. What is met is left where it is.
 pub fn meet(alloc: Global, fields: &str) -> Result<String, LineFault> {
-    let (word, source) = fields.split_once(' ').ok_or(LineFault::Field)?;
+    let (word, source) = first_field(fields)?;
     let rows = read_rows(alloc, source)?;
-    Ok(told_meetings(alloc, rows.as_slice(), word == "send")?)
+    told_meetings(alloc, rows.as_slice(), word == "send")
 }
 
 // Stores the rows of the other kind, and tells what those of this kind meet.
-fn told_meetings(alloc: Global, rows: &[Row], asks_sends: bool) -> Result<String, AllocError> {
+fn told_meetings(alloc: Global, rows: &[Row], asks_sends: bool) -> Result<String, LineFault> {
     let mut store = Store::new(alloc)?;
     fill(alloc, &mut store, rows, !asks_sends)?;
-    tell(alloc, &mut store, rows, asks_sends)
+    let mut answer = Answer::new(alloc);
+    tell(alloc, &mut answer, &mut store, rows, asks_sends);
+    answer.text()
 }
 
 // Stores the rows that are sends, or those that are receives.
@@ -38,55 +39,52 @@ fn fill(alloc: Global, store: &mut Store, rows: &[Row], sends: bool) -> Result<(
 }
 
 // Tells what the rows that are sends meet, or those that are receives.
-fn tell(alloc: Global, store: &mut Store, rows: &[Row], sends: bool) -> Result<String, AllocError> {
-    let mut told = String::new(alloc);
+fn tell(alloc: Global, answer: &mut Answer, store: &mut Store, rows: &[Row], sends: bool) {
     for row in rows {
         if is_send(row) == sends {
-            push_step(alloc, &mut told, store, row)?;
+            put_step(alloc, answer, store, row);
         }
     }
-    Ok(told)
 }
 
 // Adds what a row meets.
-fn push_step(
+fn put_step(alloc: Global, answer: &mut Answer, store: &mut Store, row: &Row) {
+    if !answer.is_empty() {
+        answer.put(", ");
+    }
+    match shown_step(alloc, store, row) {
+        Ok(None) => answer.put("nothing"),
+        Ok(Some(found)) => put_found(alloc, answer, &found),
+        Err(_) => answer.lack_memory(),
+    }
+}
+
+/// What a row meets in the shards that it shows.
+pub fn shown_step(
     alloc: Global,
-    told: &mut String,
     store: &mut Store,
     row: &Row,
-) -> Result<(), AllocError> {
-    if !told.is_empty() {
-        told.push_str(", ")?;
-    }
+) -> Result<Option<Found>, AllocError> {
     store.show(alloc, row)?;
-    match SpaceTables::first_step(alloc, &store.held, row)? {
-        None => told.push_str("nothing"),
-        Some(found) => push_found(alloc, told, &found),
-    }
+    SpaceTables::first_step(alloc, &store.held, row)
 }
 
 // Adds how many sends a step takes, what it binds, and how many rows leave.
-fn push_found(alloc: Global, told: &mut String, found: &Found) -> Result<(), AllocError> {
+fn put_found(alloc: Global, answer: &mut Answer, found: &Found) {
     let taken = found.taken.len();
     let gone = found.gone.len();
-    told.push_str(format!(in alloc; "takes {taken}, binds ")?.as_str())?;
-    push_terms(alloc, told, found.bound.as_slice())?;
-    told.push_str(format!(in alloc; ", {gone} leave")?.as_str())
+    answer.put_made(format!(in alloc; "takes {taken}, binds "));
+    put_terms(alloc, answer, found.bound.as_slice());
+    answer.put_made(format!(in alloc; ", {gone} leave"));
 }
 
 /// Adds the printed texts of terms in brackets.
-pub fn push_terms(alloc: Global, told: &mut String, terms: &[Term]) -> Result<(), AllocError> {
+pub fn put_terms(alloc: Global, answer: &mut Answer, terms: &[Term]) {
     let mut before = "[";
     for term in terms {
-        told.push_str(before)?;
-        push_term(alloc, told, term)?;
+        answer.put(before);
+        answer.put_utf8_of(print_term(alloc, term));
         before = ", ";
     }
-    told.push_str(if terms.is_empty() { "[]" } else { "]" })
-}
-
-// A printed text is UTF-8.
-fn push_term(alloc: Global, told: &mut String, term: &Term) -> Result<(), AllocError> {
-    let text = print_term(alloc, term)?;
-    told.push_str(str::from_utf8(text.as_slice()).unwrap_or("no UTF-8"))
+    answer.put(if terms.is_empty() { "[]" } else { "]" });
 }

@@ -1,4 +1,5 @@
 //! What stores find, beside what the plain walk allows.
+use crate::meets::shown_step;
 use crate::reading::{read_rows, shuffle};
 use crate::store::Store;
 use crate::walk::{allows, allows_nothing, meetings};
@@ -10,15 +11,15 @@ use shard_tables::ShardTables;
 use space_row::Row;
 use std::alloc::{AllocError, Global};
 use std::cmp::Ordering;
-use table_lines::{LineFault, number};
+use table_lines::{Fields, LineFault};
 
 /// Brings the rows of a source to a store one by one, in an order that the number before the source draws: a row that meets nothing is
 /// stored, and else what it meets leaves, until it leaves itself or meets nothing. Answers whether each step that was found, and each
 /// answer that there is none, is what the plain walk through all rows says, and whether the store has the rows that are left.
 pub fn store_steps(alloc: Global, fields: &str) -> Result<String, LineFault> {
-    let (seed, source) = fields.split_once(' ').ok_or(LineFault::Field)?;
-    let seed = number(seed)?;
-    let mut rows = read_rows(alloc, source)?;
+    let mut fields = Fields::new(fields);
+    let seed = fields.number();
+    let mut rows = read_rows(alloc, fields.rest()?)?;
     shuffle(rows.as_mut_slice(), seed);
     told_steps(alloc, rows.as_slice())
 }
@@ -40,11 +41,23 @@ fn told_with<'a>(
     if let Some(place) = first_wrong(alloc, store, &mut stored, rows)? {
         return Ok(format!(in alloc; "another step at row {place}")?);
     }
+    told_left(alloc, store, stored.as_slice(), built_ins)
+}
+
+// Whether a store has the rows that are left, with the built-in receivers.
+fn told_left(
+    alloc: Global,
+    store: &mut Store,
+    stored: &[&Row],
+    built_ins: &[Row],
+) -> Result<String, LineFault> {
     let left = store.take_rows(alloc)?;
-    if has_all(alloc, stored.as_slice(), left.as_slice(), built_ins)? {
-        return Ok(String::from_str(alloc, "agree")?);
-    }
-    Ok(String::from_str(alloc, "other rows")?)
+    let told = if has_all(alloc, stored, left.as_slice(), built_ins)? {
+        "agree"
+    } else {
+        "other rows"
+    };
+    Ok(String::from_str(alloc, told)?)
 }
 
 // Brings rows to a store, and tells at which of them an answer was not as the plain walk says.
@@ -87,14 +100,21 @@ fn ask(
     stored: &mut Vec<&Row>,
     row: &Row,
 ) -> Result<Option<bool>, LineFault> {
-    store.show(alloc, row)?;
-    match SpaceTables::first_step(alloc, &store.held, row)? {
-        None => {
-            SpaceTables::put(alloc, &mut store.held, row)?;
-            Ok(Some(allows_nothing(alloc, stored.as_slice())?))
-        }
+    match shown_step(alloc, store, row)? {
+        None => store_row(alloc, store, stored.as_slice(), row),
         Some(found) => take_step(alloc, store, stored, row, &found),
     }
+}
+
+// Stores a row that is said to meet nothing. Whether that is what the walk says of these rows.
+fn store_row(
+    alloc: Global,
+    store: &mut Store,
+    stored: &[&Row],
+    row: &Row,
+) -> Result<Option<bool>, LineFault> {
+    SpaceTables::put(alloc, &mut store.held, row)?;
+    Ok(Some(allows_nothing(alloc, stored)?))
 }
 
 // Takes out what a row met, where that is one of the meetings that the walk allows. Where nothing leaves, the row does.
@@ -114,7 +134,7 @@ fn take_step(
     }
     let gone = found.gone.as_slice();
     SpaceTables::take_out(&mut store.held, gone);
-    leave(alloc, stored, gone)?;
+    leave(stored, gone);
     Ok(if gone.contains(&row.id()) {
         Some(true)
     } else {
@@ -123,15 +143,8 @@ fn take_step(
 }
 
 // The rows with these ids leave.
-fn leave(alloc: Global, stored: &mut Vec<&Row>, gone: &[Digest]) -> Result<(), AllocError> {
-    let mut rest = Vec::new(alloc);
-    for row in stored.iter() {
-        if !gone.contains(&row.id()) {
-            rest.push(*row)?;
-        }
-    }
-    *stored = rest;
-    Ok(())
+fn leave(stored: &mut Vec<&Row>, gone: &[Digest]) {
+    stored.retain(|row| !gone.contains(&row.id()));
 }
 
 /// How many meetings the plain walk finds among the rows of a source and the built-in receivers, and whether the least of them by ids
@@ -143,9 +156,19 @@ pub fn least_step(alloc: Global, source: &str) -> Result<String, LineFault> {
 
 fn told_least(alloc: Global, rows: &[Row]) -> Result<String, LineFault> {
     let built_ins = built_in_rows(alloc)?;
-    let all = meetings(alloc, both(alloc, rows, built_ins.as_slice())?.as_slice())?;
+    let all = all_meetings(alloc, rows, built_ins.as_slice())?;
+    told_count(alloc, rows, all.as_slice())
+}
+
+// The meetings of these rows and those.
+fn all_meetings(alloc: Global, rows: &[Row], others: &[Row]) -> Result<Vec<Found>, LineFault> {
+    meetings(alloc, both(alloc, rows, others)?.as_slice())
+}
+
+// How many meetings there are, and whether what is told of the rows is the least.
+fn told_count(alloc: Global, rows: &[Row], all: &[Found]) -> Result<String, LineFault> {
     let step = first_reducible(alloc, rows)?;
-    let told = if is_told(step.as_ref(), all.as_slice()) {
+    let told = if is_told(step.as_ref(), all) {
         "agree"
     } else {
         "another step"

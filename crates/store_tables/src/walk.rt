@@ -5,7 +5,7 @@ use row_meeting::meet_rows;
 use row_search::Found;
 use space_row::Row;
 use std::alloc::{AllocError, Global};
-use table_lines::LineFault;
+use table_lines::{Answer, LineFault};
 use term_encoder::encode_term;
 
 /// The most choices of sends that are tried with one receiver.
@@ -23,11 +23,8 @@ pub fn meetings(alloc: Global, rows: &[&Row]) -> Result<Vec<Found>, LineFault> {
 
 fn sends_of<'a>(alloc: Global, rows: &[&'a Row]) -> Result<Vec<&'a Row>, AllocError> {
     let mut sends = Vec::new(alloc);
-    for row in rows {
-        if binds_of(*row) == 0 {
-            sends.push(*row)?;
-        }
-    }
+    sends.extend_from_slice(rows)?;
+    sends.retain(|row| binds_of(*row) == 0);
     Ok(sends)
 }
 
@@ -131,11 +128,11 @@ pub fn allows_nothing(alloc: Global, rows: &[&Row]) -> Result<bool, LineFault> {
 /// Whether this is a meeting of these rows.
 pub fn allows(alloc: Global, rows: &[&Row], found: &Found) -> Result<bool, LineFault> {
     let all = meetings(alloc, rows)?;
-    Ok(is_one_of(alloc, found, all.as_slice())?)
+    is_one_of(alloc, found, all.as_slice())
 }
 
 // Whether one of these meetings is this one.
-fn is_one_of(alloc: Global, found: &Found, all: &[Found]) -> Result<bool, AllocError> {
+fn is_one_of(alloc: Global, found: &Found, all: &[Found]) -> Result<bool, LineFault> {
     for other in all {
         if has_same_rows(found, other) && has_same_codes(alloc, found, other)? {
             return Ok(true);
@@ -152,15 +149,16 @@ fn has_same_rows(one: &Found, other: &Found) -> bool {
 }
 
 // Whether two meetings bind as many terms, with the same codes, in bodies with the same code.
-fn has_same_codes(alloc: Global, one: &Found, other: &Found) -> Result<bool, AllocError> {
+fn has_same_codes(alloc: Global, one: &Found, other: &Found) -> Result<bool, LineFault> {
     Ok(one.bound.len() == other.bound.len() && codes(alloc, one)? == codes(alloc, other)?)
 }
 
-// The codes of the body of a meeting and of what it binds, each of which tells its end.
-fn codes(alloc: Global, found: &Found) -> Result<Vec<u8>, AllocError> {
-    let mut codes = encode_term(alloc, &found.body)?;
+// The digits of the codes of the body of a meeting and of what it binds, each of which tells its end.
+fn codes(alloc: Global, found: &Found) -> Result<String, LineFault> {
+    let mut codes = Answer::new(alloc);
+    codes.put_hex_of(encode_term(alloc, &found.body));
     for term in found.bound.as_slice() {
-        codes.extend_from_slice(encode_term(alloc, term)?.as_slice())?;
+        codes.put_hex_of(encode_term(alloc, term));
     }
-    Ok(codes)
+    codes.text()
 }

@@ -1,2 +1,3 @@
 pub mod Becoming
 pub mod Indices
+pub mod Made

@@ -1,6 +1,7 @@
 //! Normal terms of processes with values put in, or with their variables renumbered.
 #![tactic(auto)]
 
+mod forms;
 pub mod renumbering;
 pub mod substitution;
 mod variable;

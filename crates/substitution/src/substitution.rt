@@ -7,9 +7,13 @@ ghost use Rattle.rho_term.specs.Parts.{part_tree, pat_part_tree, ground_tree, pa
 ghost use Rattle.term_bounds.specs.Filled.{IsForm};
 ghost use Rattle.substitution.specs.Becoming.{Becomes, AllBecome, Adds, change_of};
 
+use crate::forms::{
+    add, binary_of, bind_of, both, both_of, case_of, either_of, map_of, match_of, method_of,
+    new_of, receive_of, send_of, send_pattern_of, set_of,
+};
 use crate::variable::{Replacement, Sense, put_variable};
 use calculus::Ground;
-use code_order::{sorted_pairs, sorted_parts, sorted_terms};
+use code_order::sorted_parts;
 use rho_term::{Part, PatPart, Term, TermBind, TermCase, TermPat, with_room};
 use std::alloc::{AllocError, Global};
 use term_bounds::{binds_bound, pat_bound, plus, term_bound};
@@ -60,19 +64,11 @@ fn put_part(
     ensures members { OnOk result (All (λ p. IsOrdered (part_tree p)) out.old.items → All (λ p. IsOrdered (part_tree p)) out.new.items) }
 {
     match part {
-        Part::Var(index) => {
-            put_variable(alloc, out, Sense::Process, *index, replacement, depth)?;
-            Ok(())
-        }
+        Part::Var(index) => { put_variable(alloc, out, Sense::Process, *index, replacement, depth) }
         Part::NameVar(index) => {
-            put_variable(alloc, out, Sense::Name, *index, replacement, depth)?;
-            Ok(())
+            put_variable(alloc, out, Sense::Name, *index, replacement, depth)
         }
-        form => {
-            let form = put_form(alloc, form, replacement, depth)?;
-            out.push(form)?;
-            Ok(())
-        }
+        form => add(out, put_form(alloc, form, replacement, depth)),
     }
 }
 
@@ -88,52 +84,33 @@ fn put_form(
         Becomes (change_of replacement.now) depth (part_tree part.now) (part_tree p)) }
 {
     match part {
-        Part::Ground(_) => Ok(part.copy(alloc)?),
-        Part::Fresh(_) => Ok(part.copy(alloc)?),
-        Part::Var(_) => Ok(part.copy(alloc)?),
-        Part::NameVar(_) => Ok(part.copy(alloc)?),
         Part::List(members) => Ok(Part::List(put_terms(alloc, members, replacement, depth)?)),
         Part::Tuple(members) => Ok(Part::Tuple(put_terms(alloc, members, replacement, depth)?)),
-        Part::Set(members) => {
-            let members = put_terms(alloc, members, replacement, depth)?;
-            Ok(Part::Set(sorted_terms(alloc, members)?))
-        }
-        Part::Map(pairs) => {
-            let pairs = put_pairs(alloc, pairs, replacement, depth)?;
-            Ok(Part::Map(sorted_pairs(alloc, pairs)?))
-        }
+        Part::Set(members) => set_of(alloc, put_terms(alloc, members, replacement, depth)?),
+        Part::Map(pairs) => map_of(alloc, put_pairs(alloc, pairs, replacement, depth)?),
         Part::Send {
             channel,
             args,
             persistent,
         } => {
-            let channel = put_term(alloc, channel, replacement, depth)?;
-            let args = put_terms(alloc, args, replacement, depth)?;
-            let persistent = *persistent;
-            Ok(Part::Send {
-                channel,
-                args,
-                persistent,
-            })
+            let channel = put_term(alloc, channel, replacement, depth);
+            let args = put_terms(alloc, args, replacement, depth);
+            send_of(channel, args, *persistent)
         }
         Part::Receive { kind, binds, body } => {
             let bound = plus(binds_bound(binds), term_bound(body));
             let inner = plus(depth, bound);
-            let binds = put_binds(alloc, binds, replacement, depth)?;
-            let body = put_term(alloc, body, replacement, inner)?;
-            let kind = *kind;
-            Ok(Part::Receive { kind, binds, body })
+            let binds = put_binds(alloc, binds, replacement, depth);
+            receive_of(*kind, binds, put_term(alloc, body, replacement, inner))
         }
         Part::New { names, body } => {
             let inner = plus(depth, names.len() as u64);
             let names = names.clone()?;
-            let body = put_term(alloc, body, replacement, inner)?;
-            Ok(Part::New { names, body })
+            new_of(names, put_term(alloc, body, replacement, inner))
         }
         Part::Match { target, cases } => {
-            let target = put_term(alloc, target, replacement, depth)?;
-            let cases = put_cases(alloc, cases, replacement, depth)?;
-            Ok(Part::Match { target, cases })
+            let target = put_term(alloc, target, replacement, depth);
+            match_of(target, put_cases(alloc, cases, replacement, depth))
         }
         Part::Bundle { rights, body } => {
             let body = put_term(alloc, body, replacement, depth)?;
@@ -146,17 +123,16 @@ fn put_form(
             Ok(Part::Unary { op, arg })
         }
         Part::Binary { op, left, right } => {
-            let left = put_term(alloc, left, replacement, depth)?;
-            let right = put_term(alloc, right, replacement, depth)?;
-            let op = *op;
-            Ok(Part::Binary { op, left, right })
+            let left = put_term(alloc, left, replacement, depth);
+            let right = put_term(alloc, right, replacement, depth);
+            binary_of(*op, left, right)
         }
         Part::Method { name, target, args } => {
             let name = name.clone()?;
-            let target = put_term(alloc, target, replacement, depth)?;
-            let args = put_terms(alloc, args, replacement, depth)?;
-            Ok(Part::Method { name, target, args })
+            let target = put_term(alloc, target, replacement, depth);
+            method_of(name, target, put_terms(alloc, args, replacement, depth))
         }
+        leaf => leaf.copy(alloc),
     }
 }
 
@@ -172,7 +148,7 @@ fn put_terms(
 {
     let mut filled = with_room(alloc, terms.len());
     for term in terms {
-        filled.push(put_term(alloc, term, replacement, depth)?)?;
+        add(&mut filled, put_term(alloc, term, replacement, depth))?;
     }
     Ok(filled)
 }
@@ -189,9 +165,9 @@ fn put_pairs(
 {
     let mut filled = with_room(alloc, pairs.len());
     for pair in pairs {
-        let key = put_term(alloc, &pair.0, replacement, depth)?;
-        let value = put_term(alloc, &pair.1, replacement, depth)?;
-        filled.push((key, value))?;
+        let key = put_term(alloc, &pair.0, replacement, depth);
+        let value = put_term(alloc, &pair.1, replacement, depth);
+        add(&mut filled, both(key, value))?;
     }
     Ok(filled)
 }
@@ -208,14 +184,9 @@ fn put_binds(
 {
     let mut filled = with_room(alloc, binds.len());
     for bind in binds {
-        let channel = put_term(alloc, &bind.channel, replacement, depth)?;
-        let pats = put_pats(alloc, &bind.pats, replacement, depth)?;
-        let rest = bind.rest;
-        filled.push(TermBind {
-            pats,
-            rest,
-            channel,
-        })?;
+        let channel = put_term(alloc, &bind.channel, replacement, depth);
+        let pats = put_pats(alloc, &bind.pats, replacement, depth);
+        add(&mut filled, bind_of(channel, pats, bind.rest))?;
     }
     Ok(filled)
 }
@@ -234,9 +205,9 @@ fn put_cases(
     for case in cases {
         let bound = plus(pat_bound(&case.pat), term_bound(&case.body));
         let inner = plus(depth, bound);
-        let pat = put_pat(alloc, &case.pat, replacement, depth)?;
-        let body = put_term(alloc, &case.body, replacement, inner)?;
-        filled.push(TermCase { pat, body })?;
+        let pat = put_pat(alloc, &case.pat, replacement, depth);
+        let body = put_term(alloc, &case.body, replacement, inner);
+        add(&mut filled, case_of(pat, body))?;
     }
     Ok(filled)
 }
@@ -279,11 +250,7 @@ fn put_pat_part(
             put_closed(out, parts)?;
             Ok(())
         }
-        form => {
-            let form = put_pat_form(alloc, form, replacement, depth)?;
-            out.push(form)?;
-            Ok(())
-        }
+        form => add(out, put_pat_form(alloc, form, replacement, depth)),
     }
 }
 
@@ -318,25 +285,21 @@ fn put_pat_form(
         PatPart::Same(process) => Ok(PatPart::Same(put_term(alloc, process, replacement, depth)?)),
         PatPart::Ground(value) => Ok(PatPart::Ground(copy_ground(value)?)),
         PatPart::Both(left, right) => {
-            let left = put_pat(alloc, left, replacement, depth)?;
-            let right = put_pat(alloc, right, replacement, depth)?;
-            Ok(PatPart::Both(left, right))
+            let left = put_pat(alloc, left, replacement, depth);
+            both_of(left, put_pat(alloc, right, replacement, depth))
         }
         PatPart::Either(left, right) => {
-            let left = put_pat(alloc, left, replacement, depth)?;
-            let right = put_pat(alloc, right, replacement, depth)?;
-            Ok(PatPart::Either(left, right))
+            let left = put_pat(alloc, left, replacement, depth);
+            either_of(left, put_pat(alloc, right, replacement, depth))
         }
         PatPart::Not(inner) => Ok(PatPart::Not(put_pat(alloc, inner, replacement, depth)?)),
         PatPart::List(members, rest) => {
             Ok(PatPart::List(put_pats(alloc, members, replacement, depth)?, *rest))
         }
-        PatPart::Tuple(members) => Ok(PatPart::Tuple(put_pats(
-            alloc,
-            members,
-            replacement,
-            depth,
-        )?)),
+        PatPart::Tuple(members) => {
+            let members = put_pats(alloc, members, replacement, depth)?;
+            Ok(PatPart::Tuple(members))
+        }
         PatPart::Set(members, rest) => {
             Ok(PatPart::Set(put_pats(alloc, members, replacement, depth)?, *rest))
         }
@@ -348,26 +311,19 @@ fn put_pat_form(
             args,
             persistent,
         } => {
-            let channel = put_pat(alloc, channel, replacement, depth)?;
-            let args = put_pats(alloc, args, replacement, depth)?;
-            let persistent = *persistent;
-            Ok(PatPart::Send {
-                channel,
-                args,
-                persistent,
-            })
+            let channel = put_pat(alloc, channel, replacement, depth);
+            let args = put_pats(alloc, args, replacement, depth);
+            send_pattern_of(channel, args, *persistent)
         }
         PatPart::Bundle { rights, body } => {
             let body = put_pat(alloc, body, replacement, depth)?;
             let rights = *rights;
             Ok(PatPart::Bundle { rights, body })
         }
-        PatPart::Closed(closed) => Ok(PatPart::Closed(put_form(
-            alloc,
-            closed,
-            replacement,
-            depth,
-        )?)),
+        PatPart::Closed(closed) => {
+            let closed = put_form(alloc, closed, replacement, depth)?;
+            Ok(PatPart::Closed(closed))
+        }
     }
 }
 
@@ -383,7 +339,7 @@ fn put_pats(
 {
     let mut filled = with_room(alloc, pats.len());
     for pat in pats {
-        filled.push(put_pat(alloc, pat, replacement, depth)?)?;
+        add(&mut filled, put_pat(alloc, pat, replacement, depth))?;
     }
     Ok(filled)
 }
@@ -400,9 +356,9 @@ fn put_pat_pairs(
 {
     let mut filled = with_room(alloc, pairs.len());
     for pair in pairs {
-        let key = put_pat(alloc, &pair.0, replacement, depth)?;
-        let value = put_pat(alloc, &pair.1, replacement, depth)?;
-        filled.push((key, value))?;
+        let key = put_pat(alloc, &pair.0, replacement, depth);
+        let value = put_pat(alloc, &pair.1, replacement, depth);
+        add(&mut filled, both(key, value))?;
     }
     Ok(filled)
 }

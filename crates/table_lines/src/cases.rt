@@ -1,7 +1,7 @@
 ghost use Rattle.std.specs.Prelude.{◌≡◌, false, None, IsSome, OnOk};
 
 use crate::fault::LineFault;
-use std::alloc::Global;
+use std::alloc::{AllocError, Global};
 
 /// What a case of a test comes to: things are compared with what they must be.
 #[derive(Clone, Copy)]
@@ -47,6 +47,18 @@ pub fn put_case(alloc: Global, told: &mut String, name: &str, case: Case) -> Res
     }
 }
 
+/// Puts the lines of cases with their names, up to the first in which a comparison was otherwise.
+pub fn put_cases(
+    alloc: Global,
+    told: &mut String,
+    cases: &[(&str, Case)],
+) -> Result<(), LineFault> {
+    for (name, case) in cases {
+        put_case(alloc, told, *name, *case)?;
+    }
+    Ok(())
+}
+
 // That the comparison of this number was otherwise.
 fn otherwise(alloc: Global, name: &str, wrong: u32) -> LineFault {
     let told = format!(in alloc; "{name}: comparison {wrong} is otherwise");
@@ -56,8 +68,6 @@ fn otherwise(alloc: Global, name: &str, wrong: u32) -> LineFault {
     }
 }
 
-fn put_line(alloc: Global, told: &mut String, name: &str, compared: u32) -> Result<(), LineFault> {
-    let line = format!(in alloc; "{name}: as it must be, {compared} compared\n")?;
-    told.push_str(line.as_str())?;
-    Ok(())
+fn put_line(alloc: Global, told: &mut String, name: &str, compared: u32) -> Result<(), AllocError> {
+    told.push_str(format!(in alloc; "{name}: as it must be, {compared} compared\n")?.as_str())
 }

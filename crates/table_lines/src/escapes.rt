@@ -10,6 +10,14 @@ struct Turn {
 
 const ONCE: Turn = Turn { number: 1, left: 0 };
 
+/// The bytes of a text, as far as it was read.
+#[derive(Drop)]
+struct Unescaped {
+    bytes: Vec<u8>,
+    lacks_memory: bool,
+    is_wrong: bool,
+}
+
 /// How far an escape is read.
 #[derive(Clone, Copy)]
 enum Escape {
@@ -23,92 +31,138 @@ enum Escape {
 /// `\x` with two digits is a byte. `⟦3|ab⟧` is `ababab`; in it `\+` is the number of the time, from 1, and `\-` is
 /// how many times follow.
 pub fn unescape(alloc: Global, text: &str) -> Result<Vec<u8>, LineFault> {
-    let mut out = Vec::new(alloc);
-    match put_pieces(&mut out, text) {
-        Ok(()) => Ok(out),
-        Err(fault) => Err(fault),
-    }
-}
-
-fn put_pieces(out: &mut Vec<u8>, text: &str) -> Result<(), LineFault> {
-    let mut pieces = text.split('⟦');
-    if let Some(plain) = pieces.next() {
-        put_text(out, plain, ONCE)?;
-    }
-    for piece in pieces {
-        put_repeated(out, piece)?;
-    }
-    Ok(())
-}
-
-fn put_repeated(out: &mut Vec<u8>, piece: &str) -> Result<(), LineFault> {
-    let Some((inner, after)) = piece.split_once('⟧') else {
-        return Err(LineFault::Escape);
+    let mut read = Unescaped {
+        bytes: Vec::new(alloc),
+        lacks_memory: false,
+        is_wrong: false,
     };
-    let Some((count, text)) = inner.split_once('|') else {
-        return Err(LineFault::Escape);
-    };
-    put_times(out, count.parse::<u32>()?, text)?;
-    put_text(out, after, ONCE)
+    read.put_pieces(text);
+    read.bytes()
 }
 
-fn put_times(out: &mut Vec<u8>, count: u32, text: &str) -> Result<(), LineFault> {
-    for place in 0..count {
-        let number = place + 1;
-        let left = count - number;
-        put_text(out, text, Turn { number, left })?;
+impl Unescaped {
+    /// The bytes, where memory served and no escape was wrong.
+    fn bytes(self) -> Result<Vec<u8>, LineFault> {
+        let Unescaped {
+            bytes,
+            lacks_memory,
+            is_wrong,
+        } = self;
+        if lacks_memory {
+            return Err(LineFault::NoMemory);
+        }
+        if is_wrong {
+            return Err(LineFault::Escape);
+        }
+        Ok(bytes)
     }
-    Ok(())
-}
 
-fn put_text(out: &mut Vec<u8>, text: &str, turn: Turn) -> Result<(), LineFault> {
-    let mut escape = Escape::None;
-    for byte in text.bytes() {
-        escape = put_byte(out, escape, byte, turn)?;
+    fn push(&mut self, byte: u8) {
+        if self.bytes.push(byte).is_err() {
+            self.lacks_memory = true;
+        }
     }
-    match escape {
-        Escape::None => Ok(()),
-        _ => Err(LineFault::Escape),
+
+    fn put_pieces(&mut self, text: &str) {
+        let mut pieces = text.split('⟦');
+        if let Some(plain) = pieces.next() {
+            self.put_text(plain, ONCE);
+        }
+        for piece in pieces {
+            self.put_repeated(piece);
+        }
     }
-}
 
-fn put_byte(out: &mut Vec<u8>, escape: Escape, byte: u8, turn: Turn) -> Result<Escape, LineFault> {
-    match escape {
-        Escape::None if byte == b'\\' => return Ok(Escape::Begun),
-        Escape::None => out.push(byte)?,
-        Escape::Begun => return put_escape(out, byte, turn),
-        Escape::High => return Ok(Escape::Low(digit(byte)?)),
-        Escape::Low(high) => out.push((high << 4) | digit(byte)?)?,
+    fn put_repeated(&mut self, piece: &str) {
+        match piece.split_once('⟧') {
+            Some((inner, after)) => {
+                self.put_inner(inner);
+                self.put_text(after, ONCE);
+            }
+            None => self.is_wrong = true,
+        }
     }
-    Ok(Escape::None)
-}
 
-fn put_escape(out: &mut Vec<u8>, byte: u8, turn: Turn) -> Result<Escape, LineFault> {
-    match byte {
-        b'n' => out.push(b'\n')?,
-        b'r' => out.push(b'\r')?,
-        b't' => out.push(b'\t')?,
-        b'\\' => out.push(b'\\')?,
-        b'+' => put_number(out, turn.number)?,
-        b'-' => put_number(out, turn.left)?,
-        b'x' => return Ok(Escape::High),
-        _ => return Err(LineFault::Escape),
+    fn put_inner(&mut self, inner: &str) {
+        match inner.split_once('|') {
+            Some((count, text)) => self.put_times(count, text),
+            None => self.is_wrong = true,
+        }
     }
-    Ok(Escape::None)
-}
 
-fn put_number(out: &mut Vec<u8>, number: u32) -> Result<(), LineFault> {
-    let alloc = *out.allocator();
-    let digits = format!(in alloc; "{number}")?;
-    out.extend_from_slice(digits.as_str().as_bytes())?;
-    Ok(())
-}
+    fn put_times(&mut self, count: &str, text: &str) {
+        let Ok(count) = count.parse::<u32>() else {
+            self.is_wrong = true;
+            return;
+        };
+        for place in 0..count {
+            let number = place + 1;
+            let left = count - number;
+            self.put_text(text, Turn { number, left });
+        }
+    }
 
-/// The value of a hexadecimal digit.
-fn digit(byte: u8) -> Result<u8, LineFault> {
-    match byte {
-        b'0'..=b'9' => Ok(byte - b'0'),
-        b'a'..=b'f' => Ok(byte - b'a' + 10),
-        _ => Err(LineFault::Escape),
+    fn put_text(&mut self, text: &str, turn: Turn) {
+        let mut escape = Escape::None;
+        for byte in text.bytes() {
+            escape = self.put_byte(escape, byte, turn);
+        }
+        if !matches!(escape, Escape::None) {
+            self.is_wrong = true;
+        }
+    }
+
+    fn put_byte(&mut self, escape: Escape, byte: u8, turn: Turn) -> Escape {
+        match escape {
+            Escape::None if byte == b'\\' => return Escape::Begun,
+            Escape::None => self.push(byte),
+            Escape::Begun => return self.put_escape(byte, turn),
+            Escape::High => return Escape::Low(self.digit(byte)),
+            Escape::Low(high) => {
+                let low = self.digit(byte);
+                self.push((high << 4) | low);
+            }
+        }
+        Escape::None
+    }
+
+    fn put_escape(&mut self, byte: u8, turn: Turn) -> Escape {
+        match byte {
+            b'n' => self.push(b'\n'),
+            b'r' => self.push(b'\r'),
+            b't' => self.push(b'\t'),
+            b'\\' => self.push(b'\\'),
+            b'+' => self.put_number(turn.number),
+            b'-' => self.put_number(turn.left),
+            b'x' => return Escape::High,
+            _ => self.is_wrong = true,
+        }
+        Escape::None
+    }
+
+    fn put_number(&mut self, number: u32) {
+        let alloc = *self.bytes.allocator();
+        match format!(in alloc; "{number}") {
+            Ok(digits) => self.put_all(digits.as_str().as_bytes()),
+            Err(_) => self.lacks_memory = true,
+        }
+    }
+
+    fn put_all(&mut self, bytes: &[u8]) {
+        if self.bytes.extend_from_slice(bytes).is_err() {
+            self.lacks_memory = true;
+        }
+    }
+
+    /// The value of a hexadecimal digit.
+    fn digit(&mut self, byte: u8) -> u8 {
+        match byte {
+            b'0'..=b'9' => byte - b'0',
+            b'a'..=b'f' => byte - b'a' + 10,
+            _ => {
+                self.is_wrong = true;
+                0
+            }
+        }
     }
 }

@@ -1,14 +1,16 @@
 //! Lines of tables: texts with escapes, their fields, and why a line has no answer; and lines of cases, in which things are compared.
 #![tactic(auto)]
 
+mod answer;
 mod cases;
 mod escapes;
 mod fault;
 mod fields;
 mod lines;
 
-pub use cases::{Case, put_case};
+pub use answer::Answer;
+pub use cases::{Case, put_case, put_cases};
 pub use escapes::unescape;
 pub use fault::LineFault;
-pub use fields::{digest, first_field, hex_bytes, number};
+pub use fields::{Fields, digest, first_field, hex_bytes, number, two_sources};
 pub use lines::{print_answer, told};

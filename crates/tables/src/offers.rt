@@ -5,28 +5,19 @@ ghost use Rattle.calculus.specs.Shape.{only};
 ghost use Rattle.rho_term.specs.Parts.{part_tree};
 
 use crate::texts::read_term;
-use calculus::Digest;
+use calculus::{Digest, Kind};
 use capped_work::{EvalStop, Priced};
 use name_seed::{Seed, bytes_digest};
 use price_table::Prices;
-use rho_term::{Op, Part, Term};
-use std::alloc::Global;
-use table_lines::{LineFault, first_field, number, unescape};
+use rho_term::{Op, Part, Term, TermBind};
+use std::alloc::{AllocError, Global};
+use table_lines::{Answer, Fields, LineFault, two_sources, unescape};
 use term_encoder::{encode_part, encode_term};
 use unfold::{unfold, unfold_body};
 
-/// The answer to a line of this kind with these fields.
-pub fn answer(alloc: Global, word: &str, fields: &str) -> Result<String, LineFault> {
-    match word {
-        "unfold" => offers(alloc, fields),
-        "unfold-body" => body_offers(alloc, fields),
-        _ => Err(LineFault::Kind),
-    }
-}
-
 /// The price of what a source offers to the empty state under the standard prices, and the codes of its rows; or its
 /// first fault.
-fn offers(alloc: Global, source: &str) -> Result<String, LineFault> {
+pub fn offers(alloc: Global, source: &str) -> Result<String, LineFault> {
     let seed = start_seed(alloc, source)?;
     let term = read_term(alloc, source)?;
     told(
@@ -37,10 +28,10 @@ fn offers(alloc: Global, source: &str) -> Result<String, LineFault> {
 
 /// The same of the body of a receive with values in place of its variables, under a cap. The seed is that of the
 /// receive's source. The fields are the cap, and the sources of the receive and of the values with ` <=> ` between them.
-fn body_offers(alloc: Global, fields: &str) -> Result<String, LineFault> {
-    let (cap, sources) = first_field(fields)?;
-    let (receive, values) = sources.split_once(" <=> ").ok_or(LineFault::Field)?;
-    let cap = number(cap)?;
+pub fn body_offers(alloc: Global, fields: &str) -> Result<String, LineFault> {
+    let mut fields = Fields::new(fields);
+    let cap = fields.number();
+    let (receive, values) = two_sources(fields.rest()?)?;
     let seed = start_seed(alloc, receive)?;
     let receive = read_term(alloc, receive)?;
     let values = read_values(alloc, values)?;
@@ -116,76 +107,74 @@ fn told(alloc: Global, done: Result<Priced<Vec<Op>>, EvalStop>) -> Result<String
 }
 
 fn told_rows(alloc: Global, done: Priced<Vec<Op>>) -> Result<String, LineFault> {
-    let mut told = format!(in alloc; "price {}", done.price)?;
-    match push_rows(alloc, &mut told, done.value) {
-        Ok(()) => Ok(told),
-        Err(fault) => Err(fault),
+    let mut answer = Answer::new(alloc);
+    answer.put("price ");
+    answer.put_number(done.price);
+    for row in done.value {
+        put_row(alloc, &mut answer, row);
     }
+    answer.text()
 }
 
-fn push_rows(alloc: Global, told: &mut String, rows: Vec<Op>) -> Result<(), LineFault> {
-    for row in rows {
-        push_row(alloc, told, row)?;
-    }
-    Ok(())
-}
-
-fn push_hex(alloc: Global, told: &mut String, bytes: &[u8]) -> Result<(), LineFault> {
-    told.push_str(hex::encode(alloc, bytes)?.as_str())?;
-    Ok(())
-}
-
-fn push_row(alloc: Global, told: &mut String, row: Op) -> Result<(), LineFault> {
+fn put_row(alloc: Global, answer: &mut Answer, row: Op) {
     match row {
         Op::Produce {
             id,
             channel,
             args,
             persistent,
-        } => push_send(alloc, told, &id, &channel, args.as_slice(), persistent),
+        } => {
+            put_id(answer, " 01", &id);
+            put_send(alloc, answer, &channel, args.as_slice(), persistent);
+        }
         Op::Consume {
             id,
             kind,
             binds,
             body,
         } => {
-            let code = encode_part(alloc, &Part::Receive { kind, binds, body })?;
-            push_receive(alloc, told, &id, code.as_slice())
+            put_id(answer, " 02", &id);
+            put_receive(alloc, answer, kind, binds, body);
         }
     }
 }
 
-// The id of a receive, and its code without the tag.
-fn push_receive(
-    alloc: Global,
-    told: &mut String,
-    id: &Digest,
-    code: &[u8],
-) -> Result<(), LineFault> {
-    told.push_str(" 02")?;
-    push_hex(alloc, told, id.0.as_slice())?;
-    match code.split_first() {
-        Some((_, rest)) => push_hex(alloc, told, rest),
-        None => Err(LineFault::Field),
+fn put_id(answer: &mut Answer, tag: &str, id: &Digest) {
+    answer.put(tag);
+    answer.put_hex(id.0.as_slice());
+}
+
+// The code of a receive without its tag.
+fn put_receive(alloc: Global, answer: &mut Answer, kind: Kind, binds: Vec<TermBind>, body: Term) {
+    let part = Part::Receive { kind, binds, body };
+    let code = encode_part(alloc, &part);
+    put_untagged(answer, let_go(part, code));
+}
+
+// The second value, where the first is no longer wanted.
+fn let_go<T: Drop, U>(_value: T, kept: U) -> U {
+    kept
+}
+
+fn put_untagged(answer: &mut Answer, code: Result<Vec<u8>, AllocError>) {
+    match code {
+        Ok(code) => put_rest(answer, code.as_slice()),
+        Err(_) => answer.lack_memory(),
     }
 }
 
-fn push_send(
-    alloc: Global,
-    told: &mut String,
-    id: &Digest,
-    channel: &Term,
-    args: &[Term],
-    persistent: bool,
-) -> Result<(), LineFault> {
-    told.push_str(" 01")?;
-    push_hex(alloc, told, id.0.as_slice())?;
-    push_hex(alloc, told, encode_term(alloc, channel)?.as_slice())?;
-    told.push_str(if persistent { "01" } else { "00" })?;
-    let count = (args.len() as u64).to_be_bytes();
-    push_hex(alloc, told, &count[4..])?;
-    for arg in args {
-        push_hex(alloc, told, encode_term(alloc, arg)?.as_slice())?;
+fn put_rest(answer: &mut Answer, code: &[u8]) {
+    if let Some((_, rest)) = code.split_first() {
+        answer.put_hex(rest);
     }
-    Ok(())
+}
+
+fn put_send(alloc: Global, answer: &mut Answer, channel: &Term, args: &[Term], persistent: bool) {
+    answer.put_hex_of(encode_term(alloc, channel));
+    answer.put(if persistent { "01" } else { "00" });
+    let count = (args.len() as u64).to_be_bytes();
+    answer.put_hex(&count[4..]);
+    for arg in args {
+        answer.put_hex_of(encode_term(alloc, arg));
+    }
 }

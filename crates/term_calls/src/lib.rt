@@ -2,6 +2,7 @@
 #![tactic(auto)]
 
 mod made_terms;
+mod maker;
 mod names;
 
 use std::alloc::Global;

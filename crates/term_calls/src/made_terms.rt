@@ -1,141 +1,112 @@
-//! Terms that no source spells: those of great height, copies, and a tuple without members.
-use calculus::{Digest, Ground, Kind};
+//! Cases of terms that no source spells: those of great height, copies, and a tuple without members.
+use crate::maker::Maker;
+use calculus::{Digest, Ground};
 use code_order::make_par;
-use rho_term::{Op, Part, PatPart, Term, TermBind, TermPat, TermRest};
+use rho_term::{Op, Part, PatPart, Term, TermPat};
 use std::alloc::{AllocError, Global};
 use substituted_sizes::put_size;
 use substitution::{renumber_body, substitute};
-use table_lines::{Case, LineFault, put_case};
+use table_lines::{Case, LineFault, put_cases};
 use term_encoder::{code_len, encode_term};
 
-fn int(alloc: Global, n: i64) -> Result<Term, AllocError> {
-    Term::from_part(alloc, Part::Ground(Ground::Int(n)))
-}
-
-fn one(alloc: Global, part: Part) -> Result<Term, AllocError> {
-    let mut parts = Vec::new(alloc);
-    parts.push(part)?;
-    make_par(alloc, parts)
-}
-
-fn terms_of(alloc: Global, term: Term) -> Result<Vec<Term>, AllocError> {
-    let mut terms = Vec::new(alloc);
-    terms.push(term)?;
-    Ok(terms)
-}
-
-// A number inside so many lists.
-fn in_lists(alloc: Global, count: u32) -> Result<Term, AllocError> {
-    let mut term = int(alloc, 1)?;
-    for _ in 0..count {
-        term = one(alloc, Part::List(terms_of(alloc, term)?))?;
-    }
-    Ok(term)
-}
-
-fn deep_lists_are_made(alloc: Global) -> Result<Case, AllocError> {
+fn deep_lists_are_made(make: &mut Maker) -> Case {
     let mut case = Case::new();
-    case.must(in_lists(alloc, 400)?.height() == 400);
-    Ok(case)
+    case.must(make.in_lists(400).height() == 400);
+    case
 }
 
-fn deep_values_are_put_in(alloc: Global) -> Result<Case, AllocError> {
+// Whether values put into a body come to this height, as is foretold, and to the length that is foretold.
+fn must_come_to(case: &mut Case, make: &mut Maker, body: &Term, values: &[Term], height: u32) {
+    let made = substitute(make.alloc, body, values);
+    let term = make.kept(made);
+    case.must(term.height() == height);
+    case.must(put_size(body, values) == (height, code_len(&term)));
+}
+
+fn deep_values_are_put_in(make: &mut Maker) -> Case {
     let mut case = Case::new();
-    let values = terms_of(alloc, in_lists(alloc, 400)?)?;
-    let mut items = terms_of(alloc, one(alloc, Part::Var(0))?)?;
-    items.push(one(alloc, Part::Var(0))?)?;
-    let body = one(alloc, Part::List(items))?;
-    let term = substitute(alloc, &body, values.as_slice())?;
-    case.must(term.height() == 401);
-    case.must(put_size(&body, values.as_slice()) == (401, code_len(&term)));
-    Ok(case)
+    let value = make.in_lists(400);
+    let values = make.list(value);
+    let first = make.one(Part::Var(0));
+    let second = make.one(Part::Var(0));
+    let mut items = make.list(first);
+    make.add(&mut items, second);
+    let body = make.one(Part::List(items));
+    must_come_to(&mut case, make, &body, values.as_slice(), 401);
+    case
 }
 
-// Sets of two members, nested 300 deep around a process.
-fn in_sets(alloc: Global, inner: Term) -> Result<Term, AllocError> {
-    let mut term = inner;
-    for n in 0..300_i64 {
-        let mut members = terms_of(alloc, term)?;
-        members.push(int(alloc, n)?)?;
-        term = one(alloc, Part::Set(members))?;
-    }
-    Ok(term)
-}
-
-fn values_are_put_into_deep_sets(alloc: Global) -> Result<Case, AllocError> {
+fn values_are_put_into_deep_sets(make: &mut Maker) -> Case {
     let mut case = Case::new();
-    let body = in_sets(alloc, one(alloc, Part::Var(0))?)?;
-    let values = terms_of(alloc, in_sets(alloc, int(alloc, 5)?)?)?;
-    let term = substitute(alloc, &body, values.as_slice())?;
-    case.must(term.height() == 600);
-    case.must(put_size(&body, values.as_slice()) == (600, code_len(&term)));
-    Ok(case)
+    let variable = make.one(Part::Var(0));
+    let body = make.in_sets(variable);
+    let five = make.int(5);
+    let value = make.in_sets(five);
+    let values = make.list(value);
+    must_come_to(&mut case, make, &body, values.as_slice(), 600);
+    case
 }
 
-fn deep_lists_are_copied(alloc: Global) -> Result<Case, AllocError> {
+fn deep_lists_are_copied(make: &mut Maker) -> Case {
     let mut case = Case::new();
-    let mut term = int(alloc, 1)?;
+    let mut term = make.int(1);
     for _ in 0..400 {
-        term = Term::from_part(alloc, Part::List(terms_of(alloc, term)?))?;
+        let members = make.list(term);
+        let made = Term::from_part(make.alloc, Part::List(members));
+        term = make.kept(made);
     }
-    let copy = term.copy(alloc)?;
+    let copy = term.copy(make.alloc);
+    let copy = make.kept(copy);
     case.must(copy.height() == 400);
     case.must(copy.parts().len() == 1);
-    Ok(case)
+    case
 }
 
-// The bind of `@[x, ...@r]` on the number 1.
-fn bind(alloc: Global) -> Result<TermBind, AllocError> {
-    let mut inner = Vec::new(alloc);
-    inner.push(PatPart::Var)?;
-    let mut members = Vec::new(alloc);
-    members.push(TermPat::new(inner))?;
-    let mut outer = Vec::new(alloc);
-    outer.push(PatPart::List(members, TermRest::Var))?;
-    let mut pats = Vec::new(alloc);
-    pats.push(TermPat::new(outer))?;
-    let channel = int(alloc, 1)?;
-    let rest = TermRest::No;
-    Ok(TermBind {
-        pats,
-        rest,
-        channel,
-    })
-}
-
-fn copy_bind(alloc: Global, case: &mut Case) -> Result<(), AllocError> {
-    let copy = bind(alloc)?.copy(alloc)?;
-    case.must(copy.pats.len() == 1);
-    Ok(())
+fn copy_bind(make: &mut Maker, case: &mut Case) {
+    let bind = make.bind();
+    match bind.copy(make.alloc) {
+        Ok(copy) => case.must(copy.pats.len() == 1),
+        Err(_) => make.lacks_memory = true,
+    }
 }
 
 fn is_fresh(part: &Part) -> bool {
     matches!(part, Part::Fresh(_))
 }
 
-fn copy_part(alloc: Global, case: &mut Case) -> Result<(), AllocError> {
+fn copy_fresh(alloc: Global, case: &mut Case) -> Result<(), AllocError> {
     let fresh = Box::new(alloc, Part::Fresh(Digest([7; 32])))?;
     let part = Box::new(alloc, fresh.copy(alloc)?)?;
-    let term = Term::from_part(alloc, Part::List(Vec::new(alloc)))?;
-    case.must(term.into_parts().len() == 1);
     case.must(is_fresh(&part));
     Ok(())
 }
 
-fn copy_pattern(alloc: Global, case: &mut Case) -> Result<(), AllocError> {
+fn copy_part(make: &mut Maker, case: &mut Case) {
+    let made = Term::from_part(make.alloc, Part::List(Vec::new(make.alloc)));
+    let term = make.kept(made);
+    case.must(term.into_parts().len() == 1);
+    let done = copy_fresh(make.alloc, case);
+    make.take_up(done);
+}
+
+fn copied_pattern(alloc: Global) -> Result<TermPat, AllocError> {
     let mut parts = Vec::new(alloc);
     parts.push(PatPart::Wild)?;
-    let pat = TermPat::new(parts).copy(alloc)?;
-    case.must(pat.parts().len() == 1);
-    Ok(())
+    TermPat::new(parts).copy(alloc)
+}
+
+fn copy_pattern(make: &mut Maker, case: &mut Case) {
+    match copied_pattern(make.alloc) {
+        Ok(copy) => case.must(copy.parts().len() == 1),
+        Err(_) => make.lacks_memory = true,
+    }
 }
 
 fn is_produce(op: &Op) -> bool {
     matches!(op, Op::Produce { .. })
 }
 
-fn make_operation(alloc: Global, case: &mut Case) -> Result<(), AllocError> {
-    let channel = int(alloc, 1)?;
+fn make_operation(alloc: Global, case: &mut Case, channel: Term) -> Result<(), AllocError> {
     let op = Op::Produce {
         id: Digest([0; 32]),
         channel,
@@ -147,131 +118,92 @@ fn make_operation(alloc: Global, case: &mut Case) -> Result<(), AllocError> {
     Ok(())
 }
 
-fn copies_are_made(alloc: Global) -> Result<Case, AllocError> {
+fn copies_are_made(make: &mut Maker) -> Case {
     let mut case = Case::new();
-    copy_bind(alloc, &mut case)?;
-    copy_part(alloc, &mut case)?;
-    copy_pattern(alloc, &mut case)?;
-    make_operation(alloc, &mut case)?;
-    Ok(case)
+    copy_bind(make, &mut case);
+    copy_part(make, &mut case);
+    copy_pattern(make, &mut case);
+    let channel = make.int(1);
+    let done = make_operation(make.alloc, &mut case, channel);
+    make.take_up(done);
+    case
 }
 
-// Whether the code of a term has these digits.
-fn has_code(alloc: Global, term: &Term, digits: &str) -> Result<bool, AllocError> {
-    let code = encode_term(alloc, term)?;
-    let spelt = hex::encode(alloc, code.as_slice())?;
-    Ok(spelt.as_str() == digits)
+// The digits of the code of a term must be these.
+fn must_have_code(case: &mut Case, make: &mut Maker, term: &Term, digits: &str) {
+    let code = hex_code(make.alloc, term);
+    match code {
+        Ok(spelt) => case.must(spelt.as_str() == digits),
+        Err(_) => make.lacks_memory = true,
+    }
+}
+
+fn hex_code(alloc: Global, term: &Term) -> Result<String, AllocError> {
+    hex::encode(alloc, encode_term(alloc, term)?.as_slice())
 }
 
 // The code is that of an independent implementation of the format.
-fn a_tuple_without_members_stands_after_a_number(alloc: Global) -> Result<Case, AllocError> {
+fn a_tuple_without_members_stands_after_a_number(make: &mut Maker) -> Case {
     let mut case = Case::new();
-    let mut parts = Vec::new(alloc);
-    parts.push(Part::Tuple(Vec::new(alloc)))?;
-    parts.push(Part::Ground(Ground::Int(1)))?;
-    let term = make_par(alloc, parts)?;
-    case.must(has_code(alloc, &term, "000000021180000000000000012100000000")?);
-    Ok(case)
+    let members = Vec::new(make.alloc);
+    let mut parts = make.list(Part::Tuple(members));
+    make.add(&mut parts, Part::Ground(Ground::Int(1)));
+    let made = make_par(make.alloc, parts);
+    let term = make.kept(made);
+    let digits = "000000021180000000000000012100000000";
+    must_have_code(&mut case, make, &term, digits);
+    case
 }
 
-// @3!(..) with the process variables of these indices.
-fn variables_sent(alloc: Global, indices: &[u32]) -> Result<Term, AllocError> {
-    let mut args = Vec::new(alloc);
-    for index in indices {
-        args.push(one(alloc, Part::Var(*index))?)?;
-    }
-    let channel = int(alloc, 3)?;
-    let persistent = false;
-    one(
-        alloc,
-        Part::Send {
-            channel,
-            args,
-            persistent,
-        },
-    )
+// The term in which the first two variables change sides must have a code of these digits.
+fn must_become(case: &mut Case, make: &mut Maker, body: &Term, digits: &str) {
+    let made = renumber_body(make.alloc, body, &[1, 0]);
+    let term = make.kept(made);
+    must_have_code(case, make, &term, digits);
 }
 
-// for (@c <- @1) { body }
-fn received(alloc: Global, body: Term) -> Result<Term, AllocError> {
-    let mut parts = Vec::new(alloc);
-    parts.push(PatPart::Var)?;
-    let mut pats = Vec::new(alloc);
-    pats.push(TermPat::new(parts))?;
-    let rest = TermRest::No;
-    let channel = int(alloc, 1)?;
-    let mut binds = Vec::new(alloc);
-    binds.push(TermBind {
-        pats,
-        rest,
-        channel,
-    })?;
-    let kind = Kind::Linear;
-    one(alloc, Part::Receive { kind, binds, body })
-}
-
-fn variables_are_numbered_anew(alloc: Global) -> Result<Case, AllocError> {
+fn variables_are_numbered_anew(make: &mut Maker) -> Case {
     let mut case = Case::new();
     // @3!(a, b), of which b was bound before a and is now bound after it
-    let body = variables_sent(alloc, &[0, 1])?;
-    let term = renumber_body(alloc, &body, &[1, 0])?;
-    case.must(has_code(
-        alloc,
-        &term,
-        "0000000130000000000111800000000000000300000002000000011600000001000000011600000000",
-    )?);
+    let body = make.variables_sent(&[0, 1]);
+    let digits =
+        "0000000130000000000111800000000000000300000002000000011600000001000000011600000000";
+    must_become(&mut case, make, &body, digits);
     // for (@c <- @1) { @3!(a, b, c) }
-    let body = received(alloc, variables_sent(alloc, &[1, 2, 0])?)?;
-    let term = renumber_body(alloc, &body, &[1, 0])?;
-    case.must(has_code(
-        alloc,
-        &term,
-        "0000000131000000000100000001118000000000000001000000010000000150000000000130000000000111800000000000000300000003000000011600000002000000011600000001000000011600000000",
-    )?);
-    Ok(case)
-}
-
-fn put_deep(alloc: Global, told: &mut String) -> Result<(), LineFault> {
-    put_case(
-        alloc,
-        told,
-        "deep_lists_are_made",
-        deep_lists_are_made(alloc)?,
-    )?;
-    put_case(
-        alloc,
-        told,
-        "deep_values_are_put_in",
-        deep_values_are_put_in(alloc)?,
-    )?;
-    put_case(
-        alloc,
-        told,
-        "values_are_put_into_deep_sets",
-        values_are_put_into_deep_sets(alloc)?,
-    )?;
-    put_case(
-        alloc,
-        told,
-        "deep_lists_are_copied",
-        deep_lists_are_copied(alloc)?,
-    )
+    let sent = make.variables_sent(&[1, 2, 0]);
+    let body = make.received(sent);
+    let digits =
+        "0000000131000000000100000001118000000000000001000000010000000150000000000130000000000111800000000000000300000003000000011600000002000000011600000001000000011600000000";
+    must_become(&mut case, make, &body, digits);
+    case
 }
 
 /// Puts the line of each case.
 pub fn put_all(alloc: Global, told: &mut String) -> Result<(), LineFault> {
-    put_deep(alloc, told)?;
-    put_case(alloc, told, "copies_are_made", copies_are_made(alloc)?)?;
-    put_case(
+    let mut make = Maker {
         alloc,
-        told,
-        "a_tuple_without_members_stands_after_a_number",
-        a_tuple_without_members_stands_after_a_number(alloc)?,
-    )?;
-    put_case(
-        alloc,
-        told,
-        "variables_are_numbered_anew",
-        variables_are_numbered_anew(alloc)?,
-    )
+        lacks_memory: false,
+    };
+    let cases = [
+        ("deep_lists_are_made", deep_lists_are_made(&mut make)),
+        ("deep_values_are_put_in", deep_values_are_put_in(&mut make)),
+        (
+            "values_are_put_into_deep_sets",
+            values_are_put_into_deep_sets(&mut make),
+        ),
+        ("deep_lists_are_copied", deep_lists_are_copied(&mut make)),
+        ("copies_are_made", copies_are_made(&mut make)),
+        (
+            "a_tuple_without_members_stands_after_a_number",
+            a_tuple_without_members_stands_after_a_number(&mut make),
+        ),
+        (
+            "variables_are_numbered_anew",
+            variables_are_numbered_anew(&mut make),
+        ),
+    ];
+    if make.lacks_memory {
+        return Err(LineFault::NoMemory);
+    }
+    put_cases(alloc, told, cases.as_slice())
 }

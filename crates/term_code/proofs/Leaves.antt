@@ -1,5 +1,5 @@
 -- Parts without constituents, patterns, and what they bind.
-use Rattle.std.proofs.Common.{◌≡◌, ℕ, ◌+◌, ◌≤◌, ◌<◌, List, [], ◌∷◌, ◌++◌, refl, ap, sym, ◌∙◌, subst, arith, append_assoc, append-nil}
+use Rattle.std.proofs.Common.{◌≡◌, ℕ, ◌+◌, ◌≤◌, ◌<◌, List, [], ◌∷◌, ◌++◌, refl, ap, sym, ◌∙◌, arith, append_assoc, append-nil}
 use Rattle.std.proofs.lemmas.List.{map-append}
 use Rattle.calculus.specs.Bytes.{be32}
 use Rattle.calculus.specs.Kinds.{rest_number, rights_number, simple_number}
@@ -23,9 +23,6 @@ use Rattle.code_faults.proofs.BegunPats.{free-two}
 use Rattle.code_faults.proofs.Forms.{two-codes}
 use Rattle.code_faults.proofs.Names.{to_name_pat}
 use Rattle.term_code.proofs.Formed.{one-code, tagged}
-
-pub reads-room : {s : Sort} {v : Scope} {t : Tree} {a c : List ℕ} {m n : ℕ} → m ≡ n → Reads s v m t a c → Reads s v n t a c
-reads-room {s = s} {v = v} {t = t} {a = a} {c = c} e h = subst (λ (k : ℕ). Reads s v k t a c) e h
 
 -- a pattern of processes is one of the names that they are
 pub name-read : {v : Scope} {room : ℕ} {t : Tree} {a c : List ℕ} → Reads pat v room t a c → Reads name_pat v room t a c

@@ -175,15 +175,24 @@ fn read_pat_form(
         (senses_of found.old.items) (senses_of found.new.items) (tag ∷ reader.old.input.now) reader.new.input.now
         (pat_part_tree p)) (Fails binds pat_part (scope_of scope.now.items) (room + 1) (tag ∷ reader.old.input.now)) }
 {
+    let any = PatRow {
+        least: 0,
+        most: u32::MAX,
+        binds,
+    };
     match tag {
         0x20 => {
-            let members = read_pats(reader, 0, u32::MAX, binds, scope, found, room)?;
+            let members = read_pats(reader, any, scope, found, room)?;
             let rest = reader.bound_remainder(binds, found)?;
             Ok(PatPart::List(members, rest))
         }
-        0x21 => Ok(PatPart::Tuple(read_pats(reader, 1, u32::MAX, binds, scope, found, room)?)),
+        0x21 => {
+            let row = PatRow { least: 1, ..any };
+            Ok(PatPart::Tuple(read_pats(reader, row, scope, found, room)?))
+        }
         0x22 => {
-            let members = read_pats(reader, 0, 8, binds, scope, found, room)?;
+            let row = PatRow { most: 8, ..any };
+            let members = read_pats(reader, row, scope, found, room)?;
             let rest = reader.bound_remainder(binds, found)?;
             Ok(PatPart::Set(members, rest))
         }
@@ -195,7 +204,7 @@ fn read_pat_form(
         0x30 => {
             let persistent = reader.boolean()?;
             let channel = read_name_pat(reader, binds, scope, found, room)?;
-            let args = read_pats(reader, 0, u32::MAX, binds, scope, found, room)?;
+            let args = read_pats(reader, any, scope, found, room)?;
             Ok(PatPart::Send {
                 channel,
                 args,
@@ -207,6 +216,27 @@ fn read_pat_form(
             let body = read_free_pat(reader, scope, room)?;
             Ok(PatPart::Bundle { rights, body })
         }
+        _ => read_connective(reader, tag, binds, scope, found, room),
+    }
+}
+
+// A process as it is, or patterns under a connective.
+#[cycle(read)]
+fn read_connective(
+    reader: &mut Reader<'_>,
+    tag: u8,
+    binds: bool,
+    scope: &Vec<Sense>,
+    found: &mut Vec<Sense>,
+    room: u32,
+) -> Result<PatPart, ReadFault>
+    requires form { is_pat_form_tag tag ≡ true }
+    requires later { 0x34 < tag }
+    ensures { Comes result (λ p. ReadsPatPart binds pat_part (scope_of scope.now.items) (room + 1)
+        (senses_of found.old.items) (senses_of found.new.items) (tag ∷ reader.old.input.now) reader.new.input.now
+        (pat_part_tree p)) (Fails binds pat_part (scope_of scope.now.items) (room + 1) (tag ∷ reader.old.input.now)) }
+{
+    match tag {
         0x53 => Ok(PatPart::Same(read_term(reader, scope, room)?)),
         0x54 => {
             let left = read_pat(reader, binds, scope, found, room)?;
@@ -239,26 +269,32 @@ fn read_free_pat(
     read_pat(reader, false, scope, &mut found, room)
 }
 
-// From `least` to `most` patterns.
-#[cycle(read)]
-fn read_pats(
-    reader: &mut Reader<'_>,
+// A row of patterns: from `least` to `most` of them. Where `binds` is false they may bind no variable.
+#[derive(Clone, Copy)]
+struct PatRow {
     least: u32,
     most: u32,
     binds: bool,
+}
+
+// The patterns of such a row. What they bind is added to `found`.
+#[cycle(read)]
+fn read_pats(
+    reader: &mut Reader<'_>,
+    row: PatRow,
     scope: &Vec<Sense>,
     found: &mut Vec<Sense>,
     room: u32,
 ) -> Result<Vec<TermPat>, ReadFault>
-    requires { least ≤ most }
-    ensures { Comes result (λ ts. ReadsPats binds pat (scope_of scope.now.items) room least most
+    requires { row.least ≤ row.most }
+    ensures { Comes result (λ ts. ReadsPats row.binds pat (scope_of scope.now.items) room row.least row.most
         (senses_of found.old.items) (senses_of found.new.items) reader.old.input.now reader.new.input.now ts.items)
-        (FailsRow binds pat (scope_of scope.now.items) room least most reader.old.input.now) }
+        (FailsRow row.binds pat (scope_of scope.now.items) room row.least row.most reader.old.input.now) }
 {
-    let count = reader.number(least, most)?;
+    let count = reader.number(row.least, row.most)?;
     let mut pats = reader.list(count);
     for _i in 0..count {
-        let pat = read_pat(reader, binds, scope, found, room)?;
+        let pat = read_pat(reader, row.binds, scope, found, room)?;
         pats.push(pat)?;
     }
     Ok(pats)

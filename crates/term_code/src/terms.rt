@@ -1,5 +1,5 @@
 // Reading of processes: one function for each sort of constituent.
-ghost use Rattle.std.specs.Prelude.{◌≡◌, ◌∷◌, ◌++◌, ◌+◌, map, IfOk, replicate, true, false};
+ghost use Rattle.std.specs.Prelude.{◌≡◌, ◌∷◌, ◌++◌, ◌+◌, ◌≤◌, ◌<◌, map, IfOk, replicate, true, false};
 ghost use Rattle.calculus.specs.Form.{term, part, a_bind, a_case, pair_of};
 ghost use Rattle.rho_term.specs.Parts.{part_tree, pair_tree, bind_tree, case_tree};
 ghost use Rattle.code_faults.specs.Scopes.{scope_of, senses_of};
@@ -86,6 +86,26 @@ fn read_form(
         0x21 => Ok(Part::Tuple(read_terms(reader, 1, scope, room)?)),
         0x22 => Ok(Part::Set(read_members(reader, scope, room)?)),
         0x23 => Ok(Part::Map(read_pairs(reader, scope, room)?)),
+        0x30..=0x34 => read_process(reader, tag, scope, room),
+        _ => read_operation(reader, tag, scope, room),
+    }
+}
+
+// A send, a receive, a `new`, a `match` or a bundle.
+#[cycle(read)]
+fn read_process(
+    reader: &mut Reader<'_>,
+    tag: u8,
+    scope: &Vec<Sense>,
+    room: u32,
+) -> Result<Part, ReadFault>
+    requires low { 0x30 ≤ tag }
+    requires high { tag ≤ 0x34 }
+    ensures { Comes result (λ p. ReadsPart part (scope_of scope.now.items) (room + 1) (tag ∷ reader.old.input.now)
+        reader.new.input.now (part_tree p)) (Fails true part (scope_of scope.now.items) (room + 1)
+        (tag ∷ reader.old.input.now)) }
+{
+    match tag {
         0x30 => {
             let persistent = reader.boolean()?;
             let channel = read_term(reader, scope, room)?;
@@ -114,11 +134,29 @@ fn read_form(
             let cases = read_cases(reader, scope, room)?;
             Ok(Part::Match { target, cases })
         }
-        0x34 => {
+        _ => {
             let rights = reader.rights()?;
             let body = read_term(reader, scope, room)?;
             Ok(Part::Bundle { rights, body })
         }
+    }
+}
+
+// An operator or a method.
+#[cycle(read)]
+fn read_operation(
+    reader: &mut Reader<'_>,
+    tag: u8,
+    scope: &Vec<Sense>,
+    room: u32,
+) -> Result<Part, ReadFault>
+    requires form { is_form_tag tag ≡ true }
+    requires later { 0x34 < tag }
+    ensures { Comes result (λ p. ReadsPart part (scope_of scope.now.items) (room + 1) (tag ∷ reader.old.input.now)
+        reader.new.input.now (part_tree p)) (Fails true part (scope_of scope.now.items) (room + 1)
+        (tag ∷ reader.old.input.now)) }
+{
+    match tag {
         0x40 => {
             let op = reader.unary_op()?;
             let arg = read_term(reader, scope, room)?;
@@ -180,8 +218,8 @@ fn read_members<'a>(
         let start = reader.input;
         check_order(last, start)?;
         let term = read_term(reader, scope, room)?;
-        last = reader.read_since(start, last)?;
         terms.push(term)?;
+        last = reader.read_since(start, last)?;
     }
     Ok(terms)
 }
@@ -205,8 +243,8 @@ fn read_pairs<'a>(
         check_order(last, start)?;
         let key = read_term(reader, scope, room)?;
         let value = read_term(reader, scope, room)?;
-        last = reader.read_since(start, last)?;
         pairs.push((key, value))?;
+        last = reader.read_since(start, last)?;
     }
     Ok(pairs)
 }

@@ -1,9 +1,9 @@
-use Rattle.std.proofs.Common.{◌≡◌, ◌≤◌, cond, eqb, ltb, [], ◌*◌, ◌+◌, ◌++◌, map, length, max, codes, string_bytes, refl, sym, ap, subst, ◌∙◌, arith}
+use Rattle.std.proofs.Common.{◌≡◌, ◌≤◌, cond, eqb, ltb, [], ◌*◌, ◌+◌, ◌++◌, map, length, max, codes, sym, ap, subst, ◌∙◌, arith, le_trans, le_refl}
 use Rattle.std.proofs.lemmas.List.{length-map}
 use Rattle.std.proofs.lemmas.Bool.{eqb-true, eqb-false}
 use Rattle.std.proofs.lemmas.Result.{IfOk-weaker}
 use Rattle.calculus.specs.Form.{term, part, a_bind, a_case, pat, name_pat, pat_part, name_part, pair_of, all}
-use Rattle.calculus.specs.Tree.{row, list, tuple, set, dict, send, receive, new, match, bundle, unary, binary, method, rest, weight, weights, trees}
+use Rattle.calculus.specs.Tree.{row, list, tuple, set, dict, send, receive, new, match, unary, method, rest, weight, weights, trees}
 use Rattle.rho_term.specs.Normal.{IsNormal, IsOrdered}
 use Rattle.rho_term.specs.Parts.{part_tree, pat_part_tree, pair_tree, bind_tree, case_tree}
 use Rattle.calculus.proofs.Formed.{Formed, Holds}
@@ -15,12 +15,13 @@ use Rattle.calculus.specs.Variables.{bound, bound_all}
 use Rattle.calculus.specs.Printed.{braced, operand_text, separated, variable_text, marks, rights_text}
 use Rattle.calculus.specs.Texts.{to_hex}
 use Rattle.rho_printer.proofs.Forms.{after, shown, nil-writes, process-writes, list-writes, tuple-writes, set-writes, map-writes, pair-writes, send-writes, receive-writes, new-writes, match-writes, bundle-writes, not-writes, neg-writes, binary-writes, method-writes}
-use Rattle.rho_printer.proofs.PatternForms.{pat_formed, nil_pattern-text, nil_pattern-bound, pattern-parts, pattern-text, pattern-bound, name_pattern-text, two-bound, one-bound, both-text, either-text, not-text, same-text, list_pattern-text, set_pattern-text, map_pattern-text, pair_pattern-writes, members-writes, left-writes, pattern_tuple-text, pattern_send-text, pattern_bundle-text}
+use Rattle.rho_printer.proofs.PatternForms.{pat_formed, nil_pattern-text, nil_pattern-bound, pattern-parts, pattern-text, pattern-bound, name_pattern-text, two-bound, one-bound, both-text, either-text, not-text, same-text, list_pattern-text, set_pattern-text, map_pattern-text, pair_pattern-writes, tuple_pattern-writes, tuple_pattern-bound, members-writes, left-writes, pattern_send-text, pattern_bundle-text}
 use Rattle.rho_printer.proofs.BindForms.{bind-writes, bind-bound, case-writes, closed-writes, closed-bound, ground-text, ground_pattern-text, ground-bound}
 use Rattle.rho_printer.proofs.Rows.{nothing_more}
 use Rattle.rho_printer.proofs.Moving.{same_writes, same_part, same_pattern, same_next}
 use Rattle.rho_printer.proofs.Singles.{name-others, name-quoted, name_variable-text, fresh_name-text}
 use Rattle.rho_printer.proofs.Lists.{at_start, goes_on, at_end, at_start_from, goes_on_from, at_end_from, taken_at, taken_of, none_left, none_left_of}
+use Rattle.rho_printer.proofs.Growing.{longer, no_shorter, no_less, room-later, room-same, room-one, room-rest}
 use Rattle.rho_printer.proofs.+print.Goals as goal
 
 pub terms::put_parts-loop-i-init : goal.terms::put_parts-loop-i-init
@@ -33,11 +34,10 @@ terms::put_parts-put_part-requires t c =
     (omega (arith, w), (omega (arith, c.in_ok-separate.ensures.grows), o))
 
 pub terms::put_parts-loop-i-preserved : goal.terms::put_parts-loop-i-preserved
-terms::put_parts-loop-i-preserved t c =
-    (omega (arith, c.in_ok-separate.ensures.grows, c.in_ok-put_part.ensures.grows), goes_on (λ u n. text_of part u c.args.depth n) part (codes " | ") (map part_tree c.args.parts.now) c.loop-i.i (part_tree c.index-parts-i.result) _ _ _ _ c.loop-i.invariant.1 (taken_of part_tree c.args.parts.now c.loop-i.i c.index-parts-i.result c.loop-i-test.true c.index-parts-i.is) c.in_ok-separate.ensures.text c.in_ok-put_part.ensures.text)
+terms::put_parts-loop-i-preserved t c = (omega (arith, c.in_ok-separate.ensures.grows, c.in_ok-put_part.ensures.grows), goes_on (λ u n. text_of part u c.args.depth n) part (codes " | ") (map part_tree c.args.parts.now) c.loop-i.i (part_tree c.index-parts-i.result) _ _ _ _ c.loop-i.invariant.1 (taken_of part_tree c.args.parts.now c.loop-i.i c.index-parts-i.result c.loop-i-test.true c.index-parts-i.is) c.in_ok-separate.ensures.text c.in_ok-put_part.ensures.text)
 
-pub terms::put_parts-returns-clause-text : goal.terms::put_parts-returns-clause-text
-terms::put_parts-returns-clause-text t c = at_end (λ u n. text_of part u c.args.depth n) part (codes " | ") (map part_tree c.args.parts.now) c.loop-i.i _ _ c.loop-i.invariant.1 (none_left_of part_tree c.args.parts.now c.loop-i.i c.loop-i-test.false)
+pub terms::put_parts-returns : goal.terms::put_parts-returns
+terms::put_parts-returns t c = record { text = at_end (λ u n. text_of part u c.args.depth n) part (codes " | ") (map part_tree c.args.parts.now) c.loop-i.i _ _ c.loop-i.invariant.1 (none_left_of part_tree c.args.parts.now c.loop-i.i c.loop-i-test.false); grows = c.loop-i.invariant.0 }
 
 pub terms::put_terms-loop-i-init : goal.terms::put_terms-loop-i-init
 terms::put_terms-loop-i-init t c = (omega arith, at_start (λ u n. text_of term u c.args.depth n) term (codes ", ") c.args.items.now _)
@@ -48,11 +48,10 @@ terms::put_terms-put_term-requires t c =
     (omega (arith, w), omega (arith, c.in_ok-separate.ensures.grows))
 
 pub terms::put_terms-loop-i-preserved : goal.terms::put_terms-loop-i-preserved
-terms::put_terms-loop-i-preserved t c =
-    (omega (arith, c.in_ok-separate.ensures.grows, c.in_ok-put_term.ensures.grows), goes_on (λ u n. text_of term u c.args.depth n) term (codes ", ") c.args.items.now c.loop-i.i c.index-items-i.result _ _ _ _ c.loop-i.invariant.1 (taken_at c.args.items.now c.loop-i.i c.index-items-i.result c.loop-i-test.true c.index-items-i.is) c.in_ok-separate.ensures.text c.in_ok-put_term.ensures.text)
+terms::put_terms-loop-i-preserved t c = (omega (arith, c.in_ok-separate.ensures.grows, c.in_ok-put_term.ensures.grows), goes_on (λ u n. text_of term u c.args.depth n) term (codes ", ") c.args.items.now c.loop-i.i c.index-items-i.result _ _ _ _ c.loop-i.invariant.1 (taken_at c.args.items.now c.loop-i.i c.index-items-i.result c.loop-i-test.true c.index-items-i.is) c.in_ok-separate.ensures.text c.in_ok-put_term.ensures.text)
 
-pub terms::put_terms-returns-clause-text : goal.terms::put_terms-returns-clause-text
-terms::put_terms-returns-clause-text t c = at_end (λ u n. text_of term u c.args.depth n) term (codes ", ") c.args.items.now c.loop-i.i _ _ c.loop-i.invariant.1 (none_left c.args.items.now c.loop-i.i c.loop-i-test.false)
+pub terms::put_terms-returns : goal.terms::put_terms-returns
+terms::put_terms-returns t c = record { text = at_end (λ u n. text_of term u c.args.depth n) term (codes ", ") c.args.items.now c.loop-i.i _ _ c.loop-i.invariant.1 (none_left c.args.items.now c.loop-i.i c.loop-i-test.false); grows = c.loop-i.invariant.0 }
 
 pub terms::put_pairs-loop-i-init : goal.terms::put_pairs-loop-i-init
 terms::put_pairs-loop-i-init t c = (omega arith, at_start (λ u n. text_of (pair_of term) u c.args.depth n) (pair_of term) (codes ", ") (map pair_tree c.args.items.now) _)
@@ -63,11 +62,10 @@ terms::put_pairs-put_pair-requires t c =
     (omega (arith, w), omega (arith, c.in_ok-separate.ensures.grows))
 
 pub terms::put_pairs-loop-i-preserved : goal.terms::put_pairs-loop-i-preserved
-terms::put_pairs-loop-i-preserved t c =
-    (omega (arith, c.in_ok-separate.ensures.grows, c.in_ok-put_pair.ensures.grows), goes_on (λ u n. text_of (pair_of term) u c.args.depth n) (pair_of term) (codes ", ") (map pair_tree c.args.items.now) c.loop-i.i (pair_tree c.index-items-i.result) _ _ _ _ c.loop-i.invariant.1 (taken_of pair_tree c.args.items.now c.loop-i.i c.index-items-i.result c.loop-i-test.true c.index-items-i.is) c.in_ok-separate.ensures.text c.in_ok-put_pair.ensures.text)
+terms::put_pairs-loop-i-preserved t c = (omega (arith, c.in_ok-separate.ensures.grows, c.in_ok-put_pair.ensures.grows), goes_on (λ u n. text_of (pair_of term) u c.args.depth n) (pair_of term) (codes ", ") (map pair_tree c.args.items.now) c.loop-i.i (pair_tree c.index-items-i.result) _ _ _ _ c.loop-i.invariant.1 (taken_of pair_tree c.args.items.now c.loop-i.i c.index-items-i.result c.loop-i-test.true c.index-items-i.is) c.in_ok-separate.ensures.text c.in_ok-put_pair.ensures.text)
 
-pub terms::put_pairs-returns-clause-text : goal.terms::put_pairs-returns-clause-text
-terms::put_pairs-returns-clause-text t c = at_end (λ u n. text_of (pair_of term) u c.args.depth n) (pair_of term) (codes ", ") (map pair_tree c.args.items.now) c.loop-i.i _ _ c.loop-i.invariant.1 (none_left_of pair_tree c.args.items.now c.loop-i.i c.loop-i-test.false)
+pub terms::put_pairs-returns : goal.terms::put_pairs-returns
+terms::put_pairs-returns t c = record { text = at_end (λ u n. text_of (pair_of term) u c.args.depth n) (pair_of term) (codes ", ") (map pair_tree c.args.items.now) c.loop-i.i _ _ c.loop-i.invariant.1 (none_left_of pair_tree c.args.items.now c.loop-i.i c.loop-i-test.false); grows = c.loop-i.invariant.0 }
 
 pub binds::put_cases-loop-i-init : goal.binds::put_cases-loop-i-init
 binds::put_cases-loop-i-init t c = (omega arith, at_start (λ u n. text_of a_case u c.args.depth n) a_case (codes " ") (map case_tree c.args.cases.now) _)
@@ -78,11 +76,10 @@ binds::put_cases-put_case-requires t c =
     (omega (arith, w), omega (arith, c.in_ok-separate.ensures.grows))
 
 pub binds::put_cases-loop-i-preserved : goal.binds::put_cases-loop-i-preserved
-binds::put_cases-loop-i-preserved t c =
-    (omega (arith, c.in_ok-separate.ensures.grows, c.in_ok-put_case.ensures.grows), goes_on (λ u n. text_of a_case u c.args.depth n) a_case (codes " ") (map case_tree c.args.cases.now) c.loop-i.i (case_tree c.index-cases-i.result) _ _ _ _ c.loop-i.invariant.1 (taken_of case_tree c.args.cases.now c.loop-i.i c.index-cases-i.result c.loop-i-test.true c.index-cases-i.is) c.in_ok-separate.ensures.text c.in_ok-put_case.ensures.text)
+binds::put_cases-loop-i-preserved t c = (omega (arith, c.in_ok-separate.ensures.grows, c.in_ok-put_case.ensures.grows), goes_on (λ u n. text_of a_case u c.args.depth n) a_case (codes " ") (map case_tree c.args.cases.now) c.loop-i.i (case_tree c.index-cases-i.result) _ _ _ _ c.loop-i.invariant.1 (taken_of case_tree c.args.cases.now c.loop-i.i c.index-cases-i.result c.loop-i-test.true c.index-cases-i.is) c.in_ok-separate.ensures.text c.in_ok-put_case.ensures.text)
 
-pub binds::put_cases-returns-clause-text : goal.binds::put_cases-returns-clause-text
-binds::put_cases-returns-clause-text t c = at_end (λ u n. text_of a_case u c.args.depth n) a_case (codes " ") (map case_tree c.args.cases.now) c.loop-i.i _ _ c.loop-i.invariant.1 (none_left_of case_tree c.args.cases.now c.loop-i.i c.loop-i-test.false)
+pub binds::put_cases-returns : goal.binds::put_cases-returns
+binds::put_cases-returns t c = record { text = at_end (λ u n. text_of a_case u c.args.depth n) a_case (codes " ") (map case_tree c.args.cases.now) c.loop-i.i _ _ c.loop-i.invariant.1 (none_left_of case_tree c.args.cases.now c.loop-i.i c.loop-i-test.false); grows = c.loop-i.invariant.0 }
 
 pub binds::put_binds-loop-i-init : goal.binds::put_binds-loop-i-init
 binds::put_binds-loop-i-init t c = (omega arith, (omega arith, omega (arith, c.requires)), at_start_from (λ u n. bind_text_of c.args.kind u c.args.depth n) a_bind (codes " & ") (map bind_tree c.args.binds.now) c.args.depth _)
@@ -93,14 +90,15 @@ binds::put_binds-put_bind-requires t c =
     (omega (arith, w), (omega (arith, c.loop-i.invariant.1.0), omega (arith, c.in_ok-separate.ensures.grows, c.loop-i.invariant.1.1)))
 
 pub binds::put_binds-loop-i-preserved : goal.binds::put_binds-loop-i-preserved
-binds::put_binds-loop-i-preserved t c =
-    (omega (arith, c.in_ok-separate.ensures.grows, c.in_ok-next.ensures.grows), (omega (arith, c.loop-i.invariant.1.0, c.in_ok-next.ensures.room.0), omega (arith, c.in_ok-next.ensures.room.1)), goes_on_from (λ u n. bind_text_of c.args.kind u c.args.depth n) a_bind (codes " & ") (map bind_tree c.args.binds.now) c.loop-i.i c.loop-i.next _ c.args.depth (bind_tree c.index-binds-i.result) _ _ _ _ c.loop-i.invariant.2 (taken_of bind_tree c.args.binds.now c.loop-i.i c.index-binds-i.result c.loop-i-test.true c.index-binds-i.is) c.in_ok-separate.ensures.text c.in_ok-next.ensures.text c.in_ok-next.ensures.next)
+binds::put_binds-loop-i-preserved t c = (omega (arith, c.in_ok-separate.ensures.grows, c.in_ok-next.ensures.grows), (omega (arith, c.loop-i.invariant.1.0, c.in_ok-next.ensures.room.0), omega (arith, c.in_ok-next.ensures.room.1)), goes_on_from (λ u n. bind_text_of c.args.kind u c.args.depth n) a_bind (codes " & ") (map bind_tree c.args.binds.now) c.loop-i.i c.loop-i.next _ c.args.depth (bind_tree c.index-binds-i.result) _ _ _ _ c.loop-i.invariant.2 (taken_of bind_tree c.args.binds.now c.loop-i.i c.index-binds-i.result c.loop-i-test.true c.index-binds-i.is) c.in_ok-separate.ensures.text c.in_ok-next.ensures.text c.in_ok-next.ensures.next)
 
-pub binds::put_binds-returns-clause-text : goal.binds::put_binds-returns-clause-text
-binds::put_binds-returns-clause-text t c = λ h. (at_end_from (λ u n. bind_text_of c.args.kind u c.args.depth n) a_bind (codes " & ") (map bind_tree c.args.binds.now) c.loop-i.i c.loop-i.next c.args.depth _ _ c.loop-i.invariant.2 (none_left_of bind_tree c.args.binds.now c.loop-i.i c.loop-i-test.false) h).0
-
-pub binds::put_binds-returns-clause-next : goal.binds::put_binds-returns-clause-next
-binds::put_binds-returns-clause-next t c = λ h. (at_end_from (λ u n. bind_text_of c.args.kind u c.args.depth n) a_bind (codes " & ") (map bind_tree c.args.binds.now) c.loop-i.i c.loop-i.next c.args.depth _ _ c.loop-i.invariant.2 (none_left_of bind_tree c.args.binds.now c.loop-i.i c.loop-i-test.false) h).1
+pub binds::put_binds-returns : goal.binds::put_binds-returns
+binds::put_binds-returns t c = record {
+  text = λ h. (at_end_from (λ u n. bind_text_of c.args.kind u c.args.depth n) a_bind (codes " & ") (map bind_tree c.args.binds.now) c.loop-i.i c.loop-i.next c.args.depth _ _ c.loop-i.invariant.2 (none_left_of bind_tree c.args.binds.now c.loop-i.i c.loop-i-test.false) h).0;
+  next = λ h. (at_end_from (λ u n. bind_text_of c.args.kind u c.args.depth n) a_bind (codes " & ") (map bind_tree c.args.binds.now) c.loop-i.i c.loop-i.next c.args.depth _ _ c.loop-i.invariant.2 (none_left_of bind_tree c.args.binds.now c.loop-i.i c.loop-i-test.false) h).1;
+  room = c.loop-i.invariant.1;
+  grows = c.loop-i.invariant.0;
+}
 
 pub patterns::put_pat_parts-loop-i-init : goal.patterns::put_pat_parts-loop-i-init
 patterns::put_pat_parts-loop-i-init t c = (omega arith, (omega arith, omega (arith, c.requires.room.1)), at_start_from (λ u n. text_of pat_part u c.args.depth n) name_part (codes " | ") (map pat_part_tree c.args.parts.now) c.args.next _)
@@ -112,14 +110,15 @@ patterns::put_pat_parts-put_pat_part-requires t c =
     (omega (arith, w), ((omega (arith, c.requires.room.0, c.loop-i.invariant.1.0), omega (arith, c.in_ok-separate.ensures.grows, c.loop-i.invariant.1.1)), o))
 
 pub patterns::put_pat_parts-loop-i-preserved : goal.patterns::put_pat_parts-loop-i-preserved
-patterns::put_pat_parts-loop-i-preserved t c =
-    (omega (arith, c.in_ok-separate.ensures.grows, c.in_ok-number.ensures.grows), (omega (arith, c.loop-i.invariant.1.0, c.in_ok-number.ensures.room.0), omega (arith, c.in_ok-number.ensures.room.1)), goes_on_from (λ u n. text_of pat_part u c.args.depth n) name_part (codes " | ") (map pat_part_tree c.args.parts.now) c.loop-i.i c.loop-i.number _ c.args.next (pat_part_tree c.index-parts-i.result) _ _ _ _ c.loop-i.invariant.2 (taken_of pat_part_tree c.args.parts.now c.loop-i.i c.index-parts-i.result c.loop-i-test.true c.index-parts-i.is) c.in_ok-separate.ensures.text c.in_ok-number.ensures.text c.in_ok-number.ensures.next)
+patterns::put_pat_parts-loop-i-preserved t c = (omega (arith, c.in_ok-separate.ensures.grows, c.in_ok-number.ensures.grows), (omega (arith, c.loop-i.invariant.1.0, c.in_ok-number.ensures.room.0), omega (arith, c.in_ok-number.ensures.room.1)), goes_on_from (λ u n. text_of pat_part u c.args.depth n) name_part (codes " | ") (map pat_part_tree c.args.parts.now) c.loop-i.i c.loop-i.number _ c.args.next (pat_part_tree c.index-parts-i.result) _ _ _ _ c.loop-i.invariant.2 (taken_of pat_part_tree c.args.parts.now c.loop-i.i c.index-parts-i.result c.loop-i-test.true c.index-parts-i.is) c.in_ok-separate.ensures.text c.in_ok-number.ensures.text c.in_ok-number.ensures.next)
 
-pub patterns::put_pat_parts-returns-clause-text : goal.patterns::put_pat_parts-returns-clause-text
-patterns::put_pat_parts-returns-clause-text t c = λ h. (at_end_from (λ u n. text_of pat_part u c.args.depth n) name_part (codes " | ") (map pat_part_tree c.args.parts.now) c.loop-i.i c.loop-i.number c.args.next _ _ c.loop-i.invariant.2 (none_left_of pat_part_tree c.args.parts.now c.loop-i.i c.loop-i-test.false) h).0
-
-pub patterns::put_pat_parts-returns-clause-next : goal.patterns::put_pat_parts-returns-clause-next
-patterns::put_pat_parts-returns-clause-next t c = λ h. (at_end_from (λ u n. text_of pat_part u c.args.depth n) name_part (codes " | ") (map pat_part_tree c.args.parts.now) c.loop-i.i c.loop-i.number c.args.next _ _ c.loop-i.invariant.2 (none_left_of pat_part_tree c.args.parts.now c.loop-i.i c.loop-i-test.false) h).1
+pub patterns::put_pat_parts-returns : goal.patterns::put_pat_parts-returns
+patterns::put_pat_parts-returns t c = record {
+  text = λ h. (at_end_from (λ u n. text_of pat_part u c.args.depth n) name_part (codes " | ") (map pat_part_tree c.args.parts.now) c.loop-i.i c.loop-i.number c.args.next _ _ c.loop-i.invariant.2 (none_left_of pat_part_tree c.args.parts.now c.loop-i.i c.loop-i-test.false) h).0;
+  next = λ h. (at_end_from (λ u n. text_of pat_part u c.args.depth n) name_part (codes " | ") (map pat_part_tree c.args.parts.now) c.loop-i.i c.loop-i.number c.args.next _ _ c.loop-i.invariant.2 (none_left_of pat_part_tree c.args.parts.now c.loop-i.i c.loop-i-test.false) h).1;
+  room = c.loop-i.invariant.1;
+  grows = c.loop-i.invariant.0;
+}
 
 pub patterns::put_name_pats-loop-i-init : goal.patterns::put_name_pats-loop-i-init
 patterns::put_name_pats-loop-i-init t c = (omega arith, (omega arith, omega (arith, c.requires.1)), at_start_from (λ u n. text_of name_pat u c.args.depth n) name_pat (codes ", ") c.args.items.now c.args.next _)
@@ -130,14 +129,15 @@ patterns::put_name_pats-put_name_pat-requires t c =
     (omega (arith, w), (omega (arith, c.requires.0, c.loop-i.invariant.1.0), omega (arith, c.in_ok-separate.ensures.grows, c.loop-i.invariant.1.1)))
 
 pub patterns::put_name_pats-loop-i-preserved : goal.patterns::put_name_pats-loop-i-preserved
-patterns::put_name_pats-loop-i-preserved t c =
-    (omega (arith, c.in_ok-separate.ensures.grows, c.in_ok-number.ensures.grows), (omega (arith, c.loop-i.invariant.1.0, c.in_ok-number.ensures.room.0), omega (arith, c.in_ok-number.ensures.room.1)), goes_on_from (λ u n. text_of name_pat u c.args.depth n) name_pat (codes ", ") c.args.items.now c.loop-i.i c.loop-i.number _ c.args.next c.index-items-i.result _ _ _ _ c.loop-i.invariant.2 (taken_at c.args.items.now c.loop-i.i c.index-items-i.result c.loop-i-test.true c.index-items-i.is) c.in_ok-separate.ensures.text c.in_ok-number.ensures.text c.in_ok-number.ensures.next)
+patterns::put_name_pats-loop-i-preserved t c = (omega (arith, c.in_ok-separate.ensures.grows, c.in_ok-number.ensures.grows), (omega (arith, c.loop-i.invariant.1.0, c.in_ok-number.ensures.room.0), omega (arith, c.in_ok-number.ensures.room.1)), goes_on_from (λ u n. text_of name_pat u c.args.depth n) name_pat (codes ", ") c.args.items.now c.loop-i.i c.loop-i.number _ c.args.next c.index-items-i.result _ _ _ _ c.loop-i.invariant.2 (taken_at c.args.items.now c.loop-i.i c.index-items-i.result c.loop-i-test.true c.index-items-i.is) c.in_ok-separate.ensures.text c.in_ok-number.ensures.text c.in_ok-number.ensures.next)
 
-pub patterns::put_name_pats-returns-clause-text : goal.patterns::put_name_pats-returns-clause-text
-patterns::put_name_pats-returns-clause-text t c = λ h. (at_end_from (λ u n. text_of name_pat u c.args.depth n) name_pat (codes ", ") c.args.items.now c.loop-i.i c.loop-i.number c.args.next _ _ c.loop-i.invariant.2 (none_left c.args.items.now c.loop-i.i c.loop-i-test.false) h).0
-
-pub patterns::put_name_pats-returns-clause-next : goal.patterns::put_name_pats-returns-clause-next
-patterns::put_name_pats-returns-clause-next t c = λ h. (at_end_from (λ u n. text_of name_pat u c.args.depth n) name_pat (codes ", ") c.args.items.now c.loop-i.i c.loop-i.number c.args.next _ _ c.loop-i.invariant.2 (none_left c.args.items.now c.loop-i.i c.loop-i-test.false) h).1
+pub patterns::put_name_pats-returns : goal.patterns::put_name_pats-returns
+patterns::put_name_pats-returns t c = record {
+  text = λ h. (at_end_from (λ u n. text_of name_pat u c.args.depth n) name_pat (codes ", ") c.args.items.now c.loop-i.i c.loop-i.number c.args.next _ _ c.loop-i.invariant.2 (none_left c.args.items.now c.loop-i.i c.loop-i-test.false) h).0;
+  next = λ h. (at_end_from (λ u n. text_of name_pat u c.args.depth n) name_pat (codes ", ") c.args.items.now c.loop-i.i c.loop-i.number c.args.next _ _ c.loop-i.invariant.2 (none_left c.args.items.now c.loop-i.i c.loop-i-test.false) h).1;
+  room = c.loop-i.invariant.1;
+  grows = c.loop-i.invariant.0;
+}
 
 pub patterns::put_pat_pairs-loop-i-init : goal.patterns::put_pat_pairs-loop-i-init
 patterns::put_pat_pairs-loop-i-init t c = (omega arith, (omega arith, omega (arith, c.requires.1)), at_start_from (λ u n. text_of (pair_of pat) u c.args.depth n) (pair_of pat) (codes ", ") (map pair_tree c.args.items.now) c.args.next _)
@@ -148,14 +148,15 @@ patterns::put_pat_pairs-put_pat_pair-requires t c =
     (omega (arith, w), (omega (arith, c.requires.0, c.loop-i.invariant.1.0), omega (arith, c.in_ok-separate.ensures.grows, c.loop-i.invariant.1.1)))
 
 pub patterns::put_pat_pairs-loop-i-preserved : goal.patterns::put_pat_pairs-loop-i-preserved
-patterns::put_pat_pairs-loop-i-preserved t c =
-    (omega (arith, c.in_ok-separate.ensures.grows, c.in_ok-number.ensures.grows), (omega (arith, c.loop-i.invariant.1.0, c.in_ok-number.ensures.room.0), omega (arith, c.in_ok-number.ensures.room.1)), goes_on_from (λ u n. text_of (pair_of pat) u c.args.depth n) (pair_of pat) (codes ", ") (map pair_tree c.args.items.now) c.loop-i.i c.loop-i.number _ c.args.next (pair_tree c.index-items-i.result) _ _ _ _ c.loop-i.invariant.2 (taken_of pair_tree c.args.items.now c.loop-i.i c.index-items-i.result c.loop-i-test.true c.index-items-i.is) c.in_ok-separate.ensures.text c.in_ok-number.ensures.text c.in_ok-number.ensures.next)
+patterns::put_pat_pairs-loop-i-preserved t c = (omega (arith, c.in_ok-separate.ensures.grows, c.in_ok-number.ensures.grows), (omega (arith, c.loop-i.invariant.1.0, c.in_ok-number.ensures.room.0), omega (arith, c.in_ok-number.ensures.room.1)), goes_on_from (λ u n. text_of (pair_of pat) u c.args.depth n) (pair_of pat) (codes ", ") (map pair_tree c.args.items.now) c.loop-i.i c.loop-i.number _ c.args.next (pair_tree c.index-items-i.result) _ _ _ _ c.loop-i.invariant.2 (taken_of pair_tree c.args.items.now c.loop-i.i c.index-items-i.result c.loop-i-test.true c.index-items-i.is) c.in_ok-separate.ensures.text c.in_ok-number.ensures.text c.in_ok-number.ensures.next)
 
-pub patterns::put_pat_pairs-returns-clause-text : goal.patterns::put_pat_pairs-returns-clause-text
-patterns::put_pat_pairs-returns-clause-text t c = λ h. (at_end_from (λ u n. text_of (pair_of pat) u c.args.depth n) (pair_of pat) (codes ", ") (map pair_tree c.args.items.now) c.loop-i.i c.loop-i.number c.args.next _ _ c.loop-i.invariant.2 (none_left_of pair_tree c.args.items.now c.loop-i.i c.loop-i-test.false) h).0
-
-pub patterns::put_pat_pairs-returns-clause-next : goal.patterns::put_pat_pairs-returns-clause-next
-patterns::put_pat_pairs-returns-clause-next t c = λ h. (at_end_from (λ u n. text_of (pair_of pat) u c.args.depth n) (pair_of pat) (codes ", ") (map pair_tree c.args.items.now) c.loop-i.i c.loop-i.number c.args.next _ _ c.loop-i.invariant.2 (none_left_of pair_tree c.args.items.now c.loop-i.i c.loop-i-test.false) h).1
+pub patterns::put_pat_pairs-returns : goal.patterns::put_pat_pairs-returns
+patterns::put_pat_pairs-returns t c = record {
+  text = λ h. (at_end_from (λ u n. text_of (pair_of pat) u c.args.depth n) (pair_of pat) (codes ", ") (map pair_tree c.args.items.now) c.loop-i.i c.loop-i.number c.args.next _ _ c.loop-i.invariant.2 (none_left_of pair_tree c.args.items.now c.loop-i.i c.loop-i-test.false) h).0;
+  next = λ h. (at_end_from (λ u n. text_of (pair_of pat) u c.args.depth n) (pair_of pat) (codes ", ") (map pair_tree c.args.items.now) c.loop-i.i c.loop-i.number c.args.next _ _ c.loop-i.invariant.2 (none_left_of pair_tree c.args.items.now c.loop-i.i c.loop-i-test.false) h).1;
+  room = c.loop-i.invariant.1;
+  grows = c.loop-i.invariant.0;
+}
 
 pub patterns::put_pats-loop-i-init : goal.patterns::put_pats-loop-i-init
 patterns::put_pats-loop-i-init t c = (omega arith, (omega arith, omega (arith, c.requires.1)), at_start_from (λ u n. text_of pat u c.args.depth n) pat (codes ", ") c.args.items.now c.args.next _)
@@ -166,332 +167,569 @@ patterns::put_pats-put_pat-requires t c =
     (omega (arith, w), (omega (arith, c.requires.0, c.loop-i.invariant.1.0), omega (arith, c.in_ok-separate.ensures.grows, c.loop-i.invariant.1.1)))
 
 pub patterns::put_pats-loop-i-preserved : goal.patterns::put_pats-loop-i-preserved
-patterns::put_pats-loop-i-preserved t c =
-    (omega (arith, c.in_ok-separate.ensures.grows, c.in_ok-number.ensures.grows), (omega (arith, c.loop-i.invariant.1.0, c.in_ok-number.ensures.room.0), omega (arith, c.in_ok-number.ensures.room.1)), goes_on_from (λ u n. text_of pat u c.args.depth n) pat (codes ", ") c.args.items.now c.loop-i.i c.loop-i.number _ c.args.next c.index-items-i.result _ _ _ _ c.loop-i.invariant.2 (taken_at c.args.items.now c.loop-i.i c.index-items-i.result c.loop-i-test.true c.index-items-i.is) c.in_ok-separate.ensures.text (λ h. c.in_ok-number.ensures.text (pat_formed _ h)) (λ h. c.in_ok-number.ensures.next (pat_formed _ h)))
+patterns::put_pats-loop-i-preserved t c = (omega (arith, c.in_ok-separate.ensures.grows, c.in_ok-number.ensures.grows), (omega (arith, c.loop-i.invariant.1.0, c.in_ok-number.ensures.room.0), omega (arith, c.in_ok-number.ensures.room.1)), goes_on_from (λ u n. text_of pat u c.args.depth n) pat (codes ", ") c.args.items.now c.loop-i.i c.loop-i.number _ c.args.next c.index-items-i.result _ _ _ _ c.loop-i.invariant.2 (taken_at c.args.items.now c.loop-i.i c.index-items-i.result c.loop-i-test.true c.index-items-i.is) c.in_ok-separate.ensures.text (λ h. c.in_ok-number.ensures.text (pat_formed _ h)) (λ h. c.in_ok-number.ensures.next (pat_formed _ h)))
 
-pub patterns::put_pats-returns-clause-text : goal.patterns::put_pats-returns-clause-text
-patterns::put_pats-returns-clause-text t c = λ h. (at_end_from (λ u n. text_of pat u c.args.depth n) pat (codes ", ") c.args.items.now c.loop-i.i c.loop-i.number c.args.next _ _ c.loop-i.invariant.2 (none_left c.args.items.now c.loop-i.i c.loop-i-test.false) h).0
+pub patterns::put_pats-returns : goal.patterns::put_pats-returns
+patterns::put_pats-returns t c = record {
+  text = λ h. (at_end_from (λ u n. text_of pat u c.args.depth n) pat (codes ", ") c.args.items.now c.loop-i.i c.loop-i.number c.args.next _ _ c.loop-i.invariant.2 (none_left c.args.items.now c.loop-i.i c.loop-i-test.false) h).0;
+  next = λ h. (at_end_from (λ u n. text_of pat u c.args.depth n) pat (codes ", ") c.args.items.now c.loop-i.i c.loop-i.number c.args.next _ _ c.loop-i.invariant.2 (none_left c.args.items.now c.loop-i.i c.loop-i-test.false) h).1;
+  room = c.loop-i.invariant.1;
+  grows = c.loop-i.invariant.0;
+}
 
-pub patterns::put_pats-returns-clause-next : goal.patterns::put_pats-returns-clause-next
-patterns::put_pats-returns-clause-next t c = λ h. (at_end_from (λ u n. text_of pat u c.args.depth n) pat (codes ", ") c.args.items.now c.loop-i.i c.loop-i.number c.args.next _ _ c.loop-i.invariant.2 (none_left c.args.items.now c.loop-i.i c.loop-i-test.false) h).1
+pub terms::put_term-returns-then-is_empty : goal.terms::put_term-returns-then-is_empty
+terms::put_term-returns-then-is_empty t c = record { text = IfOk-weaker c.put.result _ _ (λ v e. nil-writes c.parts-parts.result.now c.args.t.now c.args.depth _ _ c.parts-parts.ensures.parts (eqb-true _ _ (sym c.is_empty.ensures ∙ c.if-is_empty.true)) e) c.put.ensures.text; grows = c.put.ensures.grows }
 
-pub terms::put_term-returns-then-is_empty-clause-text : goal.terms::put_term-returns-then-is_empty-clause-text
-terms::put_term-returns-then-is_empty-clause-text t c = IfOk-weaker c.put.result _ _ (λ v e. nil-writes c.parts-parts.result.now c.args.t.now c.args.depth _ _ c.parts-parts.ensures.parts (eqb-true _ _ (sym c.is_empty.ensures ∙ c.if-is_empty.true)) e) c.put.ensures.text
-
-pub terms::put_term-returns-clause-text : goal.terms::put_term-returns-clause-text
-terms::put_term-returns-clause-text t c = IfOk-weaker c.put_parts.result _ _ (λ v e. process-writes c.parts-parts.result.now c.args.t.now c.args.depth _ _ c.parts-parts.ensures.parts c.parts-parts.ensures.normal (λ z. eqb-false _ _ (sym c.is_empty.ensures ∙ c.if-is_empty.false) z) e) c.put_parts.ensures.text
+pub terms::put_term-returns : goal.terms::put_term-returns
+terms::put_term-returns t c = record { text = IfOk-weaker c.put_parts.result _ _ (λ v e. process-writes c.parts-parts.result.now c.args.t.now c.args.depth _ _ c.parts-parts.ensures.parts c.parts-parts.ensures.normal (λ z. eqb-false _ _ (sym c.is_empty.ensures ∙ c.if-is_empty.false) z) e) c.put_parts.ensures.text; grows = c.put_parts.ensures.grows }
 
 pub terms::put_term-put_parts-requires : goal.terms::put_term-put_parts-requires
 terms::put_term-put_parts-requires t c = (omega (arith, ap weight c.parts-parts.ensures.parts), (omega arith, (subst IsNormal c.parts-parts.ensures.parts c.parts-parts.ensures.normal).1))
 
-pub terms::put_operand-returns-then-is_atom-clause-text : goal.terms::put_operand-returns-then-is_atom-clause-text
-terms::put_operand-returns-then-is_atom-clause-text t c = IfOk-weaker c.put_term.result _ _ (λ v e. λ h n. shown c.args.out.now.items (c.is_atom.ensures (text_of term c.args.t.now c.args.depth n) ∙ ap (λ b. cond b (text_of term c.args.t.now c.args.depth n) (braced (text_of term c.args.t.now c.args.depth n))) c.if-is_atom.true) (e h n)) c.put_term.ensures.text
+pub terms::put_operand-returns-then-is_atom : goal.terms::put_operand-returns-then-is_atom
+terms::put_operand-returns-then-is_atom t c = record { text = IfOk-weaker c.put_term.result _ _ (λ v e. λ h n. shown c.args.out.now.items (c.is_atom.ensures (text_of term c.args.t.now c.args.depth n) ∙ ap (λ b. cond b (text_of term c.args.t.now c.args.depth n) (braced (text_of term c.args.t.now c.args.depth n))) c.if-is_atom.true) (e h n)) c.put_term.ensures.text; grows = c.put_term.ensures.grows }
 
-pub terms::put_operand-returns-clause-text : goal.terms::put_operand-returns-clause-text
-terms::put_operand-returns-clause-text t c = IfOk-weaker c.put_braced.result _ _ (λ v e. λ h n. shown c.args.out.now.items (c.is_atom.ensures (text_of term c.args.t.now c.args.depth n) ∙ ap (λ b. cond b (text_of term c.args.t.now c.args.depth n) (braced (text_of term c.args.t.now c.args.depth n))) c.if-is_atom.false) (e h n)) c.put_braced.ensures.text
+pub terms::put_operand-returns : goal.terms::put_operand-returns
+terms::put_operand-returns t c = record { text = IfOk-weaker c.put_braced.result _ _ (λ v e. λ h n. shown c.args.out.now.items (c.is_atom.ensures (text_of term c.args.t.now c.args.depth n) ∙ ap (λ b. cond b (text_of term c.args.t.now c.args.depth n) (braced (text_of term c.args.t.now c.args.depth n))) c.if-is_atom.false) (e h n)) c.put_braced.ensures.text; grows = c.put_braced.ensures.grows }
 
-pub terms::put_braced-returns-clause-text : goal.terms::put_braced-returns-clause-text
-terms::put_braced-returns-clause-text t c = IfOk-weaker c.put-2.result _ _ (λ v e. λ h n. after c.args.out.now.items (codes "{") ((text_of term c.args.t.now c.args.depth n) ++ (codes "}")) (c.in_ok-put.ensures.text) (after c.put.new.out.items (text_of term c.args.t.now c.args.depth n) (codes "}") (c.in_ok-put_term.ensures.text h n) (e))) c.put-2.ensures.text
+pub terms::put_braced-returns : goal.terms::put_braced-returns
+terms::put_braced-returns t c = record { text = IfOk-weaker c.put-2.result _ _ (λ v e. λ h n. after c.args.out.now.items (codes "{") ((text_of term c.args.t.now c.args.depth n) ++ (codes "}")) (c.in_ok-put.ensures.text) (after c.put.new.out.items (text_of term c.args.t.now c.args.depth n) (codes "}") (c.in_ok-put_term.ensures.text h n) (e))) c.put-2.ensures.text; grows = longer c.put-2.result _ (le_trans c.in_ok-put.ensures.grows c.in_ok-put_term.ensures.grows) c.put-2.ensures.grows }
 
-pub terms::put_block-returns-clause-text : goal.terms::put_block-returns-clause-text
-terms::put_block-returns-clause-text t c = IfOk-weaker c.put-2.result _ _ (λ v e. λ h n. after c.args.out.now.items (codes "{ ") ((text_of term c.args.t.now c.args.depth n) ++ (codes " }")) (c.in_ok-put.ensures.text) (after c.put.new.out.items (text_of term c.args.t.now c.args.depth n) (codes " }") (c.in_ok-put_term.ensures.text h n) (e))) c.put-2.ensures.text
+pub terms::put_block-returns : goal.terms::put_block-returns
+terms::put_block-returns t c = record { text = IfOk-weaker c.put-2.result _ _ (λ v e. λ h n. after c.args.out.now.items (codes "{ ") ((text_of term c.args.t.now c.args.depth n) ++ (codes " }")) (c.in_ok-put.ensures.text) (after c.put.new.out.items (text_of term c.args.t.now c.args.depth n) (codes " }") (c.in_ok-put_term.ensures.text h n) (e))) c.put-2.ensures.text; grows = longer c.put-2.result _ (le_trans c.in_ok-put.ensures.grows c.in_ok-put_term.ensures.grows) c.put-2.ensures.grows }
 
-pub terms::put_quoted-returns-clause-text : goal.terms::put_quoted-returns-clause-text
-terms::put_quoted-returns-clause-text t c = IfOk-weaker c.put_operand.result _ _ (λ v e. λ h n. after c.args.out.now.items (codes "@") (operand_text (held c.args.t.now) (text_of term c.args.t.now c.args.depth n)) c.in_ok-put.ensures.text (e h n)) c.put_operand.ensures.text
+pub terms::put_quoted-returns : goal.terms::put_quoted-returns
+terms::put_quoted-returns t c = record { text = IfOk-weaker c.put_operand.result _ _ (λ v e. λ h n. after c.args.out.now.items (codes "@") (operand_text (held c.args.t.now) (text_of term c.args.t.now c.args.depth n)) c.in_ok-put.ensures.text (e h n)) c.put_operand.ensures.text; grows = longer c.put_operand.result _ c.in_ok-put.ensures.grows c.put_operand.ensures.grows }
 
-pub terms::put_name-returns-in-empty-clause-text : goal.terms::put_name-returns-in-empty-clause-text
-terms::put_name-returns-in-empty-clause-text t c = IfOk-weaker c.put_quoted.result _ _ (λ v e. λ h n. shown c.args.out.now.items (name-others c.parts.result.now c.args.t.now c.parts.ensures.parts (λ z. omega arith) (text_of term c.args.t.now c.args.depth n)) (e h n)) c.put_quoted.ensures.text
+pub terms::put_name-returns-in-empty : goal.terms::put_name-returns-in-empty
+terms::put_name-returns-in-empty t c = record { text = IfOk-weaker c.put_quoted.result _ _ (λ v e. λ h n. shown c.args.out.now.items (name-others c.parts.result.now c.args.t.now c.parts.ensures.parts (λ z. omega arith) (text_of term c.args.t.now c.args.depth n)) (e h n)) c.put_quoted.ensures.text; grows = c.put_quoted.ensures.grows }
 
-pub terms::put_name-returns-in-len2-up-clause-text : goal.terms::put_name-returns-in-len2-up-clause-text
-terms::put_name-returns-in-len2-up-clause-text t c = IfOk-weaker c.put_quoted-in-len2-up.result _ _ (λ v e. λ h n. shown c.args.out.now.items (name-others c.parts.result.now c.args.t.now c.parts.ensures.parts (λ z. omega arith) (text_of term c.args.t.now c.args.depth n)) (e h n)) c.put_quoted-in-len2-up.ensures.text
+pub terms::put_name-returns-in-len2-up : goal.terms::put_name-returns-in-len2-up
+terms::put_name-returns-in-len2-up t c = record { text = IfOk-weaker c.put_quoted-in-len2-up.result _ _ (λ v e. λ h n. shown c.args.out.now.items (name-others c.parts.result.now c.args.t.now c.parts.ensures.parts (λ z. omega arith) (text_of term c.args.t.now c.args.depth n)) (e h n)) c.put_quoted-in-len2-up.ensures.text; grows = c.put_quoted-in-len2-up.ensures.grows }
 
-pub terms::put_name_of-returns-in-NameVar-clause-text : goal.terms::put_name_of-returns-in-NameVar-clause-text
-terms::put_name_of-returns-in-NameVar-clause-text t c = IfOk-weaker c.put_variable.result _ _ (λ v e. λ h n. shown c.args.out.now.items (name_variable-text c.in-NameVar.i c.args.p.now c.args.t.now c.args.depth n c.requires.is c.in-NameVar.is ∙ ap variable_text (sym c.number_of.ensures)) e) c.put_variable.ensures.text
+pub terms::put_name_of-returns-in-NameVar : goal.terms::put_name_of-returns-in-NameVar
+terms::put_name_of-returns-in-NameVar t c = record { text = IfOk-weaker c.put_variable.result _ _ (λ v e. λ h n. shown c.args.out.now.items (name_variable-text c.in-NameVar.i c.args.p.now c.args.t.now c.args.depth n c.requires.is c.in-NameVar.is ∙ ap variable_text (sym c.number_of.ensures)) e) c.put_variable.ensures.text; grows = no_shorter c.put_variable.result _ _ c.put_variable.ensures.grows }
 
-pub terms::put_name_of-returns-in-Fresh-clause-text : goal.terms::put_name_of-returns-in-Fresh-clause-text
-terms::put_name_of-returns-in-Fresh-clause-text t c = IfOk-weaker c.put_fresh.result _ _ (λ v e. λ h n. shown c.args.out.now.items (fresh_name-text c.in-Fresh.name c.args.p.now c.args.t.now c.args.depth n c.requires.is c.in-Fresh.is) e) c.put_fresh.ensures.text
+pub terms::put_name_of-returns-in-Fresh : goal.terms::put_name_of-returns-in-Fresh
+terms::put_name_of-returns-in-Fresh t c = record { text = IfOk-weaker c.put_fresh.result _ _ (λ v e. λ h n. shown c.args.out.now.items (fresh_name-text c.in-Fresh.name c.args.p.now c.args.t.now c.args.depth n c.requires.is c.in-Fresh.is) e) c.put_fresh.ensures.text; grows = c.put_fresh.ensures.grows }
 
-pub terms::put_name_of-returns-in_default-clause-text : goal.terms::put_name_of-returns-in_default-clause-text
-terms::put_name_of-returns-in_default-clause-text t c = IfOk-weaker c.put_quoted.result _ _ (λ v e. λ h n. shown c.args.out.now.items (name-quoted c.args.p.now c.args.t.now c.requires.is (λ i z. c.in_default.not-NameVar i z) (λ d z. c.in_default.not-Fresh d z) (text_of term c.args.t.now c.args.depth n)) (e h n)) c.put_quoted.ensures.text
+pub terms::put_name_of-returns-in_default : goal.terms::put_name_of-returns-in_default
+terms::put_name_of-returns-in_default t c = record { text = IfOk-weaker c.put_quoted.result _ _ (λ v e. λ h n. shown c.args.out.now.items (name-quoted c.args.p.now c.args.t.now c.requires.is (λ i z. c.in_default.not-NameVar i z) (λ d z. c.in_default.not-Fresh d z) (text_of term c.args.t.now c.args.depth n)) (e h n)) c.put_quoted.ensures.text; grows = c.put_quoted.ensures.grows }
 
-pub terms::put_pair-returns-clause-text : goal.terms::put_pair-returns-clause-text
-terms::put_pair-returns-clause-text t c = IfOk-weaker c.put_term-2.result _ _ (λ v e. pair-writes c.args.pair.now.0 c.args.pair.now.1 c.args.depth _ _ _ _ c.in_ok-put_term.ensures.text c.in_ok-put.ensures.text e) c.put_term-2.ensures.text
+pub terms::put_pair-returns : goal.terms::put_pair-returns
+terms::put_pair-returns t c = record { text = IfOk-weaker c.put_term-2.result _ _ (λ v e. pair-writes c.args.pair.now.0 c.args.pair.now.1 c.args.depth _ _ _ _ c.in_ok-put_term.ensures.text c.in_ok-put.ensures.text e) c.put_term-2.ensures.text; grows = longer c.put_term-2.result _ (le_trans c.in_ok-put_term.ensures.grows c.in_ok-put.ensures.grows) c.put_term-2.ensures.grows }
 
-pub parts::put_list-returns-clause-text : goal.parts::put_list-returns-clause-text
-parts::put_list-returns-clause-text t c = IfOk-weaker c.put-2.result _ _ (λ v e. list-writes c.args.members.now c.args.depth _ _ _ _ c.in_ok-put.ensures.text c.in_ok-put_terms.ensures.text e) c.put-2.ensures.text
+pub parts::put_members-returns : goal.parts::put_members-returns
+parts::put_members-returns t c = record { text = IfOk-weaker c.put-2.result _ _ (λ v e. λ h n. after c.args.out.now.items c.args.opening.now (separated (codes ", ") (texts_of term c.args.members.now c.args.depth n) ++ c.args.closing.now) c.in_ok-put.ensures.text (after c.put.new.out.items (separated (codes ", ") (texts_of term c.args.members.now c.args.depth n)) c.args.closing.now (c.in_ok-put_terms.ensures.text h n) e)) c.put-2.ensures.text; grows = longer c.put-2.result _ (le_trans c.in_ok-put.ensures.grows c.in_ok-put_terms.ensures.grows) c.put-2.ensures.grows }
 
-pub parts::put_tuple-returns-clause-text : goal.parts::put_tuple-returns-clause-text
-parts::put_tuple-returns-clause-text t c = IfOk-weaker c.put-2.result _ _ (λ v e. tuple-writes c.args.members.now c.args.depth _ _ _ _ c.in_ok-put.ensures.text c.in_ok-put_terms.ensures.text (shown c.put_terms.new.out.items (sym c.tuple_end.ensures) e)) c.put-2.ensures.text
+pub parts::put_map-returns : goal.parts::put_map-returns
+parts::put_map-returns t c = record { text = IfOk-weaker c.put-2.result _ _ (λ v e. map-writes (map pair_tree c.args.pairs.now) c.args.depth _ _ _ _ c.requires.ordered c.in_ok-put.ensures.text c.in_ok-put_pairs.ensures.text e) c.put-2.ensures.text; grows = longer c.put-2.result _ (le_trans c.in_ok-put.ensures.grows c.in_ok-put_pairs.ensures.grows) c.put-2.ensures.grows }
 
-pub parts::put_set-returns-clause-text : goal.parts::put_set-returns-clause-text
-parts::put_set-returns-clause-text t c = IfOk-weaker c.put-2.result _ _ (λ v e. set-writes c.args.members.now c.args.depth _ _ _ _ c.requires.ordered c.in_ok-put.ensures.text c.in_ok-put_terms.ensures.text e) c.put-2.ensures.text
+pub parts::put_send-returns : goal.parts::put_send-returns
+parts::put_send-returns t c = record { text = IfOk-weaker c.put-2.result _ _ (λ v e. send-writes c.args.persistent c.args.channel.now c.args.args.now c.args.depth _ _ _ _ _ c.in_ok-put_name.ensures.text (shown c.put_name.new.out.items (sym c.send_marks.ensures) c.in_ok-put.ensures.text) c.in_ok-put_terms.ensures.text e) c.put-2.ensures.text; grows = longer c.put-2.result _ (le_trans c.in_ok-put_name.ensures.grows (le_trans c.in_ok-put.ensures.grows c.in_ok-put_terms.ensures.grows)) c.put-2.ensures.grows }
 
-pub parts::put_map-returns-clause-text : goal.parts::put_map-returns-clause-text
-parts::put_map-returns-clause-text t c = IfOk-weaker c.put-2.result _ _ (λ v e. map-writes (map pair_tree c.args.pairs.now) c.args.depth _ _ _ _ c.requires.ordered c.in_ok-put.ensures.text c.in_ok-put_pairs.ensures.text e) c.put-2.ensures.text
+pub parts::put_receive-returns : goal.parts::put_receive-returns
+parts::put_receive-returns t c = record { text = IfOk-weaker c.put_block.result _ _ (λ v e. receive-writes c.args.kind (map bind_tree c.args.binds.now) c.args.body.now c.args.depth _ _ _ _ _ _ c.in_ok-put.ensures.text c.in_ok-inner.ensures.text c.in_ok-inner.ensures.next c.in_ok-put-2.ensures.text e) c.put_block.ensures.text; grows = longer c.put_block.result _ (le_trans c.in_ok-put.ensures.grows (le_trans c.in_ok-inner.ensures.grows c.in_ok-put-2.ensures.grows)) c.put_block.ensures.grows }
 
-pub parts::put_send-returns-clause-text : goal.parts::put_send-returns-clause-text
-parts::put_send-returns-clause-text t c = IfOk-weaker c.put-2.result _ _ (λ v e. send-writes c.args.persistent c.args.channel.now c.args.args.now c.args.depth _ _ _ _ _ c.in_ok-put_name.ensures.text (shown c.put_name.new.out.items (sym c.send_marks.ensures) c.in_ok-put.ensures.text) c.in_ok-put_terms.ensures.text e) c.put-2.ensures.text
+pub parts::put_new-returns : goal.parts::put_new-returns
+parts::put_new-returns t c = record { text = IfOk-weaker c.put_block.result _ _ (λ v e. new-writes c.args.names.now c.args.body.now c.args.depth _ _ _ _ _ _ c.in_ok-put.ensures.text c.in_ok-inner.ensures.text c.in_ok-inner.ensures.next c.in_ok-put-2.ensures.text e) c.put_block.ensures.text; grows = longer c.put_block.result _ (le_trans c.in_ok-put.ensures.grows (le_trans c.in_ok-inner.ensures.grows c.in_ok-put-2.ensures.grows)) c.put_block.ensures.grows }
 
-pub parts::put_receive-returns-clause-text : goal.parts::put_receive-returns-clause-text
-parts::put_receive-returns-clause-text t c = IfOk-weaker c.put_block.result _ _ (λ v e. receive-writes c.args.kind (map bind_tree c.args.binds.now) c.args.body.now c.args.depth _ _ _ _ _ _ c.in_ok-put.ensures.text c.in_ok-inner.ensures.text c.in_ok-inner.ensures.next c.in_ok-put-2.ensures.text e) c.put_block.ensures.text
+pub parts::put_match-returns : goal.parts::put_match-returns
+parts::put_match-returns t c = record { text = IfOk-weaker c.put-3.result _ _ (λ v e. match-writes c.args.target.now (map case_tree c.args.cases.now) c.args.depth _ _ _ _ _ _ c.in_ok-put.ensures.text c.in_ok-put_term.ensures.text c.in_ok-put-2.ensures.text c.in_ok-put_cases.ensures.text e) c.put-3.ensures.text; grows = longer c.put-3.result _ (le_trans c.in_ok-put.ensures.grows (le_trans c.in_ok-put_term.ensures.grows (le_trans c.in_ok-put-2.ensures.grows c.in_ok-put_cases.ensures.grows))) c.put-3.ensures.grows }
 
-pub parts::put_new-returns-clause-text : goal.parts::put_new-returns-clause-text
-parts::put_new-returns-clause-text t c = IfOk-weaker c.put_block.result _ _ (λ v e. new-writes c.args.names.now c.args.body.now c.args.depth _ _ _ _ _ _ c.in_ok-put.ensures.text c.in_ok-inner.ensures.text c.in_ok-inner.ensures.next c.in_ok-put-2.ensures.text e) c.put_block.ensures.text
+pub parts::put_bundle-returns : goal.parts::put_bundle-returns
+parts::put_bundle-returns t c = record { text = IfOk-weaker c.put_block.result _ _ (λ v e. bundle-writes c.args.rights c.args.body.now c.args.depth _ _ _ (shown c.args.out.now.items (sym c.rights_word.ensures) c.in_ok-put.ensures.text) e) c.put_block.ensures.text; grows = longer c.put_block.result _ c.in_ok-put.ensures.grows c.put_block.ensures.grows }
 
-pub parts::put_match-returns-clause-text : goal.parts::put_match-returns-clause-text
-parts::put_match-returns-clause-text t c = IfOk-weaker c.put-3.result _ _ (λ v e. match-writes c.args.target.now (map case_tree c.args.cases.now) c.args.depth _ _ _ _ _ _ c.in_ok-put.ensures.text c.in_ok-put_term.ensures.text c.in_ok-put-2.ensures.text c.in_ok-put_cases.ensures.text e) c.put-3.ensures.text
+pub parts::put_binary-returns : goal.parts::put_binary-returns
+parts::put_binary-returns t c = record { text = IfOk-weaker c.put-3.result _ _ (λ v e. binary-writes c.args.op c.args.left.now c.args.right.now c.args.depth _ _ _ _ _ _ c.in_ok-put.ensures.text c.in_ok-put_operand.ensures.text (shown c.put_operand.new.out.items (sym c.op_word.ensures) c.in_ok-put-2.ensures.text) c.in_ok-put_operand-2.ensures.text e) c.put-3.ensures.text; grows = longer c.put-3.result _ (le_trans c.in_ok-put.ensures.grows (le_trans c.in_ok-put_operand.ensures.grows (le_trans c.in_ok-put-2.ensures.grows c.in_ok-put_operand-2.ensures.grows))) c.put-3.ensures.grows }
 
-pub parts::put_bundle-returns-clause-text : goal.parts::put_bundle-returns-clause-text
-parts::put_bundle-returns-clause-text t c = IfOk-weaker c.put_block.result _ _ (λ v e. bundle-writes c.args.rights c.args.body.now c.args.depth _ _ _ (shown c.args.out.now.items (sym c.rights_word.ensures) c.in_ok-put.ensures.text) e) c.put_block.ensures.text
+pub parts::put_method-returns : goal.parts::put_method-returns
+parts::put_method-returns t c = record { text = IfOk-weaker c.put-5.result _ _ (λ v e. method-writes c.args.name.now c.args.target.now c.args.args.now c.args.depth _ _ _ _ _ _ _ _ c.in_ok-put.ensures.text c.in_ok-put_operand.ensures.text c.in_ok-put-2.ensures.text (shown c.put-2.new.out.items (sym c.as_bytes.ensures.value) c.in_ok-put-3.ensures.text) c.in_ok-put-4.ensures.text c.in_ok-put_terms.ensures.text e) c.put-5.ensures.text; grows = longer c.put-5.result _ (le_trans c.in_ok-put.ensures.grows (le_trans c.in_ok-put_operand.ensures.grows (le_trans c.in_ok-put-2.ensures.grows (le_trans c.in_ok-put-3.ensures.grows (le_trans c.in_ok-put-4.ensures.grows c.in_ok-put_terms.ensures.grows))))) c.put-5.ensures.grows }
 
-pub parts::put_binary-returns-clause-text : goal.parts::put_binary-returns-clause-text
-parts::put_binary-returns-clause-text t c = IfOk-weaker c.put-3.result _ _ (λ v e. binary-writes c.args.op c.args.left.now c.args.right.now c.args.depth _ _ _ _ _ _ c.in_ok-put.ensures.text c.in_ok-put_operand.ensures.text (shown c.put_operand.new.out.items (sym c.op_word.ensures) c.in_ok-put-2.ensures.text) c.in_ok-put_operand-2.ensures.text e) c.put-3.ensures.text
+pub binds::put_bind-returns : goal.binds::put_bind-returns
+binds::put_bind-returns t c = record {
+  text = let w = subst (λ us. Holds IsFine (all name_pat) (trees us) → c.put_left.new.out.items ≡ c.args.out.now.items ++ left_text us c.args.bind.now.rest c.args.depth c.args.next) c.deref.ensures.value c.in_ok-after.ensures.text in let z : c.len-start.result ≡ length c.args.out.now.items = omega arith in bind-writes c.args.kind c.args.bind.now c.args.depth c.args.next c.args.out.now.items c.put_left.new.out.items _ _ _ (omega (arith, c.requires.0)) w (shown c.put_left.new.out.items (ap (λ k. cond (ltb k (length c.put_left.new.out.items)) (codes " ") []) (sym z)) c.in_ok-put_space_since.ensures.text) (shown c.put_space_since.new.out.items (sym c.arrow.ensures) c.in_ok-put.ensures.text) c.in_ok-put_name.ensures.text;
+  next = λ h. c.in_ok-after.ensures.next (subst (λ us. Holds IsFine (all name_pat) (trees us)) (sym c.deref.ensures.value) h.1.1.0.1) ∙ ap (λ us. c.args.next + length (bound_all (trees us)) + length (bound (leaf (rest c.args.bind.now.rest)))) c.deref.ensures.value ∙ sym (bind-bound c.args.bind.now.channel c.args.bind.now.pats.items c.args.bind.now.rest c.args.next h.1.0);
+  room = (c.in_ok-after.ensures.room.0, le_trans c.in_ok-after.ensures.room.1 (le_trans c.in_ok-put_space_since.ensures.grows (le_trans c.in_ok-put.ensures.grows c.in_ok-put_name.ensures.grows)));
+  grows = le_trans c.in_ok-after.ensures.grows (le_trans c.in_ok-put_space_since.ensures.grows (le_trans c.in_ok-put.ensures.grows c.in_ok-put_name.ensures.grows));
+}
 
-pub parts::put_method-returns-clause-text : goal.parts::put_method-returns-clause-text
-parts::put_method-returns-clause-text t c = IfOk-weaker c.put-5.result _ _ (λ v e. method-writes c.args.name.now c.args.target.now c.args.args.now c.args.depth _ _ _ _ _ _ _ _ c.in_ok-put.ensures.text c.in_ok-put_operand.ensures.text c.in_ok-put-2.ensures.text (shown c.put-2.new.out.items (sym c.as_bytes.ensures.value) c.in_ok-put-3.ensures.text) c.in_ok-put-4.ensures.text c.in_ok-put_terms.ensures.text e) c.put-5.ensures.text
+pub binds::put_case-returns : goal.binds::put_case-returns
+binds::put_case-returns t c = record { text = IfOk-weaker c.put_block.result _ _ (λ v e. case-writes c.args.case.now c.args.depth _ _ _ _ _ _ c.in_ok-put.ensures.text c.in_ok-inner.ensures.text c.in_ok-inner.ensures.next c.in_ok-put-2.ensures.text e) c.put_block.ensures.text; grows = longer c.put_block.result _ (le_trans c.in_ok-put.ensures.grows (le_trans c.in_ok-inner.ensures.grows c.in_ok-put-2.ensures.grows)) c.put_block.ensures.grows }
 
-pub binds::put_bind-returns-clause-text : goal.binds::put_bind-returns-clause-text
-binds::put_bind-returns-clause-text t c =
-    let w = subst (λ us. Holds IsFine (all name_pat) (trees us) → c.put_left.new.out.items ≡ c.args.out.now.items ++ left_text us c.args.bind.now.rest c.args.depth c.args.next) c.deref.ensures.value c.in_ok-after.ensures.text in
-    let z : c.len-start.result ≡ length c.args.out.now.items = omega arith in
-    bind-writes c.args.kind c.args.bind.now c.args.depth c.args.next c.args.out.now.items c.put_left.new.out.items _ _ _ (omega (arith, c.requires.0)) w
-    (shown c.put_left.new.out.items (ap (λ k. cond (ltb k (length c.put_left.new.out.items)) (codes " ") []) (sym z)) c.in_ok-put_space_since.ensures.text) (shown c.put_space_since.new.out.items (sym c.arrow.ensures) c.in_ok-put.ensures.text) c.in_ok-put_name.ensures.text
+pub patterns::put_pat-returns-then-is_empty : goal.patterns::put_pat-returns-then-is_empty
+patterns::put_pat-returns-then-is_empty t c = record {
+  text = λ h. shown c.args.out.now.items (nil_pattern-text c.parts-parts.result.now c.args.t.now c.args.depth c.args.next c.parts-parts.ensures.parts (eqb-true _ _ (sym c.is_empty.ensures ∙ c.if-is_empty.true))) c.in_ok-put.ensures.text;
+  next = λ h. omega (arith, nil_pattern-bound c.parts-parts.result.now c.args.t.now c.parts-parts.ensures.parts (eqb-true _ _ (sym c.is_empty.ensures ∙ c.if-is_empty.true)));
+  room = (le_refl c.args.next, le_trans c.requires.1 c.in_ok-put.ensures.grows);
+  grows = c.in_ok-put.ensures.grows;
+}
 
-pub binds::put_bind-returns-clause-next : goal.binds::put_bind-returns-clause-next
-binds::put_bind-returns-clause-next t c = λ h. c.in_ok-after.ensures.next (subst (λ us. Holds IsFine (all name_pat) (trees us)) (sym c.deref.ensures.value) h.1.1.0.1)
-    ∙ ap (λ us. c.args.next + length (bound_all (trees us)) + length (bound (leaf (rest c.args.bind.now.rest)))) c.deref.ensures.value
-    ∙ sym (bind-bound c.args.bind.now.channel c.args.bind.now.pats.items c.args.bind.now.rest c.args.next h.1.0)
-
-pub binds::put_case-returns-clause-text : goal.binds::put_case-returns-clause-text
-binds::put_case-returns-clause-text t c = IfOk-weaker c.put_block.result _ _ (λ v e. case-writes c.args.case.now c.args.depth _ _ _ _ _ _ c.in_ok-put.ensures.text c.in_ok-inner.ensures.text c.in_ok-inner.ensures.next c.in_ok-put-2.ensures.text e) c.put_block.ensures.text
-
-pub patterns::put_pat-returns-then-is_empty-clause-text : goal.patterns::put_pat-returns-then-is_empty-clause-text
-patterns::put_pat-returns-then-is_empty-clause-text t c = λ h. shown c.args.out.now.items (nil_pattern-text c.parts-parts.result.now c.args.t.now c.args.depth c.args.next c.parts-parts.ensures.parts (eqb-true _ _ (sym c.is_empty.ensures ∙ c.if-is_empty.true))) c.in_ok-put.ensures.text
-
-pub patterns::put_pat-returns-then-is_empty-clause-next : goal.patterns::put_pat-returns-then-is_empty-clause-next
-patterns::put_pat-returns-then-is_empty-clause-next t c = λ h. omega (arith, nil_pattern-bound c.parts-parts.result.now c.args.t.now c.parts-parts.ensures.parts (eqb-true _ _ (sym c.is_empty.ensures ∙ c.if-is_empty.true)))
-
-pub patterns::put_pat-returns-clause-text : goal.patterns::put_pat-returns-clause-text
-patterns::put_pat-returns-clause-text t c = IfOk-weaker c.put_pat_parts.result _ _ (λ v e. λ h. shown c.args.out.now.items (pattern-text c.parts-parts.result.now c.args.t.now c.args.depth c.args.next c.parts-parts.ensures.parts (λ z. eqb-false _ _ (sym c.is_empty.ensures ∙ c.if-is_empty.false) z)) (e (pattern-parts c.parts-parts.result.now c.args.t.now c.parts-parts.ensures.parts h))) c.put_pat_parts.ensures.text
-
-pub patterns::put_pat-returns-clause-next : goal.patterns::put_pat-returns-clause-next
-patterns::put_pat-returns-clause-next t c = IfOk-weaker c.put_pat_parts.result _ _ (λ v e. λ h. e (pattern-parts c.parts-parts.result.now c.args.t.now c.parts-parts.ensures.parts h) ∙ ap (λ vs. c.args.next + length vs) (sym (pattern-bound c.parts-parts.result.now c.args.t.now c.parts-parts.ensures.parts))) c.put_pat_parts.ensures.next
+pub patterns::put_pat-returns : goal.patterns::put_pat-returns
+patterns::put_pat-returns t c = record {
+  text = IfOk-weaker c.put_pat_parts.result _ _ (λ v e. λ h. shown c.args.out.now.items (pattern-text c.parts-parts.result.now c.args.t.now c.args.depth c.args.next c.parts-parts.ensures.parts (λ z. eqb-false _ _ (sym c.is_empty.ensures ∙ c.if-is_empty.false) z)) (e (pattern-parts c.parts-parts.result.now c.args.t.now c.parts-parts.ensures.parts h))) c.put_pat_parts.ensures.text;
+  next = IfOk-weaker c.put_pat_parts.result _ _ (λ v e. λ h. e (pattern-parts c.parts-parts.result.now c.args.t.now c.parts-parts.ensures.parts h) ∙ ap (λ vs. c.args.next + length vs) (sym (pattern-bound c.parts-parts.result.now c.args.t.now c.parts-parts.ensures.parts))) c.put_pat_parts.ensures.next;
+  room = c.put_pat_parts.ensures.room;
+  grows = c.put_pat_parts.ensures.grows;
+}
 
 pub patterns::put_pat-put_pat_parts-requires : goal.patterns::put_pat-put_pat_parts-requires
 patterns::put_pat-put_pat_parts-requires t c = (omega (arith, ap weight c.parts-parts.ensures.parts), ((omega arith, omega arith), (subst IsNormal c.parts-parts.ensures.parts c.parts-parts.ensures.normal).1))
 
-pub patterns::put_pat_operand-returns-then-is_pattern_atom-clause-text : goal.patterns::put_pat_operand-returns-then-is_pattern_atom-clause-text
-patterns::put_pat_operand-returns-then-is_pattern_atom-clause-text t c = IfOk-weaker c.put_pat.result _ _ (λ v e. λ h. shown c.args.out.now.items (c.is_pattern_atom.ensures (text_of pat c.args.t.now c.args.depth c.args.next) ∙ ap (λ b. cond b (text_of pat c.args.t.now c.args.depth c.args.next) (braced (text_of pat c.args.t.now c.args.depth c.args.next))) c.if-is_pattern_atom.true) (e h)) c.put_pat.ensures.text
+pub patterns::put_pat_operand-returns-then-is_pattern_atom : goal.patterns::put_pat_operand-returns-then-is_pattern_atom
+patterns::put_pat_operand-returns-then-is_pattern_atom t c = record {
+  text = IfOk-weaker c.put_pat.result _ _ (λ v e. λ h. shown c.args.out.now.items (c.is_pattern_atom.ensures (text_of pat c.args.t.now c.args.depth c.args.next) ∙ ap (λ b. cond b (text_of pat c.args.t.now c.args.depth c.args.next) (braced (text_of pat c.args.t.now c.args.depth c.args.next))) c.if-is_pattern_atom.true) (e h)) c.put_pat.ensures.text;
+  next = c.put_pat.ensures.next;
+  room = c.put_pat.ensures.room;
+  grows = c.put_pat.ensures.grows;
+}
+
+pub patterns::put_pat_operand-returns : goal.patterns::put_pat_operand-returns
+patterns::put_pat_operand-returns t c = record {
+  text = λ h. shown c.args.out.now.items (c.is_pattern_atom.ensures (text_of pat c.args.t.now c.args.depth c.args.next) ∙ ap (λ b. cond b (text_of pat c.args.t.now c.args.depth c.args.next) (braced (text_of pat c.args.t.now c.args.depth c.args.next))) c.if-is_pattern_atom.false) (after c.args.out.now.items (codes "{") (((text_of pat c.args.t.now c.args.depth c.args.next)) ++ (codes "}")) (c.in_ok-put.ensures.text) (after c.put.new.out.items ((text_of pat c.args.t.now c.args.depth c.args.next)) (codes "}") (c.in_ok-after.ensures.text h) (c.in_ok-put-2.ensures.text)));
+  next = c.in_ok-after.ensures.next;
+  room = (c.in_ok-after.ensures.room.0, le_trans c.in_ok-after.ensures.room.1 c.in_ok-put-2.ensures.grows);
+  grows = le_trans c.in_ok-put.ensures.grows (le_trans c.in_ok-after.ensures.grows c.in_ok-put-2.ensures.grows);
+}
+
+pub patterns::put_name_pat-returns-then-is_bare : goal.patterns::put_name_pat-returns-then-is_bare
+patterns::put_name_pat-returns-then-is_bare t c = record {
+  text = IfOk-weaker c.put_pat.result _ _ (λ v e. λ h. shown c.args.out.now.items (name_pattern-text c.args.t.now c.args.depth c.args.next h ∙ c.is_bare.ensures (text_of pat c.args.t.now c.args.depth c.args.next) ∙ ap (λ b. cond b (text_of pat c.args.t.now c.args.depth c.args.next) (codes "@" ++ operand_text (held c.args.t.now) (text_of pat c.args.t.now c.args.depth c.args.next))) c.if-is_bare.true) (e h)) c.put_pat.ensures.text;
+  next = c.put_pat.ensures.next;
+  room = c.put_pat.ensures.room;
+  grows = c.put_pat.ensures.grows;
+}
+
+pub patterns::put_name_pat-returns : goal.patterns::put_name_pat-returns
+patterns::put_name_pat-returns t c = record {
+  text = IfOk-weaker c.put_pat_operand.result _ _ (λ v e. λ h. shown c.args.out.now.items (name_pattern-text c.args.t.now c.args.depth c.args.next h ∙ c.is_bare.ensures (text_of pat c.args.t.now c.args.depth c.args.next) ∙ ap (λ b. cond b (text_of pat c.args.t.now c.args.depth c.args.next) (codes "@" ++ operand_text (held c.args.t.now) (text_of pat c.args.t.now c.args.depth c.args.next))) c.if-is_bare.false) (after c.args.out.now.items (codes "@") (operand_text (held c.args.t.now) (text_of pat c.args.t.now c.args.depth c.args.next)) c.in_ok-put.ensures.text (e h))) c.put_pat_operand.ensures.text;
+  next = c.put_pat_operand.ensures.next;
+  room = c.put_pat_operand.ensures.room;
+  grows = longer c.put_pat_operand.result _ c.in_ok-put.ensures.grows c.put_pat_operand.ensures.grows;
+}
+
+pub patterns::put_pat_pair-returns : goal.patterns::put_pat_pair-returns
+patterns::put_pat_pair-returns t c = record {
+  text = IfOk-weaker c.put_pat-2.result _ _ (λ v e. λ h. pair_pattern-writes c.args.pair.now.0 c.args.pair.now.1 c.args.depth c.args.next _ _ _ _ _ (omega arith) (c.in_ok-after.ensures.text (pat_formed _ h.1.0)) (c.in_ok-after.ensures.next (pat_formed _ h.1.0)) c.in_ok-put.ensures.text (e (pat_formed _ h.1.1.0))) c.put_pat-2.ensures.text;
+  next = IfOk-weaker c.put_pat-2.result _ _ (λ v e. λ h. e (pat_formed _ h.1.1.0) ∙ ap (λ m. m + length (bound c.args.pair.now.1)) (c.in_ok-after.ensures.next (pat_formed _ h.1.0)) ∙ sym (two-bound (bound c.args.pair.now.0) (bound c.args.pair.now.1) c.args.next)) c.put_pat-2.ensures.next;
+  room = room-later c.put_pat-2.result _ c.in_ok-after.ensures.room.0 c.put_pat-2.ensures.room;
+  grows = longer c.put_pat-2.result _ (le_trans c.in_ok-after.ensures.grows c.in_ok-put.ensures.grows) c.put_pat-2.ensures.grows;
+}
+
+pub pattern_parts::put_joined-returns : goal.pattern_parts::put_joined-returns
+pattern_parts::put_joined-returns t c = record {
+  text = λ f g. after c.args.out.now.items (codes "(") ((operand_text (held c.args.left.now) (text_of pat c.args.left.now c.args.depth c.args.next)) ++ ((c.args.sign.now) ++ ((operand_text (held c.args.right.now) (text_of pat c.args.right.now c.args.depth (c.args.next + length (bound c.args.left.now)))) ++ (codes ")")))) (c.in_ok-put.ensures.text) (after c.put.new.out.items (operand_text (held c.args.left.now) (text_of pat c.args.left.now c.args.depth c.args.next)) ((c.args.sign.now) ++ ((operand_text (held c.args.right.now) (text_of pat c.args.right.now c.args.depth (c.args.next + length (bound c.args.left.now)))) ++ (codes ")"))) (c.in_ok-middle.ensures.text (pat_formed _ f)) (after c.put_pat_operand.new.out.items (c.args.sign.now) ((operand_text (held c.args.right.now) (text_of pat c.args.right.now c.args.depth (c.args.next + length (bound c.args.left.now)))) ++ (codes ")")) (c.in_ok-put-2.ensures.text) (after c.put-2.new.out.items (operand_text (held c.args.right.now) (text_of pat c.args.right.now c.args.depth (c.args.next + length (bound c.args.left.now)))) (codes ")") (shown c.put-2.new.out.items (ap (λ m. operand_text (held c.args.right.now) (text_of pat c.args.right.now c.args.depth m)) (sym (c.in_ok-middle.ensures.next (pat_formed _ f)))) (c.in_ok-after.ensures.text (pat_formed _ g))) (c.in_ok-put-3.ensures.text))));
+  next = λ f g. c.in_ok-after.ensures.next (pat_formed _ g) ∙ ap (λ m. m + length (bound c.args.right.now)) (c.in_ok-middle.ensures.next (pat_formed _ f));
+  room = (le_trans c.in_ok-middle.ensures.room.0 c.in_ok-after.ensures.room.0, le_trans c.in_ok-after.ensures.room.1 c.in_ok-put-3.ensures.grows);
+  grows = le_trans c.in_ok-put.ensures.grows (le_trans c.in_ok-middle.ensures.grows (le_trans c.in_ok-put-2.ensures.grows (le_trans c.in_ok-after.ensures.grows c.in_ok-put-3.ensures.grows)));
+}
+
+pub binds::put_left-returns : goal.binds::put_left-returns
+binds::put_left-returns t c = record {
+  text = IfOk-weaker c.put_rest.result _ _ (λ v e. λ h. left-writes c.args.pats.now c.args.ending c.args.depth c.args.next _ _ _ _ _ (c.in_ok-after.ensures.text h) (c.in_ok-after.ensures.next h) (omega arith) e) c.put_rest.ensures.text;
+  next = IfOk-weaker c.put_rest.result _ _ (λ v e. λ h. e ∙ ap (λ m. m + length (bound (leaf (rest c.args.ending)))) (c.in_ok-after.ensures.next h)) c.put_rest.ensures.next;
+  room = room-rest c.put_rest.result (length (bound (leaf (rest c.args.ending)))) _ c.in_ok-after.ensures.room.0 c.put_rest.ensures.next c.put_rest.ensures.room;
+  grows = longer c.put_rest.result _ c.in_ok-after.ensures.grows c.put_rest.ensures.grows;
+}
+
+pub pattern_parts::put_pat_list-returns : goal.pattern_parts::put_pat_list-returns
+pattern_parts::put_pat_list-returns t c = record {
+  text = λ h. members-writes pat c.args.members.now c.args.brackets.ending c.args.depth c.args.next _ _ _ _ _ _ _ _ _ c.in_ok-put.ensures.text (c.in_ok-middle.ensures.text h) (c.in_ok-middle.ensures.next h) (omega arith) c.in_ok-after.ensures.text c.in_ok-put-2.ensures.text;
+  next = λ h. c.in_ok-after.ensures.next ∙ ap (λ m. m + length (bound (leaf (rest c.args.brackets.ending)))) (c.in_ok-middle.ensures.next h);
+  room = (no_less (length (bound (leaf (rest c.args.brackets.ending)))) c.in_ok-middle.ensures.room.0 c.in_ok-after.ensures.next, le_trans c.in_ok-after.ensures.room c.in_ok-put-2.ensures.grows);
+  grows = le_trans c.in_ok-put.ensures.grows (le_trans c.in_ok-middle.ensures.grows (le_trans c.in_ok-after.ensures.grows c.in_ok-put-2.ensures.grows));
+}
+
+pub pattern_parts::put_pat_map-returns : goal.pattern_parts::put_pat_map-returns
+pattern_parts::put_pat_map-returns t c = record {
+  text = λ h. members-writes (pair_of pat) (map pair_tree c.args.pairs.now) c.args.ending c.args.depth c.args.next _ _ _ _ _ _ _ _ _ c.in_ok-put.ensures.text (c.in_ok-middle.ensures.text h) (c.in_ok-middle.ensures.next h) (omega (arith, length-map c.args.pairs.now pair_tree)) c.in_ok-after.ensures.text c.in_ok-put-2.ensures.text;
+  next = λ h. c.in_ok-after.ensures.next ∙ ap (λ m. m + length (bound (leaf (rest c.args.ending)))) (c.in_ok-middle.ensures.next h);
+  room = (no_less (length (bound (leaf (rest c.args.ending)))) c.in_ok-middle.ensures.room.0 c.in_ok-after.ensures.next, le_trans c.in_ok-after.ensures.room c.in_ok-put-2.ensures.grows);
+  grows = le_trans c.in_ok-put.ensures.grows (le_trans c.in_ok-middle.ensures.grows (le_trans c.in_ok-after.ensures.grows c.in_ok-put-2.ensures.grows));
+}
+
+pub pattern_parts::put_pat_send-returns : goal.pattern_parts::put_pat_send-returns
+pattern_parts::put_pat_send-returns t c = record {
+  text = λ h. shown c.args.out.now.items (pattern_send-text c.args.persistent c.args.channel.now c.args.args.now c.args.depth c.args.next (omega (arith, c.requires.0))) (after c.args.out.now.items (text_of name_pat c.args.channel.now c.args.depth c.args.next) ((marks c.args.persistent) ++ ((separated (codes ", ") (texts_of pat c.args.args.now c.args.depth (c.args.next + length (bound c.args.channel.now)))) ++ (codes ")"))) (c.in_ok-middle.ensures.text h.1.0) (after c.put_name_pat.new.out.items (marks c.args.persistent) ((separated (codes ", ") (texts_of pat c.args.args.now c.args.depth (c.args.next + length (bound c.args.channel.now)))) ++ (codes ")")) (shown c.put_name_pat.new.out.items (sym c.send_marks.ensures) c.in_ok-put.ensures.text) (after c.put.new.out.items (separated (codes ", ") (texts_of pat c.args.args.now c.args.depth (c.args.next + length (bound c.args.channel.now)))) (codes ")") (shown c.put.new.out.items (ap (λ m. separated (codes ", ") (texts_of pat c.args.args.now c.args.depth m)) (sym (c.in_ok-middle.ensures.next h.1.0))) (c.in_ok-after.ensures.text h.1.1.0.1)) (c.in_ok-put-2.ensures.text))));
+  next = λ h. c.in_ok-after.ensures.next h.1.1.0.1 ∙ ap (λ m. m + length (bound_all (trees c.args.args.now))) (c.in_ok-middle.ensures.next h.1.0) ∙ sym (two-bound (bound c.args.channel.now) (bound_all (trees c.args.args.now)) c.args.next);
+  room = (le_trans c.in_ok-middle.ensures.room.0 c.in_ok-after.ensures.room.0, le_trans c.in_ok-after.ensures.room.1 c.in_ok-put-2.ensures.grows);
+  grows = le_trans c.in_ok-middle.ensures.grows (le_trans c.in_ok-put.ensures.grows (le_trans c.in_ok-after.ensures.grows c.in_ok-put-2.ensures.grows));
+}
+
+pub pattern_parts::put_pat_bundle-returns : goal.pattern_parts::put_pat_bundle-returns
+pattern_parts::put_pat_bundle-returns t c = record {
+  text = λ h. shown c.args.out.now.items (pattern_bundle-text c.args.rights c.args.body.now c.args.depth c.args.next (omega (arith, c.requires.0))) (after c.args.out.now.items (rights_text c.args.rights) ((codes "{ ") ++ ((text_of pat c.args.body.now c.args.depth c.args.next) ++ (codes " }"))) (shown c.args.out.now.items (sym c.rights_word.ensures) c.in_ok-put.ensures.text) (after c.put.new.out.items (codes "{ ") ((text_of pat c.args.body.now c.args.depth c.args.next) ++ (codes " }")) (c.in_ok-put-2.ensures.text) (after c.put-2.new.out.items (text_of pat c.args.body.now c.args.depth c.args.next) (codes " }") (c.in_ok-after.ensures.text (pat_formed _ h.1.0)) (c.in_ok-put-3.ensures.text))));
+  next = λ h. c.in_ok-after.ensures.next (pat_formed _ h.1.0) ∙ sym (one-bound (bound c.args.body.now) c.args.next);
+  room = (c.in_ok-after.ensures.room.0, le_trans c.in_ok-after.ensures.room.1 c.in_ok-put-3.ensures.grows);
+  grows = le_trans c.in_ok-put.ensures.grows (le_trans c.in_ok-put-2.ensures.grows (le_trans c.in_ok-after.ensures.grows c.in_ok-put-3.ensures.grows));
+}
+
+pub pattern_parts::put_closed-returns : goal.pattern_parts::put_closed-returns
+pattern_parts::put_closed-returns t c = record {
+  text = λ h. closed-writes c.args.part.now c.args.depth c.args.next _ _ c.look_inside.ensures c.in_ok-put_part.ensures.text h;
+  next = λ h. omega (arith, ap length (closed-bound c.args.part.now c.look_inside.ensures h));
+  room = (le_refl c.args.next, le_trans c.requires.room.1 c.in_ok-put_part.ensures.grows);
+  grows = c.in_ok-put_part.ensures.grows;
+}
+
+pub parts::put_part-returns-in-Ground : goal.parts::put_part-returns-in-Ground
+parts::put_part-returns-in-Ground t c = record { text = IfOk-weaker c.put_ground.result _ _ (λ v e. λ h n. shown c.args.out.now.items (ap (λ q. text_of part (part_tree q) c.args.depth n) c.in-Ground.is ∙ ground-text c.in-Ground.g c.args.depth n) e) c.put_ground.ensures.text; grows = c.put_ground.ensures.grows }
+
+pub parts::put_part-returns-in_ok-put-in-Fresh : goal.parts::put_part-returns-in_ok-put-in-Fresh
+parts::put_part-returns-in_ok-put-in-Fresh t c = record { text = IfOk-weaker c.put_fresh.result _ _ (λ v e. λ h n. shown c.args.out.now.items (ap (λ q. text_of part (part_tree q) c.args.depth n) c.in-Fresh.is) (after c.args.out.now.items (codes "*") (codes "$" ++ to_hex c.in-Fresh.name.0) c.in_ok-put-in-Fresh.ensures.text e)) c.put_fresh.ensures.text; grows = longer c.put_fresh.result _ c.in_ok-put-in-Fresh.ensures.grows c.put_fresh.ensures.grows }
+
+pub parts::put_part-returns-in-Var : goal.parts::put_part-returns-in-Var
+parts::put_part-returns-in-Var t c = record { text = IfOk-weaker c.put_variable.result _ _ (λ v e. λ h n. shown c.args.out.now.items (ap (λ q. text_of part (part_tree q) c.args.depth n) c.in-Var.is ∙ ap variable_text (sym c.number_of.ensures)) e) c.put_variable.ensures.text; grows = no_shorter c.put_variable.result _ _ c.put_variable.ensures.grows }
+
+pub parts::put_part-returns-in_ok-put-in-NameVar : goal.parts::put_part-returns-in_ok-put-in-NameVar
+parts::put_part-returns-in_ok-put-in-NameVar t c = record { text = IfOk-weaker c.put_variable-in-NameVar.result _ _ (λ v e. λ h n. shown c.args.out.now.items (ap (λ q. text_of part (part_tree q) c.args.depth n) c.in-NameVar.is ∙ ap (λ m. codes "*" ++ variable_text m) (sym c.number_of-in-NameVar.ensures)) (after c.args.out.now.items (codes "*") (variable_text c.number_of-in-NameVar.result) c.in_ok-put-in-NameVar.ensures.text e)) c.put_variable-in-NameVar.ensures.text; grows = longer c.put_variable-in-NameVar.result _ c.in_ok-put-in-NameVar.ensures.grows (no_shorter c.put_variable-in-NameVar.result _ _ c.put_variable-in-NameVar.ensures.grows) }
+
+pub parts::put_part-returns-in-List : goal.parts::put_part-returns-in-List
+parts::put_part-returns-in-List t c = record { text = same_part c.put_members.result _ (part_tree c.args.p.now) c.args.depth _ _ (ap (λ us. many list us) c.deref.ensures.value ∙ sym (ap part_tree c.in-List.is)) (IfOk-weaker c.put_members.result _ _ (λ v e. list-writes c.deref.result.now c.args.depth _ _ e) c.put_members.ensures.text); grows = c.put_members.ensures.grows }
+
+pub parts::put_part-returns-in-Tuple : goal.parts::put_part-returns-in-Tuple
+parts::put_part-returns-in-Tuple t c = record { text = let l : c.len.result ≡ length c.deref-in-Tuple.result.now = omega (arith, ap length c.deref-in-Tuple.ensures.value) in same_part c.put_members-in-Tuple.result _ (part_tree c.args.p.now) c.args.depth _ _ (ap (λ us. many tuple us) c.deref-in-Tuple.ensures.value ∙ sym (ap part_tree c.in-Tuple.is)) (IfOk-weaker c.put_members-in-Tuple.result _ _ (λ v e. tuple-writes c.deref-in-Tuple.result.now c.args.depth c.tuple_end.result.now _ _ (c.tuple_end.ensures ∙ ap (λ k. cond (eqb k 1) (codes ",)") (codes ")")) l) e) c.put_members-in-Tuple.ensures.text); grows = c.put_members-in-Tuple.ensures.grows }
+
+pub parts::put_part-returns-in-Set : goal.parts::put_part-returns-in-Set
+parts::put_part-returns-in-Set t c = record { text = let s : many set c.deref-in-Set.result.now ≡ part_tree c.args.p.now = ap (λ us. many set us) c.deref-in-Set.ensures.value ∙ sym (ap part_tree c.in-Set.is) in same_part c.put_members-in-Set.result _ (part_tree c.args.p.now) c.args.depth _ _ s (IfOk-weaker c.put_members-in-Set.result _ _ (λ v e. set-writes c.deref-in-Set.result.now c.args.depth _ _ (subst IsOrdered (sym s) c.requires.ordered) e) c.put_members-in-Set.ensures.text); grows = c.put_members-in-Set.ensures.grows }
+
+pub parts::put_part-returns-in-Map : goal.parts::put_part-returns-in-Map
+parts::put_part-returns-in-Map t c = record { text = same_part c.put_map.result _ (part_tree c.args.p.now) c.args.depth _ _ (ap (λ us. many dict (map pair_tree us)) c.deref-in-Map.ensures.value ∙ sym (ap part_tree c.in-Map.is)) c.put_map.ensures.text; grows = c.put_map.ensures.grows }
+
+pub parts::put_part-returns-in-Send : goal.parts::put_part-returns-in-Send
+parts::put_part-returns-in-Send t c = record { text = same_part c.put_send.result _ (part_tree c.args.p.now) c.args.depth _ _ (ap (λ us. two (send c.in-Send.persistent) c.in-Send.channel (many row us)) c.deref-in-Send.ensures.value ∙ sym (ap part_tree c.in-Send.is)) c.put_send.ensures.text; grows = c.put_send.ensures.grows }
+
+pub parts::put_part-returns-in-Receive : goal.parts::put_part-returns-in-Receive
+parts::put_part-returns-in-Receive t c = record { text = same_part c.put_receive.result _ (part_tree c.args.p.now) c.args.depth _ _ (ap (λ us. two (receive c.in-Receive.kind) (many row (map bind_tree us)) c.in-Receive.body) c.deref-in-Receive.ensures.value ∙ sym (ap part_tree c.in-Receive.is)) c.put_receive.ensures.text; grows = c.put_receive.ensures.grows }
+
+pub parts::put_part-returns-in-New : goal.parts::put_part-returns-in-New
+parts::put_part-returns-in-New t c = record { text = same_part c.put_new.result _ (part_tree c.args.p.now) c.args.depth _ _ (ap (λ us. one (new us) c.in-New.body) c.deref-in-New.ensures.value ∙ sym (ap part_tree c.in-New.is)) c.put_new.ensures.text; grows = c.put_new.ensures.grows }
+
+pub parts::put_part-returns-in-Match : goal.parts::put_part-returns-in-Match
+parts::put_part-returns-in-Match t c = record { text = same_part c.put_match.result _ (part_tree c.args.p.now) c.args.depth _ _ (ap (λ us. two match c.in-Match.target (many row (map case_tree us))) c.deref-in-Match.ensures.value ∙ sym (ap part_tree c.in-Match.is)) c.put_match.ensures.text; grows = c.put_match.ensures.grows }
+
+pub parts::put_part-returns-in-Bundle : goal.parts::put_part-returns-in-Bundle
+parts::put_part-returns-in-Bundle t c = record { text = same_part c.put_bundle.result _ (part_tree c.args.p.now) c.args.depth _ _ (sym (ap part_tree c.in-Bundle.is)) c.put_bundle.ensures.text; grows = c.put_bundle.ensures.grows }
+
+pub parts::put_part-returns-in-Unary : goal.parts::put_part-returns-in-Unary
+parts::put_part-returns-in-Unary t c = record { text = same_part c.put_unary.result _ (part_tree c.args.p.now) c.args.depth _ _ (sym (ap part_tree c.in-Unary.is)) c.put_unary.ensures.text; grows = c.put_unary.ensures.grows }
+
+pub parts::put_part-returns-in-Binary : goal.parts::put_part-returns-in-Binary
+parts::put_part-returns-in-Binary t c = record { text = same_part c.put_binary.result _ (part_tree c.args.p.now) c.args.depth _ _ (sym (ap part_tree c.in-Binary.is)) c.put_binary.ensures.text; grows = c.put_binary.ensures.grows }
+
+pub parts::put_part-returns-in-Method : goal.parts::put_part-returns-in-Method
+parts::put_part-returns-in-Method t c = record { text = same_part c.put_method.result _ (part_tree c.args.p.now) c.args.depth _ _ (ap (λ us. two (method c.as_str.result.now) c.in-Method.target (many row us)) c.deref-in-Method.ensures.value ∙ ap (λ w. two (method w) c.in-Method.target (many row c.in-Method.args.items)) c.as_str.ensures.value ∙ sym (ap part_tree c.in-Method.is)) c.put_method.ensures.text; grows = c.put_method.ensures.grows }
+
+pub pattern_parts::put_pat_part-returns-in-Wild : goal.pattern_parts::put_pat_part-returns-in-Wild
+pattern_parts::put_pat_part-returns-in-Wild t c = record {
+  text = IfOk-weaker c.put_and.result _ _ (λ v e. λ h. shown c.args.out.now.items (ap (λ q. text_of pat_part (pat_part_tree q) c.args.depth c.args.next) c.in-Wild.is) e) c.put_and.ensures.text;
+  next = IfOk-weaker c.put_and.result _ _ (λ v e. λ h. e ∙ sym (nothing_more c.args.next) ∙ ap (λ q. c.args.next + length (bound (pat_part_tree q))) (sym c.in-Wild.is)) c.put_and.ensures.next;
+  room = room-same c.put_and.result _ c.requires.room.1 c.put_and.ensures.next c.put_and.ensures.grows;
+  grows = c.put_and.ensures.grows;
+}
+
+pub pattern_parts::put_pat_part-returns-in-Var : goal.pattern_parts::put_pat_part-returns-in-Var
+pattern_parts::put_pat_part-returns-in-Var t c = record {
+  text = IfOk-weaker c.put_new_variable.result _ _ (λ v e. λ h. shown c.args.out.now.items (ap (λ q. text_of pat_part (pat_part_tree q) c.args.depth c.args.next) c.in-Var.is) e) c.put_new_variable.ensures.text;
+  next = IfOk-weaker c.put_new_variable.result _ _ (λ v e. λ h. e ∙ ap (λ q. c.args.next + length (bound (pat_part_tree q))) (sym c.in-Var.is)) c.put_new_variable.ensures.next;
+  room = room-one c.put_new_variable.result _ c.requires.room.1 c.put_new_variable.ensures.next c.put_new_variable.ensures.grows;
+  grows = no_shorter c.put_new_variable.result _ _ c.put_new_variable.ensures.grows;
+}
+
+pub pattern_parts::put_pat_part-returns-in-NameVar : goal.pattern_parts::put_pat_part-returns-in-NameVar
+pattern_parts::put_pat_part-returns-in-NameVar t c = record {
+  text = IfOk-weaker c.put_new_variable-in-NameVar.result _ _ (λ v e. λ h. shown c.args.out.now.items (ap (λ q. text_of pat_part (pat_part_tree q) c.args.depth c.args.next) c.in-NameVar.is) e) c.put_new_variable-in-NameVar.ensures.text;
+  next = IfOk-weaker c.put_new_variable-in-NameVar.result _ _ (λ v e. λ h. e ∙ ap (λ q. c.args.next + length (bound (pat_part_tree q))) (sym c.in-NameVar.is)) c.put_new_variable-in-NameVar.ensures.next;
+  room = room-one c.put_new_variable-in-NameVar.result _ c.requires.room.1 c.put_new_variable-in-NameVar.ensures.next c.put_new_variable-in-NameVar.ensures.grows;
+  grows = no_shorter c.put_new_variable-in-NameVar.result _ _ c.put_new_variable-in-NameVar.ensures.grows;
+}
+
+pub pattern_parts::put_pat_part-returns-in-Simple : goal.pattern_parts::put_pat_part-returns-in-Simple
+pattern_parts::put_pat_part-returns-in-Simple t c = record {
+  text = IfOk-weaker c.put_and-in-Simple.result _ _ (λ v e. λ h. shown c.args.out.now.items (ap (λ q. text_of pat_part (pat_part_tree q) c.args.depth c.args.next) c.in-Simple.is ∙ sym c.simple_word.ensures) e) c.put_and-in-Simple.ensures.text;
+  next = IfOk-weaker c.put_and-in-Simple.result _ _ (λ v e. λ h. e ∙ sym (nothing_more c.args.next) ∙ ap (λ q. c.args.next + length (bound (pat_part_tree q))) (sym c.in-Simple.is)) c.put_and-in-Simple.ensures.next;
+  room = room-same c.put_and-in-Simple.result _ c.requires.room.1 c.put_and-in-Simple.ensures.next c.put_and-in-Simple.ensures.grows;
+  grows = c.put_and-in-Simple.ensures.grows;
+}
+
+pub pattern_parts::put_pat_part-returns-in_ok-put_braced-in-Same : goal.pattern_parts::put_pat_part-returns-in_ok-put_braced-in-Same
+pattern_parts::put_pat_part-returns-in_ok-put_braced-in-Same t c = record {
+  text = λ h. let k = subst (λ q. Formed IsFine name_part (pat_part_tree q)) c.in-Same.is h in shown c.args.out.now.items (ap (λ q. text_of pat_part (pat_part_tree q) c.args.depth c.args.next) c.in-Same.is ∙ same-text c.in-Same.t c.args.depth c.args.next) (after c.args.out.now.items (codes "=") (braced (text_of term c.in-Same.t c.args.depth (max (c.args.depth + 0) c.args.depth))) c.in_ok-put-in-Same.ensures.text (c.in_ok-put_braced-in-Same.ensures.text k.1.0 (max (c.args.depth + 0) c.args.depth)));
+  next = λ h. sym (nothing_more c.args.next) ∙ ap (λ q. c.args.next + length (bound (pat_part_tree q))) (sym c.in-Same.is);
+  room = (le_refl c.args.next, le_trans c.requires.room.1 (le_trans c.in_ok-put-in-Same.ensures.grows c.in_ok-put_braced-in-Same.ensures.grows));
+  grows = le_trans c.in_ok-put-in-Same.ensures.grows c.in_ok-put_braced-in-Same.ensures.grows;
+}
+
+pub pattern_parts::put_pat_part-returns-in_ok-put_ground-in-Ground : goal.pattern_parts::put_pat_part-returns-in_ok-put_ground-in-Ground
+pattern_parts::put_pat_part-returns-in_ok-put_ground-in-Ground t c = record {
+  text = λ h. shown c.args.out.now.items (ap (λ q. text_of pat_part (pat_part_tree q) c.args.depth c.args.next) c.in-Ground.is ∙ ground_pattern-text c.in-Ground.g c.args.depth c.args.next) c.in_ok-put_ground-in-Ground.ensures.text;
+  next = λ h. sym (nothing_more c.args.next) ∙ ap (λ vs. c.args.next + length vs) (sym (ground-bound c.in-Ground.g)) ∙ ap (λ q. c.args.next + length (bound (pat_part_tree q))) (sym c.in-Ground.is);
+  room = (le_refl c.args.next, le_trans c.requires.room.1 c.in_ok-put_ground-in-Ground.ensures.grows);
+  grows = c.in_ok-put_ground-in-Ground.ensures.grows;
+}
+
+pub pattern_parts::put_pat_part-returns-in-Both : goal.pattern_parts::put_pat_part-returns-in-Both
+pattern_parts::put_pat_part-returns-in-Both t c = record {
+  text = IfOk-weaker c.put_joined.result _ _ (λ v e. λ h. let k = subst (λ q. Formed IsFine name_part (pat_part_tree q)) c.in-Both.is h in shown c.args.out.now.items (ap (λ q. text_of pat_part (pat_part_tree q) c.args.depth c.args.next) c.in-Both.is ∙ both-text c.in-Both.left c.in-Both.right c.args.depth c.args.next (omega (arith, c.requires.room.0))) (e k.1.0 k.1.1.0)) c.put_joined.ensures.text;
+  next = IfOk-weaker c.put_joined.result _ _ (λ v e. λ h. let k = subst (λ q. Formed IsFine name_part (pat_part_tree q)) c.in-Both.is h in e k.1.0 k.1.1.0 ∙ sym (two-bound (bound c.in-Both.left) (bound c.in-Both.right) c.args.next) ∙ ap (λ q. c.args.next + length (bound (pat_part_tree q))) (sym c.in-Both.is)) c.put_joined.ensures.next;
+  room = c.put_joined.ensures.room;
+  grows = c.put_joined.ensures.grows;
+}
+
+pub pattern_parts::put_pat_part-returns-in-Either : goal.pattern_parts::put_pat_part-returns-in-Either
+pattern_parts::put_pat_part-returns-in-Either t c = record {
+  text = IfOk-weaker c.put_joined-in-Either.result _ _ (λ v e. λ h. let k = subst (λ q. Formed IsFine name_part (pat_part_tree q)) c.in-Either.is h in shown c.args.out.now.items (ap (λ q. text_of pat_part (pat_part_tree q) c.args.depth c.args.next) c.in-Either.is ∙ either-text c.in-Either.left c.in-Either.right c.args.depth c.args.next (omega (arith, c.requires.room.0))) (e k.1.0 k.1.1.0)) c.put_joined-in-Either.ensures.text;
+  next = IfOk-weaker c.put_joined-in-Either.result _ _ (λ v e. λ h. let k = subst (λ q. Formed IsFine name_part (pat_part_tree q)) c.in-Either.is h in e k.1.0 k.1.1.0 ∙ sym (two-bound (bound c.in-Either.left) (bound c.in-Either.right) c.args.next) ∙ ap (λ q. c.args.next + length (bound (pat_part_tree q))) (sym c.in-Either.is)) c.put_joined-in-Either.ensures.next;
+  room = c.put_joined-in-Either.ensures.room;
+  grows = c.put_joined-in-Either.ensures.grows;
+}
+
+pub pattern_parts::put_pat_part-returns-in_ok-put-in-Not : goal.pattern_parts::put_pat_part-returns-in_ok-put-in-Not
+pattern_parts::put_pat_part-returns-in_ok-put-in-Not t c = record {
+  text = IfOk-weaker c.put_pat_operand.result _ _ (λ v e. λ h. let k = subst (λ q. Formed IsFine name_part (pat_part_tree q)) c.in-Not.is h in shown c.args.out.now.items (ap (λ q. text_of pat_part (pat_part_tree q) c.args.depth c.args.next) c.in-Not.is ∙ not-text c.in-Not.inner c.args.depth c.args.next (omega (arith, c.requires.room.0))) (after c.args.out.now.items (codes "~") (operand_text (held c.in-Not.inner) (text_of pat c.in-Not.inner c.args.depth c.args.next)) c.in_ok-put-in-Not.ensures.text (e (pat_formed _ k.1.0)))) c.put_pat_operand.ensures.text;
+  next = IfOk-weaker c.put_pat_operand.result _ _ (λ v e. λ h. let k = subst (λ q. Formed IsFine name_part (pat_part_tree q)) c.in-Not.is h in e (pat_formed _ k.1.0) ∙ sym (one-bound (bound c.in-Not.inner) c.args.next) ∙ ap (λ q. c.args.next + length (bound (pat_part_tree q))) (sym c.in-Not.is)) c.put_pat_operand.ensures.next;
+  room = c.put_pat_operand.ensures.room;
+  grows = longer c.put_pat_operand.result _ c.in_ok-put-in-Not.ensures.grows c.put_pat_operand.ensures.grows;
+}
+
+pub pattern_parts::put_pat_part-returns-in-List : goal.pattern_parts::put_pat_part-returns-in-List
+pattern_parts::put_pat_part-returns-in-List t c = record {
+  text = IfOk-weaker c.put_pat_list.result _ _ (λ v e. λ h. let k = subst (λ q. Formed IsFine name_part (pat_part_tree q)) c.in-List.is h in shown c.args.out.now.items (ap (λ q. text_of pat_part (pat_part_tree q) c.args.depth c.args.next) c.in-List.is ∙ list_pattern-text c.in-List.members.items c.in-List.rest c.args.depth c.args.next (omega (arith, c.requires.room.0)) ∙ ap (λ us. codes "[" ++ (members_text pat us c.in-List.rest c.args.depth c.args.next ++ codes "]")) (sym c.deref.ensures.value)) (e (subst (λ us. Holds IsFine (all pat) (trees us)) (sym c.deref.ensures.value) k.1.0.1))) c.put_pat_list.ensures.text;
+  next = IfOk-weaker c.put_pat_list.result _ _ (λ v e. λ h. let k = subst (λ q. Formed IsFine name_part (pat_part_tree q)) c.in-List.is h in e (subst (λ us. Holds IsFine (all pat) (trees us)) (sym c.deref.ensures.value) k.1.0.1) ∙ ap (λ us. c.args.next + length (bound_all (trees us)) + length (bound (leaf (rest c.in-List.rest)))) c.deref.ensures.value ∙ sym (two-bound (bound_all (trees c.in-List.members.items)) (bound (leaf (rest c.in-List.rest))) c.args.next) ∙ ap (λ q. c.args.next + length (bound (pat_part_tree q))) (sym c.in-List.is)) c.put_pat_list.ensures.next;
+  room = c.put_pat_list.ensures.room;
+  grows = c.put_pat_list.ensures.grows;
+}
+
+pub pattern_parts::put_pat_part-returns-in-Set : goal.pattern_parts::put_pat_part-returns-in-Set
+pattern_parts::put_pat_part-returns-in-Set t c = record {
+  text = IfOk-weaker c.put_pat_list-in-Set.result _ _ (λ v e. λ h. let k = subst (λ q. Formed IsFine name_part (pat_part_tree q)) c.in-Set.is h in shown c.args.out.now.items (ap (λ q. text_of pat_part (pat_part_tree q) c.args.depth c.args.next) c.in-Set.is ∙ set_pattern-text c.in-Set.members.items c.in-Set.rest c.args.depth c.args.next (omega (arith, c.requires.room.0)) ∙ ap (λ us. codes "Set(" ++ (members_text pat us c.in-Set.rest c.args.depth c.args.next ++ codes ")")) (sym c.deref-in-Set.ensures.value)) (e (subst (λ us. Holds IsFine (all pat) (trees us)) (sym c.deref-in-Set.ensures.value) k.1.0.1))) c.put_pat_list-in-Set.ensures.text;
+  next = IfOk-weaker c.put_pat_list-in-Set.result _ _ (λ v e. λ h. let k = subst (λ q. Formed IsFine name_part (pat_part_tree q)) c.in-Set.is h in e (subst (λ us. Holds IsFine (all pat) (trees us)) (sym c.deref-in-Set.ensures.value) k.1.0.1) ∙ ap (λ us. c.args.next + length (bound_all (trees us)) + length (bound (leaf (rest c.in-Set.rest)))) c.deref-in-Set.ensures.value ∙ sym (two-bound (bound_all (trees c.in-Set.members.items)) (bound (leaf (rest c.in-Set.rest))) c.args.next) ∙ ap (λ q. c.args.next + length (bound (pat_part_tree q))) (sym c.in-Set.is)) c.put_pat_list-in-Set.ensures.next;
+  room = c.put_pat_list-in-Set.ensures.room;
+  grows = c.put_pat_list-in-Set.ensures.grows;
+}
+
+pub pattern_parts::put_pat_part-returns-in-Map : goal.pattern_parts::put_pat_part-returns-in-Map
+pattern_parts::put_pat_part-returns-in-Map t c = record {
+  text = IfOk-weaker c.put_pat_map.result _ _ (λ v e. λ h. let k = subst (λ q. Formed IsFine name_part (pat_part_tree q)) c.in-Map.is h in shown c.args.out.now.items (ap (λ q. text_of pat_part (pat_part_tree q) c.args.depth c.args.next) c.in-Map.is ∙ map_pattern-text (map pair_tree c.in-Map.pairs.items) c.in-Map.rest c.args.depth c.args.next (omega (arith, c.requires.room.0)) ∙ ap (λ us. codes "{" ++ (members_text (pair_of pat) (map pair_tree us) c.in-Map.rest c.args.depth c.args.next ++ codes "}")) (sym c.deref-in-Map.ensures.value)) (e (subst (λ us. Holds IsFine (all (pair_of pat)) (trees (map pair_tree us))) (sym c.deref-in-Map.ensures.value) k.1.0.1))) c.put_pat_map.ensures.text;
+  next = IfOk-weaker c.put_pat_map.result _ _ (λ v e. λ h. let k = subst (λ q. Formed IsFine name_part (pat_part_tree q)) c.in-Map.is h in e (subst (λ us. Holds IsFine (all (pair_of pat)) (trees (map pair_tree us))) (sym c.deref-in-Map.ensures.value) k.1.0.1) ∙ ap (λ us. c.args.next + length (bound_all (trees (map pair_tree us))) + length (bound (leaf (rest c.in-Map.rest)))) c.deref-in-Map.ensures.value ∙ sym (two-bound (bound_all (trees (map pair_tree c.in-Map.pairs.items))) (bound (leaf (rest c.in-Map.rest))) c.args.next) ∙ ap (λ q. c.args.next + length (bound (pat_part_tree q))) (sym c.in-Map.is)) c.put_pat_map.ensures.next;
+  room = c.put_pat_map.ensures.room;
+  grows = c.put_pat_map.ensures.grows;
+}
+
+pub pattern_parts::put_pat_part-returns-in-Tuple : goal.pattern_parts::put_pat_part-returns-in-Tuple
+pattern_parts::put_pat_part-returns-in-Tuple t c = record {
+  text = let l : c.len.result ≡ length c.deref-in-Tuple.result.now = omega (arith, ap length c.deref-in-Tuple.ensures.value) in same_pattern c.put_pat_list-in-Tuple.result _ (pat_part_tree c.args.p.now) c.args.depth c.args.next _ _ (ap (λ us. many tuple us) c.deref-in-Tuple.ensures.value ∙ sym (ap pat_part_tree c.in-Tuple.is)) (IfOk-weaker c.put_pat_list-in-Tuple.result _ _ (λ v e. tuple_pattern-writes c.deref-in-Tuple.result.now c.args.depth c.args.next c.tuple_end.result.now _ _ (c.tuple_end.ensures ∙ ap (λ k. cond (eqb k 1) (codes ",)") (codes ")")) l) e) c.put_pat_list-in-Tuple.ensures.text);
+  next = same_next c.put_pat_list-in-Tuple.result _ (pat_part_tree c.args.p.now) c.args.next (ap (λ us. many tuple us) c.deref-in-Tuple.ensures.value ∙ sym (ap pat_part_tree c.in-Tuple.is)) (IfOk-weaker c.put_pat_list-in-Tuple.result _ _ (λ v e. tuple_pattern-bound c.deref-in-Tuple.result.now c.args.next _ e) c.put_pat_list-in-Tuple.ensures.next);
+  room = c.put_pat_list-in-Tuple.ensures.room;
+  grows = c.put_pat_list-in-Tuple.ensures.grows;
+}
+
+pub pattern_parts::put_pat_part-returns-in-Send : goal.pattern_parts::put_pat_part-returns-in-Send
+pattern_parts::put_pat_part-returns-in-Send t c = record {
+  text = same_pattern c.put_pat_send.result _ (pat_part_tree c.args.p.now) c.args.depth c.args.next _ _ (ap (λ us. two (send c.in-Send.persistent) c.in-Send.channel (many row us)) c.deref-in-Send.ensures.value ∙ sym (ap pat_part_tree c.in-Send.is)) c.put_pat_send.ensures.text;
+  next = same_next c.put_pat_send.result _ (pat_part_tree c.args.p.now) c.args.next (ap (λ us. two (send c.in-Send.persistent) c.in-Send.channel (many row us)) c.deref-in-Send.ensures.value ∙ sym (ap pat_part_tree c.in-Send.is)) c.put_pat_send.ensures.next;
+  room = c.put_pat_send.ensures.room;
+  grows = c.put_pat_send.ensures.grows;
+}
+
+pub pattern_parts::put_pat_part-returns-in-Bundle : goal.pattern_parts::put_pat_part-returns-in-Bundle
+pattern_parts::put_pat_part-returns-in-Bundle t c = record {
+  text = same_pattern c.put_pat_bundle.result _ (pat_part_tree c.args.p.now) c.args.depth c.args.next _ _ (sym (ap pat_part_tree c.in-Bundle.is)) c.put_pat_bundle.ensures.text;
+  next = same_next c.put_pat_bundle.result _ (pat_part_tree c.args.p.now) c.args.next (sym (ap pat_part_tree c.in-Bundle.is)) c.put_pat_bundle.ensures.next;
+  room = c.put_pat_bundle.ensures.room;
+  grows = c.put_pat_bundle.ensures.grows;
+}
+
+pub pattern_parts::put_pat_part-returns-in-Closed : goal.pattern_parts::put_pat_part-returns-in-Closed
+pattern_parts::put_pat_part-returns-in-Closed t c = record {
+  text = same_pattern c.put_closed.result _ (pat_part_tree c.args.p.now) c.args.depth c.args.next _ _ (sym (ap pat_part_tree c.in-Closed.is)) c.put_closed.ensures.text;
+  next = same_next c.put_closed.result _ (pat_part_tree c.args.p.now) c.args.next (sym (ap pat_part_tree c.in-Closed.is)) c.put_closed.ensures.next;
+  room = c.put_closed.ensures.room;
+  grows = c.put_closed.ensures.grows;
+}
+
+pub parts::put_unary-returns-in_ok-put_operand-in-Not : goal.parts::put_unary-returns-in_ok-put_operand-in-Not
+parts::put_unary-returns-in_ok-put_operand-in-Not t c = record { text = IfOk-weaker c.put-in-Not.result _ _ (λ v e. same_writes _ _ c.args.depth c.args.out.now.items _ (not-writes c.args.arg.now c.args.depth c.args.out.now.items _ _ _ c.in_ok-put-in-Not.ensures.text c.in_ok-put_operand-in-Not.ensures.text e) (ap (λ o. one (unary o) c.args.arg.now) (sym c.in-Not.is))) c.put-in-Not.ensures.text; grows = longer c.put-in-Not.result _ (le_trans c.in_ok-put-in-Not.ensures.grows c.in_ok-put_operand-in-Not.ensures.grows) c.put-in-Not.ensures.grows }
+
+pub parts::put_unary-returns-in_ok-put_braced-in-Neg : goal.parts::put_unary-returns-in_ok-put_braced-in-Neg
+parts::put_unary-returns-in_ok-put_braced-in-Neg t c = record { text = IfOk-weaker c.put-in-Neg-2.result _ _ (λ v e. same_writes _ _ c.args.depth c.args.out.now.items _ (neg-writes c.args.arg.now c.args.depth c.args.out.now.items _ _ _ c.in_ok-put-in-Neg.ensures.text c.in_ok-put_braced-in-Neg.ensures.text e) (ap (λ o. one (unary o) c.args.arg.now) (sym c.in-Neg.is))) c.put-in-Neg-2.ensures.text; grows = longer c.put-in-Neg-2.result _ (le_trans c.in_ok-put-in-Neg.ensures.grows c.in_ok-put_braced-in-Neg.ensures.grows) c.put-in-Neg-2.ensures.grows }
+
+pub terms::put_operand-put_term-requires : goal.terms::put_operand-put_term-requires
+terms::put_operand-put_term-requires t c = (omega arith, c.requires)
+
+pub terms::put_operand-put_braced-requires : goal.terms::put_operand-put_braced-requires
+terms::put_operand-put_braced-requires t c = (omega arith, c.requires)
+
+pub terms::put_braced-put_term-requires : goal.terms::put_braced-put_term-requires
+terms::put_braced-put_term-requires t c = (omega arith, le_trans c.requires c.in_ok-put.ensures.grows)
+
+pub terms::put_block-put_term-requires : goal.terms::put_block-put_term-requires
+terms::put_block-put_term-requires t c = (omega arith, le_trans c.requires c.in_ok-put.ensures.grows)
+
+pub terms::put_name-put_quoted-requires : goal.terms::put_name-put_quoted-requires
+terms::put_name-put_quoted-requires t c = (omega arith, c.requires)
+
+pub terms::put_name-put_quoted-requires-in-len2-up : goal.terms::put_name-put_quoted-requires-in-len2-up
+terms::put_name-put_quoted-requires-in-len2-up t c = (omega arith, c.requires)
+
+pub terms::put_name_of-put_quoted-requires : goal.terms::put_name_of-put_quoted-requires
+terms::put_name_of-put_quoted-requires t c = (omega arith, c.requires.room)
+
+pub terms::put_quoted-put_operand-requires : goal.terms::put_quoted-put_operand-requires
+terms::put_quoted-put_operand-requires t c = (omega arith, le_trans c.requires c.in_ok-put.ensures.grows)
+
+pub terms::put_pair-put_term-requires : goal.terms::put_pair-put_term-requires
+terms::put_pair-put_term-requires t c = (omega arith, c.requires)
+
+pub terms::put_pair-put_term-requires-2 : goal.terms::put_pair-put_term-requires-2
+terms::put_pair-put_term-requires-2 t c = (omega arith, le_trans c.requires (le_trans c.in_ok-put_term.ensures.grows c.in_ok-put.ensures.grows))
+
+pub parts::put_part-put_members-requires : goal.parts::put_part-put_members-requires
+parts::put_part-put_members-requires t c = (omega (arith, ap (λ q. weight (part_tree q)) c.in-List.is, ap (λ us. weights (trees us)) c.deref.ensures.value), c.requires.room)
+
+pub parts::put_part-put_members-requires-in-Tuple : goal.parts::put_part-put_members-requires-in-Tuple
+parts::put_part-put_members-requires-in-Tuple t c = (omega (arith, ap (λ q. weight (part_tree q)) c.in-Tuple.is, ap (λ us. weights (trees us)) c.deref-in-Tuple.ensures.value), c.requires.room)
+
+pub parts::put_part-put_members-requires-in-Set : goal.parts::put_part-put_members-requires-in-Set
+parts::put_part-put_members-requires-in-Set t c = (omega (arith, ap (λ q. weight (part_tree q)) c.in-Set.is, ap (λ us. weights (trees us)) c.deref-in-Set.ensures.value), c.requires.room)
 
-pub patterns::put_pat_operand-returns-clause-text : goal.patterns::put_pat_operand-returns-clause-text
-patterns::put_pat_operand-returns-clause-text t c = λ h. shown c.args.out.now.items (c.is_pattern_atom.ensures (text_of pat c.args.t.now c.args.depth c.args.next) ∙ ap (λ b. cond b (text_of pat c.args.t.now c.args.depth c.args.next) (braced (text_of pat c.args.t.now c.args.depth c.args.next))) c.if-is_pattern_atom.false) (after c.args.out.now.items (codes "{") (((text_of pat c.args.t.now c.args.depth c.args.next)) ++ (codes "}")) (c.in_ok-put.ensures.text) (after c.put.new.out.items ((text_of pat c.args.t.now c.args.depth c.args.next)) (codes "}") (c.in_ok-after.ensures.text h) (c.in_ok-put-2.ensures.text)))
+pub parts::put_part-put_send-requires : goal.parts::put_part-put_send-requires
+parts::put_part-put_send-requires t c = (omega (arith, ap (λ q. weight (part_tree q)) c.in-Send.is, ap (λ us. weights (trees us)) c.deref-in-Send.ensures.value), c.requires.room)
 
-pub patterns::put_name_pat-returns-then-is_bare-clause-text : goal.patterns::put_name_pat-returns-then-is_bare-clause-text
-patterns::put_name_pat-returns-then-is_bare-clause-text t c = IfOk-weaker c.put_pat.result _ _ (λ v e. λ h. shown c.args.out.now.items (name_pattern-text c.args.t.now c.args.depth c.args.next h ∙ c.is_bare.ensures (text_of pat c.args.t.now c.args.depth c.args.next) ∙ ap (λ b. cond b (text_of pat c.args.t.now c.args.depth c.args.next) (codes "@" ++ operand_text (held c.args.t.now) (text_of pat c.args.t.now c.args.depth c.args.next))) c.if-is_bare.true) (e h)) c.put_pat.ensures.text
+pub parts::put_part-put_receive-requires : goal.parts::put_part-put_receive-requires
+parts::put_part-put_receive-requires t c = (omega (arith, ap (λ q. weight (part_tree q)) c.in-Receive.is, ap (λ us. weights (trees (map bind_tree us))) c.deref-in-Receive.ensures.value), c.requires.room)
 
-pub patterns::put_name_pat-returns-clause-text : goal.patterns::put_name_pat-returns-clause-text
-patterns::put_name_pat-returns-clause-text t c = IfOk-weaker c.put_pat_operand.result _ _ (λ v e. λ h. shown c.args.out.now.items (name_pattern-text c.args.t.now c.args.depth c.args.next h ∙ c.is_bare.ensures (text_of pat c.args.t.now c.args.depth c.args.next) ∙ ap (λ b. cond b (text_of pat c.args.t.now c.args.depth c.args.next) (codes "@" ++ operand_text (held c.args.t.now) (text_of pat c.args.t.now c.args.depth c.args.next))) c.if-is_bare.false) (after c.args.out.now.items (codes "@") (operand_text (held c.args.t.now) (text_of pat c.args.t.now c.args.depth c.args.next)) c.in_ok-put.ensures.text (e h))) c.put_pat_operand.ensures.text
+pub parts::put_part-put_new-requires : goal.parts::put_part-put_new-requires
+parts::put_part-put_new-requires t c = (omega (arith, ap (λ q. weight (part_tree q)) c.in-New.is), c.requires.room)
 
-pub patterns::put_pat_pair-returns-clause-text : goal.patterns::put_pat_pair-returns-clause-text
-patterns::put_pat_pair-returns-clause-text t c = IfOk-weaker c.put_pat-2.result _ _ (λ v e. λ h. pair_pattern-writes c.args.pair.now.0 c.args.pair.now.1 c.args.depth c.args.next _ _ _ _ _ (omega arith) (c.in_ok-after.ensures.text (pat_formed _ h.1.0)) (c.in_ok-after.ensures.next (pat_formed _ h.1.0)) c.in_ok-put.ensures.text (e (pat_formed _ h.1.1.0))) c.put_pat-2.ensures.text
+pub parts::put_part-put_match-requires : goal.parts::put_part-put_match-requires
+parts::put_part-put_match-requires t c = (omega (arith, ap (λ q. weight (part_tree q)) c.in-Match.is, ap (λ us. weights (trees (map case_tree us))) c.deref-in-Match.ensures.value), c.requires.room)
 
-pub patterns::put_pat_pair-returns-clause-next : goal.patterns::put_pat_pair-returns-clause-next
-patterns::put_pat_pair-returns-clause-next t c = IfOk-weaker c.put_pat-2.result _ _ (λ v e. λ h. e (pat_formed _ h.1.1.0) ∙ ap (λ m. m + length (bound c.args.pair.now.1)) (c.in_ok-after.ensures.next (pat_formed _ h.1.0)) ∙ sym (two-bound (bound c.args.pair.now.0) (bound c.args.pair.now.1) c.args.next)) c.put_pat-2.ensures.next
+pub parts::put_part-put_bundle-requires : goal.parts::put_part-put_bundle-requires
+parts::put_part-put_bundle-requires t c = (omega (arith, ap (λ q. weight (part_tree q)) c.in-Bundle.is), c.requires.room)
 
-pub pattern_parts::put_joined-returns-clause-text : goal.pattern_parts::put_joined-returns-clause-text
-pattern_parts::put_joined-returns-clause-text t c = λ f g. after c.args.out.now.items (codes "(") ((operand_text (held c.args.left.now) (text_of pat c.args.left.now c.args.depth c.args.next)) ++ ((c.args.sign.now) ++ ((operand_text (held c.args.right.now) (text_of pat c.args.right.now c.args.depth (c.args.next + length (bound c.args.left.now)))) ++ (codes ")")))) (c.in_ok-put.ensures.text) (after c.put.new.out.items (operand_text (held c.args.left.now) (text_of pat c.args.left.now c.args.depth c.args.next)) ((c.args.sign.now) ++ ((operand_text (held c.args.right.now) (text_of pat c.args.right.now c.args.depth (c.args.next + length (bound c.args.left.now)))) ++ (codes ")"))) (c.in_ok-middle.ensures.text (pat_formed _ f)) (after c.put_pat_operand.new.out.items (c.args.sign.now) ((operand_text (held c.args.right.now) (text_of pat c.args.right.now c.args.depth (c.args.next + length (bound c.args.left.now)))) ++ (codes ")")) (c.in_ok-put-2.ensures.text) (after c.put-2.new.out.items (operand_text (held c.args.right.now) (text_of pat c.args.right.now c.args.depth (c.args.next + length (bound c.args.left.now)))) (codes ")") (shown c.put-2.new.out.items (ap (λ m. operand_text (held c.args.right.now) (text_of pat c.args.right.now c.args.depth m)) (sym (c.in_ok-middle.ensures.next (pat_formed _ f)))) (c.in_ok-after.ensures.text (pat_formed _ g))) (c.in_ok-put-3.ensures.text))))
+pub parts::put_part-put_unary-requires : goal.parts::put_part-put_unary-requires
+parts::put_part-put_unary-requires t c = (omega (arith, ap (λ q. weight (part_tree q)) c.in-Unary.is), c.requires.room)
 
-pub pattern_parts::put_joined-returns-clause-next : goal.pattern_parts::put_joined-returns-clause-next
-pattern_parts::put_joined-returns-clause-next t c = λ f g. c.in_ok-after.ensures.next (pat_formed _ g) ∙ ap (λ m. m + length (bound c.args.right.now)) (c.in_ok-middle.ensures.next (pat_formed _ f))
+pub parts::put_part-put_binary-requires : goal.parts::put_part-put_binary-requires
+parts::put_part-put_binary-requires t c = (omega (arith, ap (λ q. weight (part_tree q)) c.in-Binary.is), c.requires.room)
 
-pub binds::put_left-returns-clause-text : goal.binds::put_left-returns-clause-text
-binds::put_left-returns-clause-text t c = IfOk-weaker c.put_rest.result _ _ (λ v e. λ h. left-writes c.args.pats.now c.args.ending c.args.depth c.args.next _ _ _ _ _ (c.in_ok-after.ensures.text h) (c.in_ok-after.ensures.next h) (omega arith) e) c.put_rest.ensures.text
+pub parts::put_part-put_method-requires : goal.parts::put_part-put_method-requires
+parts::put_part-put_method-requires t c = (omega (arith, ap (λ q. weight (part_tree q)) c.in-Method.is, ap (λ us. weights (trees us)) c.deref-in-Method.ensures.value), c.requires.room)
 
-pub binds::put_left-returns-clause-next : goal.binds::put_left-returns-clause-next
-binds::put_left-returns-clause-next t c = IfOk-weaker c.put_rest.result _ _ (λ v e. λ h. e ∙ ap (λ m. m + length (bound (leaf (rest c.args.ending)))) (c.in_ok-after.ensures.next h)) c.put_rest.ensures.next
+pub parts::put_members-put_terms-requires : goal.parts::put_members-put_terms-requires
+parts::put_members-put_terms-requires t c = (omega arith, le_trans c.requires c.in_ok-put.ensures.grows)
 
-pub pattern_parts::put_pat_list-returns-clause-text : goal.pattern_parts::put_pat_list-returns-clause-text
-pattern_parts::put_pat_list-returns-clause-text t c = λ h. members-writes pat c.args.members.now c.args.ending c.args.depth c.args.next _ _ _ _ _ _ _ _ _ c.in_ok-put.ensures.text (c.in_ok-middle.ensures.text h) (c.in_ok-middle.ensures.next h) (omega arith) c.in_ok-after.ensures.text c.in_ok-put-2.ensures.text
+pub parts::put_map-put_pairs-requires : goal.parts::put_map-put_pairs-requires
+parts::put_map-put_pairs-requires t c = (omega arith, le_trans c.requires.room c.in_ok-put.ensures.grows)
 
-pub pattern_parts::put_pat_list-returns-clause-next : goal.pattern_parts::put_pat_list-returns-clause-next
-pattern_parts::put_pat_list-returns-clause-next t c = λ h. c.in_ok-after.ensures.next ∙ ap (λ m. m + length (bound (leaf (rest c.args.ending)))) (c.in_ok-middle.ensures.next h)
+pub parts::put_send-put_name-requires : goal.parts::put_send-put_name-requires
+parts::put_send-put_name-requires t c = (omega arith, c.requires)
 
-pub pattern_parts::put_pat_map-returns-clause-text : goal.pattern_parts::put_pat_map-returns-clause-text
-pattern_parts::put_pat_map-returns-clause-text t c = λ h. members-writes (pair_of pat) (map pair_tree c.args.pairs.now) c.args.ending c.args.depth c.args.next _ _ _ _ _ _ _ _ _ c.in_ok-put.ensures.text (c.in_ok-middle.ensures.text h) (c.in_ok-middle.ensures.next h) (omega (arith, length-map c.args.pairs.now pair_tree)) c.in_ok-after.ensures.text c.in_ok-put-2.ensures.text
+pub parts::put_send-put_terms-requires : goal.parts::put_send-put_terms-requires
+parts::put_send-put_terms-requires t c = (omega arith, le_trans c.requires (le_trans c.in_ok-put_name.ensures.grows c.in_ok-put.ensures.grows))
 
-pub pattern_parts::put_pat_map-returns-clause-next : goal.pattern_parts::put_pat_map-returns-clause-next
-pattern_parts::put_pat_map-returns-clause-next t c = λ h. c.in_ok-after.ensures.next ∙ ap (λ m. m + length (bound (leaf (rest c.args.ending)))) (c.in_ok-middle.ensures.next h)
+pub parts::put_receive-put_binds-requires : goal.parts::put_receive-put_binds-requires
+parts::put_receive-put_binds-requires t c = (omega arith, le_trans c.requires c.in_ok-put.ensures.grows)
 
-pub pattern_parts::put_pat_tuple-returns-clause-text : goal.pattern_parts::put_pat_tuple-returns-clause-text
-pattern_parts::put_pat_tuple-returns-clause-text t c = λ h. shown c.args.out.now.items (pattern_tuple-text c.args.members.now c.args.depth c.args.next) (after c.args.out.now.items (codes "(") ((separated (codes ", ") (texts_of pat c.args.members.now c.args.depth c.args.next)) ++ (cond (eqb (length c.args.members.now) 1) (codes ",)") (codes ")"))) (c.in_ok-put.ensures.text) (after c.put.new.out.items (separated (codes ", ") (texts_of pat c.args.members.now c.args.depth c.args.next)) (cond (eqb (length c.args.members.now) 1) (codes ",)") (codes ")")) (c.in_ok-after.ensures.text h.1) (shown c.put_pats.new.out.items (sym c.tuple_end.ensures) c.in_ok-put-2.ensures.text)))
+pub parts::put_receive-put_block-requires : goal.parts::put_receive-put_block-requires
+parts::put_receive-put_block-requires t c = (omega arith, le_trans c.in_ok-inner.ensures.room.1 c.in_ok-put-2.ensures.grows)
 
-pub pattern_parts::put_pat_tuple-returns-clause-next : goal.pattern_parts::put_pat_tuple-returns-clause-next
-pattern_parts::put_pat_tuple-returns-clause-next t c = λ h. c.in_ok-after.ensures.next h.1
+pub parts::put_new-put_block-requires : goal.parts::put_new-put_block-requires
+parts::put_new-put_block-requires t c = (omega arith, le_trans c.in_ok-inner.ensures.room c.in_ok-put-2.ensures.grows)
 
-pub pattern_parts::put_pat_send-returns-clause-text : goal.pattern_parts::put_pat_send-returns-clause-text
-pattern_parts::put_pat_send-returns-clause-text t c = λ h. shown c.args.out.now.items (pattern_send-text c.args.persistent c.args.channel.now c.args.args.now c.args.depth c.args.next (omega (arith, c.requires.0))) (after c.args.out.now.items (text_of name_pat c.args.channel.now c.args.depth c.args.next) ((marks c.args.persistent) ++ ((separated (codes ", ") (texts_of pat c.args.args.now c.args.depth (c.args.next + length (bound c.args.channel.now)))) ++ (codes ")"))) (c.in_ok-middle.ensures.text h.1.0) (after c.put_name_pat.new.out.items (marks c.args.persistent) ((separated (codes ", ") (texts_of pat c.args.args.now c.args.depth (c.args.next + length (bound c.args.channel.now)))) ++ (codes ")")) (shown c.put_name_pat.new.out.items (sym c.send_marks.ensures) c.in_ok-put.ensures.text) (after c.put.new.out.items (separated (codes ", ") (texts_of pat c.args.args.now c.args.depth (c.args.next + length (bound c.args.channel.now)))) (codes ")") (shown c.put.new.out.items (ap (λ m. separated (codes ", ") (texts_of pat c.args.args.now c.args.depth m)) (sym (c.in_ok-middle.ensures.next h.1.0))) (c.in_ok-after.ensures.text h.1.1.0.1)) (c.in_ok-put-2.ensures.text))))
+pub parts::put_match-put_term-requires : goal.parts::put_match-put_term-requires
+parts::put_match-put_term-requires t c = (omega arith, le_trans c.requires c.in_ok-put.ensures.grows)
 
-pub pattern_parts::put_pat_send-returns-clause-next : goal.pattern_parts::put_pat_send-returns-clause-next
-pattern_parts::put_pat_send-returns-clause-next t c = λ h. c.in_ok-after.ensures.next h.1.1.0.1 ∙ ap (λ m. m + length (bound_all (trees c.args.args.now))) (c.in_ok-middle.ensures.next h.1.0) ∙ sym (two-bound (bound c.args.channel.now) (bound_all (trees c.args.args.now)) c.args.next)
+pub parts::put_match-put_cases-requires : goal.parts::put_match-put_cases-requires
+parts::put_match-put_cases-requires t c = (omega arith, le_trans c.requires (le_trans c.in_ok-put.ensures.grows (le_trans c.in_ok-put_term.ensures.grows c.in_ok-put-2.ensures.grows)))
 
-pub pattern_parts::put_pat_bundle-returns-clause-text : goal.pattern_parts::put_pat_bundle-returns-clause-text
-pattern_parts::put_pat_bundle-returns-clause-text t c = λ h. shown c.args.out.now.items (pattern_bundle-text c.args.rights c.args.body.now c.args.depth c.args.next (omega (arith, c.requires.0))) (after c.args.out.now.items (rights_text c.args.rights) ((codes "{ ") ++ ((text_of pat c.args.body.now c.args.depth c.args.next) ++ (codes " }"))) (shown c.args.out.now.items (sym c.rights_word.ensures) c.in_ok-put.ensures.text) (after c.put.new.out.items (codes "{ ") ((text_of pat c.args.body.now c.args.depth c.args.next) ++ (codes " }")) (c.in_ok-put-2.ensures.text) (after c.put-2.new.out.items (text_of pat c.args.body.now c.args.depth c.args.next) (codes " }") (c.in_ok-after.ensures.text (pat_formed _ h.1.0)) (c.in_ok-put-3.ensures.text))))
+pub parts::put_bundle-put_block-requires : goal.parts::put_bundle-put_block-requires
+parts::put_bundle-put_block-requires t c = (omega arith, le_trans c.requires c.in_ok-put.ensures.grows)
 
-pub pattern_parts::put_pat_bundle-returns-clause-next : goal.pattern_parts::put_pat_bundle-returns-clause-next
-pattern_parts::put_pat_bundle-returns-clause-next t c = λ h. c.in_ok-after.ensures.next (pat_formed _ h.1.0) ∙ sym (one-bound (bound c.args.body.now) c.args.next)
+pub parts::put_binary-put_operand-requires : goal.parts::put_binary-put_operand-requires
+parts::put_binary-put_operand-requires t c = (omega arith, le_trans c.requires c.in_ok-put.ensures.grows)
 
-pub pattern_parts::put_closed-returns-clause-text : goal.pattern_parts::put_closed-returns-clause-text
-pattern_parts::put_closed-returns-clause-text t c = λ h. closed-writes c.args.part.now c.args.depth c.args.next _ _ c.look_inside.ensures c.in_ok-put_part.ensures.text h
+pub parts::put_binary-put_operand-requires-2 : goal.parts::put_binary-put_operand-requires-2
+parts::put_binary-put_operand-requires-2 t c = (omega arith, le_trans c.requires (le_trans c.in_ok-put.ensures.grows (le_trans c.in_ok-put_operand.ensures.grows c.in_ok-put-2.ensures.grows)))
 
-pub pattern_parts::put_closed-returns-clause-next : goal.pattern_parts::put_closed-returns-clause-next
-pattern_parts::put_closed-returns-clause-next t c = λ h. omega (arith, ap length (closed-bound c.args.part.now c.look_inside.ensures h))
+pub binds::put_bind-put_left-requires : goal.binds::put_bind-put_left-requires
+binds::put_bind-put_left-requires t c = (omega (arith, ap (λ us. weights (trees us)) c.deref.ensures.value), c.requires)
 
-pub parts::put_part-returns-in-Ground-clause-text : goal.parts::put_part-returns-in-Ground-clause-text
-parts::put_part-returns-in-Ground-clause-text t c = IfOk-weaker c.put_ground.result _ _ (λ v e. λ h n. shown c.args.out.now.items (ap (λ q. text_of part (part_tree q) c.args.depth n) c.in-Ground.is ∙ ground-text c.in-Ground.g c.args.depth n) e) c.put_ground.ensures.text
+pub binds::put_bind-put_name-requires : goal.binds::put_bind-put_name-requires
+binds::put_bind-put_name-requires t c = (omega arith, le_trans c.requires.0 (le_trans c.requires.1 (le_trans c.in_ok-after.ensures.grows (le_trans c.in_ok-put_space_since.ensures.grows c.in_ok-put.ensures.grows))))
 
-pub parts::put_part-returns-in_ok-put-in-Fresh-clause-text : goal.parts::put_part-returns-in_ok-put-in-Fresh-clause-text
-parts::put_part-returns-in_ok-put-in-Fresh-clause-text t c = IfOk-weaker c.put_fresh.result _ _ (λ v e. λ h n. shown c.args.out.now.items (ap (λ q. text_of part (part_tree q) c.args.depth n) c.in-Fresh.is) (after c.args.out.now.items (codes "*") (codes "$" ++ to_hex c.in-Fresh.name.0) c.in_ok-put-in-Fresh.ensures.text e)) c.put_fresh.ensures.text
+pub binds::put_left-put_name_pats-requires : goal.binds::put_left-put_name_pats-requires
+binds::put_left-put_name_pats-requires t c = (omega arith, c.requires)
 
-pub parts::put_part-returns-in-Var-clause-text : goal.parts::put_part-returns-in-Var-clause-text
-parts::put_part-returns-in-Var-clause-text t c = IfOk-weaker c.put_variable.result _ _ (λ v e. λ h n. shown c.args.out.now.items (ap (λ q. text_of part (part_tree q) c.args.depth n) c.in-Var.is ∙ ap variable_text (sym c.number_of.ensures)) e) c.put_variable.ensures.text
+pub binds::put_case-put_pat-requires : goal.binds::put_case-put_pat-requires
+binds::put_case-put_pat-requires t c = (omega arith, (le_refl c.args.depth, le_trans c.requires c.in_ok-put.ensures.grows))
 
-pub parts::put_part-returns-in_ok-put-in-NameVar-clause-text : goal.parts::put_part-returns-in_ok-put-in-NameVar-clause-text
-parts::put_part-returns-in_ok-put-in-NameVar-clause-text t c = IfOk-weaker c.put_variable-in-NameVar.result _ _ (λ v e. λ h n. shown c.args.out.now.items (ap (λ q. text_of part (part_tree q) c.args.depth n) c.in-NameVar.is ∙ ap (λ m. codes "*" ++ variable_text m) (sym c.number_of-in-NameVar.ensures)) (after c.args.out.now.items (codes "*") (variable_text c.number_of-in-NameVar.result) c.in_ok-put-in-NameVar.ensures.text e)) c.put_variable-in-NameVar.ensures.text
+pub binds::put_case-put_block-requires : goal.binds::put_case-put_block-requires
+binds::put_case-put_block-requires t c = (omega arith, le_trans c.in_ok-inner.ensures.room.1 c.in_ok-put-2.ensures.grows)
 
-pub parts::put_part-returns-in-List-clause-text : goal.parts::put_part-returns-in-List-clause-text
-parts::put_part-returns-in-List-clause-text t c = same_part c.put_list.result _ (part_tree c.args.p.now) c.args.depth _ _ (ap (λ us. many list us) c.deref.ensures.value ∙ sym (ap part_tree c.in-List.is)) c.put_list.ensures.text
+pub patterns::put_pat_operand-put_pat-requires : goal.patterns::put_pat_operand-put_pat-requires
+patterns::put_pat_operand-put_pat-requires t c = (omega arith, c.requires)
 
-pub parts::put_part-returns-in-Tuple-clause-text : goal.parts::put_part-returns-in-Tuple-clause-text
-parts::put_part-returns-in-Tuple-clause-text t c = same_part c.put_tuple.result _ (part_tree c.args.p.now) c.args.depth _ _ (ap (λ us. many tuple us) c.deref-in-Tuple.ensures.value ∙ sym (ap part_tree c.in-Tuple.is)) c.put_tuple.ensures.text
+pub patterns::put_pat_operand-put_pat-requires-2 : goal.patterns::put_pat_operand-put_pat-requires-2
+patterns::put_pat_operand-put_pat-requires-2 t c = (omega arith, (c.requires.0, le_trans c.requires.1 c.in_ok-put.ensures.grows))
 
-pub parts::put_part-returns-in-Set-clause-text : goal.parts::put_part-returns-in-Set-clause-text
-parts::put_part-returns-in-Set-clause-text t c = same_part c.put_set.result _ (part_tree c.args.p.now) c.args.depth _ _ (ap (λ us. many set us) c.deref-in-Set.ensures.value ∙ sym (ap part_tree c.in-Set.is)) c.put_set.ensures.text
+pub patterns::put_name_pat-put_pat-requires : goal.patterns::put_name_pat-put_pat-requires
+patterns::put_name_pat-put_pat-requires t c = (omega arith, c.requires)
 
-pub parts::put_part-returns-in-Map-clause-text : goal.parts::put_part-returns-in-Map-clause-text
-parts::put_part-returns-in-Map-clause-text t c = same_part c.put_map.result _ (part_tree c.args.p.now) c.args.depth _ _ (ap (λ us. many dict (map pair_tree us)) c.deref-in-Map.ensures.value ∙ sym (ap part_tree c.in-Map.is)) c.put_map.ensures.text
+pub patterns::put_name_pat-put_pat_operand-requires : goal.patterns::put_name_pat-put_pat_operand-requires
+patterns::put_name_pat-put_pat_operand-requires t c = (omega arith, (c.requires.0, le_trans c.requires.1 c.in_ok-put.ensures.grows))
 
-pub parts::put_part-returns-in-Send-clause-text : goal.parts::put_part-returns-in-Send-clause-text
-parts::put_part-returns-in-Send-clause-text t c = same_part c.put_send.result _ (part_tree c.args.p.now) c.args.depth _ _ (ap (λ us. two (send c.in-Send.persistent) c.in-Send.channel (many row us)) c.deref-in-Send.ensures.value ∙ sym (ap part_tree c.in-Send.is)) c.put_send.ensures.text
+pub patterns::put_pat_pair-put_pat-requires : goal.patterns::put_pat_pair-put_pat-requires
+patterns::put_pat_pair-put_pat-requires t c = (omega arith, c.requires)
 
-pub parts::put_part-returns-in-Receive-clause-text : goal.parts::put_part-returns-in-Receive-clause-text
-parts::put_part-returns-in-Receive-clause-text t c = same_part c.put_receive.result _ (part_tree c.args.p.now) c.args.depth _ _ (ap (λ us. two (receive c.in-Receive.kind) (many row (map bind_tree us)) c.in-Receive.body) c.deref-in-Receive.ensures.value ∙ sym (ap part_tree c.in-Receive.is)) c.put_receive.ensures.text
+pub patterns::put_pat_pair-put_pat-requires-2 : goal.patterns::put_pat_pair-put_pat-requires-2
+patterns::put_pat_pair-put_pat-requires-2 t c = (omega arith, (le_trans c.requires.0 c.in_ok-after.ensures.room.0, le_trans c.in_ok-after.ensures.room.1 c.in_ok-put.ensures.grows))
 
-pub parts::put_part-returns-in-New-clause-text : goal.parts::put_part-returns-in-New-clause-text
-parts::put_part-returns-in-New-clause-text t c = same_part c.put_new.result _ (part_tree c.args.p.now) c.args.depth _ _ (ap (λ us. one (new us) c.in-New.body) c.deref-in-New.ensures.value ∙ sym (ap part_tree c.in-New.is)) c.put_new.ensures.text
+pub pattern_parts::put_joined-put_pat_operand-requires : goal.pattern_parts::put_joined-put_pat_operand-requires
+pattern_parts::put_joined-put_pat_operand-requires t c = (omega arith, (c.requires.0, le_trans c.requires.1 c.in_ok-put.ensures.grows))
 
-pub parts::put_part-returns-in-Match-clause-text : goal.parts::put_part-returns-in-Match-clause-text
-parts::put_part-returns-in-Match-clause-text t c = same_part c.put_match.result _ (part_tree c.args.p.now) c.args.depth _ _ (ap (λ us. two match c.in-Match.target (many row (map case_tree us))) c.deref-in-Match.ensures.value ∙ sym (ap part_tree c.in-Match.is)) c.put_match.ensures.text
+pub pattern_parts::put_joined-put_pat_operand-requires-2 : goal.pattern_parts::put_joined-put_pat_operand-requires-2
+pattern_parts::put_joined-put_pat_operand-requires-2 t c = (omega arith, (le_trans c.requires.0 c.in_ok-middle.ensures.room.0, le_trans c.in_ok-middle.ensures.room.1 c.in_ok-put-2.ensures.grows))
 
-pub parts::put_part-returns-in-Bundle-clause-text : goal.parts::put_part-returns-in-Bundle-clause-text
-parts::put_part-returns-in-Bundle-clause-text t c = same_part c.put_bundle.result _ (part_tree c.args.p.now) c.args.depth _ _ (sym (ap part_tree c.in-Bundle.is)) c.put_bundle.ensures.text
+pub pattern_parts::put_pat_list-put_pats-requires : goal.pattern_parts::put_pat_list-put_pats-requires
+pattern_parts::put_pat_list-put_pats-requires t c = (omega arith, (c.requires.0, le_trans c.requires.1 c.in_ok-put.ensures.grows))
 
-pub parts::put_part-returns-in-Unary-clause-text : goal.parts::put_part-returns-in-Unary-clause-text
-parts::put_part-returns-in-Unary-clause-text t c = same_part c.put_unary.result _ (part_tree c.args.p.now) c.args.depth _ _ (sym (ap part_tree c.in-Unary.is)) c.put_unary.ensures.text
+pub pattern_parts::put_pat_map-put_pat_pairs-requires : goal.pattern_parts::put_pat_map-put_pat_pairs-requires
+pattern_parts::put_pat_map-put_pat_pairs-requires t c = (omega arith, (c.requires.0, le_trans c.requires.1 c.in_ok-put.ensures.grows))
 
-pub parts::put_part-returns-in-Binary-clause-text : goal.parts::put_part-returns-in-Binary-clause-text
-parts::put_part-returns-in-Binary-clause-text t c = same_part c.put_binary.result _ (part_tree c.args.p.now) c.args.depth _ _ (sym (ap part_tree c.in-Binary.is)) c.put_binary.ensures.text
+pub pattern_parts::put_pat_send-put_name_pat-requires : goal.pattern_parts::put_pat_send-put_name_pat-requires
+pattern_parts::put_pat_send-put_name_pat-requires t c = (omega arith, c.requires)
 
-pub parts::put_part-returns-in-Method-clause-text : goal.parts::put_part-returns-in-Method-clause-text
-parts::put_part-returns-in-Method-clause-text t c = same_part c.put_method.result _ (part_tree c.args.p.now) c.args.depth _ _ (ap (λ us. two (method c.as_str.result.now) c.in-Method.target (many row us)) c.deref-in-Method.ensures.value ∙ ap (λ w. two (method w) c.in-Method.target (many row c.in-Method.args.items)) c.as_str.ensures.value ∙ sym (ap part_tree c.in-Method.is)) c.put_method.ensures.text
+pub pattern_parts::put_pat_send-put_pats-requires : goal.pattern_parts::put_pat_send-put_pats-requires
+pattern_parts::put_pat_send-put_pats-requires t c = (omega arith, (le_trans c.requires.0 c.in_ok-middle.ensures.room.0, le_trans c.in_ok-middle.ensures.room.1 c.in_ok-put.ensures.grows))
 
-pub pattern_parts::put_pat_part-returns-in-Wild-clause-text : goal.pattern_parts::put_pat_part-returns-in-Wild-clause-text
-pattern_parts::put_pat_part-returns-in-Wild-clause-text t c = IfOk-weaker c.put_and.result _ _ (λ v e. λ h. shown c.args.out.now.items (ap (λ q. text_of pat_part (pat_part_tree q) c.args.depth c.args.next) c.in-Wild.is) e) c.put_and.ensures.text
+pub pattern_parts::put_pat_bundle-put_pat-requires : goal.pattern_parts::put_pat_bundle-put_pat-requires
+pattern_parts::put_pat_bundle-put_pat-requires t c = (omega arith, (c.requires.0, le_trans c.requires.1 (le_trans c.in_ok-put.ensures.grows c.in_ok-put-2.ensures.grows)))
 
-pub pattern_parts::put_pat_part-returns-in-Wild-clause-next : goal.pattern_parts::put_pat_part-returns-in-Wild-clause-next
-pattern_parts::put_pat_part-returns-in-Wild-clause-next t c = IfOk-weaker c.put_and.result _ _ (λ v e. λ h. e ∙ sym (nothing_more c.args.next) ∙ ap (λ q. c.args.next + length (bound (pat_part_tree q))) (sym c.in-Wild.is)) c.put_and.ensures.next
+pub pattern_parts::put_pat_part-put_joined-requires : goal.pattern_parts::put_pat_part-put_joined-requires
+pattern_parts::put_pat_part-put_joined-requires t c = (omega (arith, ap (λ q. weight (pat_part_tree q)) c.in-Both.is), c.requires.room)
 
-pub pattern_parts::put_pat_part-returns-in-Var-clause-text : goal.pattern_parts::put_pat_part-returns-in-Var-clause-text
-pattern_parts::put_pat_part-returns-in-Var-clause-text t c = IfOk-weaker c.put_new_variable.result _ _ (λ v e. λ h. shown c.args.out.now.items (ap (λ q. text_of pat_part (pat_part_tree q) c.args.depth c.args.next) c.in-Var.is) e) c.put_new_variable.ensures.text
+pub pattern_parts::put_pat_part-put_joined-requires-in-Either : goal.pattern_parts::put_pat_part-put_joined-requires-in-Either
+pattern_parts::put_pat_part-put_joined-requires-in-Either t c = (omega (arith, ap (λ q. weight (pat_part_tree q)) c.in-Either.is), c.requires.room)
 
-pub pattern_parts::put_pat_part-returns-in-Var-clause-next : goal.pattern_parts::put_pat_part-returns-in-Var-clause-next
-pattern_parts::put_pat_part-returns-in-Var-clause-next t c = IfOk-weaker c.put_new_variable.result _ _ (λ v e. λ h. e ∙ ap (λ q. c.args.next + length (bound (pat_part_tree q))) (sym c.in-Var.is)) c.put_new_variable.ensures.next
+pub pattern_parts::put_pat_part-put_pat_operand-requires : goal.pattern_parts::put_pat_part-put_pat_operand-requires
+pattern_parts::put_pat_part-put_pat_operand-requires t c = (omega (arith, ap (λ q. weight (pat_part_tree q)) c.in-Not.is), (c.requires.room.0, le_trans c.requires.room.1 c.in_ok-put-in-Not.ensures.grows))
 
-pub pattern_parts::put_pat_part-returns-in-NameVar-clause-text : goal.pattern_parts::put_pat_part-returns-in-NameVar-clause-text
-pattern_parts::put_pat_part-returns-in-NameVar-clause-text t c = IfOk-weaker c.put_new_variable-in-NameVar.result _ _ (λ v e. λ h. shown c.args.out.now.items (ap (λ q. text_of pat_part (pat_part_tree q) c.args.depth c.args.next) c.in-NameVar.is) e) c.put_new_variable-in-NameVar.ensures.text
+pub pattern_parts::put_pat_part-put_pat_list-requires : goal.pattern_parts::put_pat_part-put_pat_list-requires
+pattern_parts::put_pat_part-put_pat_list-requires t c = (omega (arith, ap (λ q. weight (pat_part_tree q)) c.in-List.is, ap (λ us. weights (trees us)) c.deref.ensures.value), c.requires.room)
 
-pub pattern_parts::put_pat_part-returns-in-NameVar-clause-next : goal.pattern_parts::put_pat_part-returns-in-NameVar-clause-next
-pattern_parts::put_pat_part-returns-in-NameVar-clause-next t c = IfOk-weaker c.put_new_variable-in-NameVar.result _ _ (λ v e. λ h. e ∙ ap (λ q. c.args.next + length (bound (pat_part_tree q))) (sym c.in-NameVar.is)) c.put_new_variable-in-NameVar.ensures.next
+pub pattern_parts::put_pat_part-put_pat_list-requires-in-Set : goal.pattern_parts::put_pat_part-put_pat_list-requires-in-Set
+pattern_parts::put_pat_part-put_pat_list-requires-in-Set t c = (omega (arith, ap (λ q. weight (pat_part_tree q)) c.in-Set.is, ap (λ us. weights (trees us)) c.deref-in-Set.ensures.value), c.requires.room)
 
-pub pattern_parts::put_pat_part-returns-in-Simple-clause-text : goal.pattern_parts::put_pat_part-returns-in-Simple-clause-text
-pattern_parts::put_pat_part-returns-in-Simple-clause-text t c = IfOk-weaker c.put_and-in-Simple.result _ _ (λ v e. λ h. shown c.args.out.now.items (ap (λ q. text_of pat_part (pat_part_tree q) c.args.depth c.args.next) c.in-Simple.is ∙ sym c.simple_word.ensures) e) c.put_and-in-Simple.ensures.text
+pub pattern_parts::put_pat_part-put_pat_map-requires : goal.pattern_parts::put_pat_part-put_pat_map-requires
+pattern_parts::put_pat_part-put_pat_map-requires t c = (omega (arith, ap (λ q. weight (pat_part_tree q)) c.in-Map.is, ap (λ us. weights (trees (map pair_tree us))) c.deref-in-Map.ensures.value), c.requires.room)
 
-pub pattern_parts::put_pat_part-returns-in-Simple-clause-next : goal.pattern_parts::put_pat_part-returns-in-Simple-clause-next
-pattern_parts::put_pat_part-returns-in-Simple-clause-next t c = IfOk-weaker c.put_and-in-Simple.result _ _ (λ v e. λ h. e ∙ sym (nothing_more c.args.next) ∙ ap (λ q. c.args.next + length (bound (pat_part_tree q))) (sym c.in-Simple.is)) c.put_and-in-Simple.ensures.next
+pub pattern_parts::put_pat_part-put_pat_list-requires-in-Tuple : goal.pattern_parts::put_pat_part-put_pat_list-requires-in-Tuple
+pattern_parts::put_pat_part-put_pat_list-requires-in-Tuple t c = (omega (arith, ap (λ q. weight (pat_part_tree q)) c.in-Tuple.is, ap (λ us. weights (trees us)) c.deref-in-Tuple.ensures.value), c.requires.room)
 
-pub pattern_parts::put_pat_part-returns-in_ok-put_braced-in-Same-clause-text : goal.pattern_parts::put_pat_part-returns-in_ok-put_braced-in-Same-clause-text
-pattern_parts::put_pat_part-returns-in_ok-put_braced-in-Same-clause-text t c = λ h. let k = subst (λ q. Formed IsFine name_part (pat_part_tree q)) c.in-Same.is h in shown c.args.out.now.items (ap (λ q. text_of pat_part (pat_part_tree q) c.args.depth c.args.next) c.in-Same.is ∙ same-text c.in-Same.t c.args.depth c.args.next) (after c.args.out.now.items (codes "=") (braced (text_of term c.in-Same.t c.args.depth (max (c.args.depth + 0) c.args.depth))) c.in_ok-put-in-Same.ensures.text (c.in_ok-put_braced-in-Same.ensures.text k.1.0 (max (c.args.depth + 0) c.args.depth)))
+pub pattern_parts::put_pat_part-put_pat_send-requires : goal.pattern_parts::put_pat_part-put_pat_send-requires
+pattern_parts::put_pat_part-put_pat_send-requires t c = (omega (arith, ap (λ q. weight (pat_part_tree q)) c.in-Send.is, ap (λ us. weights (trees us)) c.deref-in-Send.ensures.value), c.requires.room)
 
-pub pattern_parts::put_pat_part-returns-in_ok-put_braced-in-Same-clause-next : goal.pattern_parts::put_pat_part-returns-in_ok-put_braced-in-Same-clause-next
-pattern_parts::put_pat_part-returns-in_ok-put_braced-in-Same-clause-next t c = λ h. sym (nothing_more c.args.next) ∙ ap (λ q. c.args.next + length (bound (pat_part_tree q))) (sym c.in-Same.is)
-
-pub pattern_parts::put_pat_part-returns-in_ok-put_ground-in-Ground-clause-text : goal.pattern_parts::put_pat_part-returns-in_ok-put_ground-in-Ground-clause-text
-pattern_parts::put_pat_part-returns-in_ok-put_ground-in-Ground-clause-text t c = λ h. shown c.args.out.now.items (ap (λ q. text_of pat_part (pat_part_tree q) c.args.depth c.args.next) c.in-Ground.is ∙ ground_pattern-text c.in-Ground.g c.args.depth c.args.next) c.in_ok-put_ground-in-Ground.ensures.text
-
-pub pattern_parts::put_pat_part-returns-in_ok-put_ground-in-Ground-clause-next : goal.pattern_parts::put_pat_part-returns-in_ok-put_ground-in-Ground-clause-next
-pattern_parts::put_pat_part-returns-in_ok-put_ground-in-Ground-clause-next t c = λ h. sym (nothing_more c.args.next) ∙ ap (λ vs. c.args.next + length vs) (sym (ground-bound c.in-Ground.g)) ∙ ap (λ q. c.args.next + length (bound (pat_part_tree q))) (sym c.in-Ground.is)
-
-pub pattern_parts::put_pat_part-returns-in-Both-clause-text : goal.pattern_parts::put_pat_part-returns-in-Both-clause-text
-pattern_parts::put_pat_part-returns-in-Both-clause-text t c = IfOk-weaker c.put_joined.result _ _ (λ v e. λ h. let k = subst (λ q. Formed IsFine name_part (pat_part_tree q)) c.in-Both.is h in shown c.args.out.now.items (ap (λ q. text_of pat_part (pat_part_tree q) c.args.depth c.args.next) c.in-Both.is ∙ both-text c.in-Both.left c.in-Both.right c.args.depth c.args.next (omega (arith, c.requires.room.0))) (e k.1.0 k.1.1.0)) c.put_joined.ensures.text
-
-pub pattern_parts::put_pat_part-returns-in-Both-clause-next : goal.pattern_parts::put_pat_part-returns-in-Both-clause-next
-pattern_parts::put_pat_part-returns-in-Both-clause-next t c = IfOk-weaker c.put_joined.result _ _ (λ v e. λ h. let k = subst (λ q. Formed IsFine name_part (pat_part_tree q)) c.in-Both.is h in e k.1.0 k.1.1.0 ∙ sym (two-bound (bound c.in-Both.left) (bound c.in-Both.right) c.args.next) ∙ ap (λ q. c.args.next + length (bound (pat_part_tree q))) (sym c.in-Both.is)) c.put_joined.ensures.next
-
-pub pattern_parts::put_pat_part-returns-in-Either-clause-text : goal.pattern_parts::put_pat_part-returns-in-Either-clause-text
-pattern_parts::put_pat_part-returns-in-Either-clause-text t c = IfOk-weaker c.put_joined-in-Either.result _ _ (λ v e. λ h. let k = subst (λ q. Formed IsFine name_part (pat_part_tree q)) c.in-Either.is h in shown c.args.out.now.items (ap (λ q. text_of pat_part (pat_part_tree q) c.args.depth c.args.next) c.in-Either.is ∙ either-text c.in-Either.left c.in-Either.right c.args.depth c.args.next (omega (arith, c.requires.room.0))) (e k.1.0 k.1.1.0)) c.put_joined-in-Either.ensures.text
-
-pub pattern_parts::put_pat_part-returns-in-Either-clause-next : goal.pattern_parts::put_pat_part-returns-in-Either-clause-next
-pattern_parts::put_pat_part-returns-in-Either-clause-next t c = IfOk-weaker c.put_joined-in-Either.result _ _ (λ v e. λ h. let k = subst (λ q. Formed IsFine name_part (pat_part_tree q)) c.in-Either.is h in e k.1.0 k.1.1.0 ∙ sym (two-bound (bound c.in-Either.left) (bound c.in-Either.right) c.args.next) ∙ ap (λ q. c.args.next + length (bound (pat_part_tree q))) (sym c.in-Either.is)) c.put_joined-in-Either.ensures.next
-
-pub pattern_parts::put_pat_part-returns-in_ok-put-in-Not-clause-text : goal.pattern_parts::put_pat_part-returns-in_ok-put-in-Not-clause-text
-pattern_parts::put_pat_part-returns-in_ok-put-in-Not-clause-text t c = IfOk-weaker c.put_pat_operand.result _ _ (λ v e. λ h. let k = subst (λ q. Formed IsFine name_part (pat_part_tree q)) c.in-Not.is h in shown c.args.out.now.items (ap (λ q. text_of pat_part (pat_part_tree q) c.args.depth c.args.next) c.in-Not.is ∙ not-text c.in-Not.inner c.args.depth c.args.next (omega (arith, c.requires.room.0))) (after c.args.out.now.items (codes "~") (operand_text (held c.in-Not.inner) (text_of pat c.in-Not.inner c.args.depth c.args.next)) c.in_ok-put-in-Not.ensures.text (e (pat_formed _ k.1.0)))) c.put_pat_operand.ensures.text
-
-pub pattern_parts::put_pat_part-returns-in_ok-put-in-Not-clause-next : goal.pattern_parts::put_pat_part-returns-in_ok-put-in-Not-clause-next
-pattern_parts::put_pat_part-returns-in_ok-put-in-Not-clause-next t c = IfOk-weaker c.put_pat_operand.result _ _ (λ v e. λ h. let k = subst (λ q. Formed IsFine name_part (pat_part_tree q)) c.in-Not.is h in e (pat_formed _ k.1.0) ∙ sym (one-bound (bound c.in-Not.inner) c.args.next) ∙ ap (λ q. c.args.next + length (bound (pat_part_tree q))) (sym c.in-Not.is)) c.put_pat_operand.ensures.next
-
-pub pattern_parts::put_pat_part-returns-in-List-clause-text : goal.pattern_parts::put_pat_part-returns-in-List-clause-text
-pattern_parts::put_pat_part-returns-in-List-clause-text t c = IfOk-weaker c.put_pat_list.result _ _ (λ v e. λ h. let k = subst (λ q. Formed IsFine name_part (pat_part_tree q)) c.in-List.is h in shown c.args.out.now.items (ap (λ q. text_of pat_part (pat_part_tree q) c.args.depth c.args.next) c.in-List.is ∙ list_pattern-text c.in-List.members.items c.in-List.rest c.args.depth c.args.next (omega (arith, c.requires.room.0)) ∙ ap (λ us. codes "[" ++ (members_text pat us c.in-List.rest c.args.depth c.args.next ++ codes "]")) (sym c.deref.ensures.value)) (e (subst (λ us. Holds IsFine (all pat) (trees us)) (sym c.deref.ensures.value) k.1.0.1))) c.put_pat_list.ensures.text
-
-pub pattern_parts::put_pat_part-returns-in-List-clause-next : goal.pattern_parts::put_pat_part-returns-in-List-clause-next
-pattern_parts::put_pat_part-returns-in-List-clause-next t c = IfOk-weaker c.put_pat_list.result _ _ (λ v e. λ h. let k = subst (λ q. Formed IsFine name_part (pat_part_tree q)) c.in-List.is h in e (subst (λ us. Holds IsFine (all pat) (trees us)) (sym c.deref.ensures.value) k.1.0.1) ∙ ap (λ us. c.args.next + length (bound_all (trees us)) + length (bound (leaf (rest c.in-List.rest)))) c.deref.ensures.value ∙ sym (two-bound (bound_all (trees c.in-List.members.items)) (bound (leaf (rest c.in-List.rest))) c.args.next) ∙ ap (λ q. c.args.next + length (bound (pat_part_tree q))) (sym c.in-List.is)) c.put_pat_list.ensures.next
-
-pub pattern_parts::put_pat_part-returns-in-Set-clause-text : goal.pattern_parts::put_pat_part-returns-in-Set-clause-text
-pattern_parts::put_pat_part-returns-in-Set-clause-text t c = IfOk-weaker c.put_pat_list-in-Set.result _ _ (λ v e. λ h. let k = subst (λ q. Formed IsFine name_part (pat_part_tree q)) c.in-Set.is h in shown c.args.out.now.items (ap (λ q. text_of pat_part (pat_part_tree q) c.args.depth c.args.next) c.in-Set.is ∙ set_pattern-text c.in-Set.members.items c.in-Set.rest c.args.depth c.args.next (omega (arith, c.requires.room.0)) ∙ ap (λ us. codes "Set(" ++ (members_text pat us c.in-Set.rest c.args.depth c.args.next ++ codes ")")) (sym c.deref-in-Set.ensures.value)) (e (subst (λ us. Holds IsFine (all pat) (trees us)) (sym c.deref-in-Set.ensures.value) k.1.0.1))) c.put_pat_list-in-Set.ensures.text
-
-pub pattern_parts::put_pat_part-returns-in-Set-clause-next : goal.pattern_parts::put_pat_part-returns-in-Set-clause-next
-pattern_parts::put_pat_part-returns-in-Set-clause-next t c = IfOk-weaker c.put_pat_list-in-Set.result _ _ (λ v e. λ h. let k = subst (λ q. Formed IsFine name_part (pat_part_tree q)) c.in-Set.is h in e (subst (λ us. Holds IsFine (all pat) (trees us)) (sym c.deref-in-Set.ensures.value) k.1.0.1) ∙ ap (λ us. c.args.next + length (bound_all (trees us)) + length (bound (leaf (rest c.in-Set.rest)))) c.deref-in-Set.ensures.value ∙ sym (two-bound (bound_all (trees c.in-Set.members.items)) (bound (leaf (rest c.in-Set.rest))) c.args.next) ∙ ap (λ q. c.args.next + length (bound (pat_part_tree q))) (sym c.in-Set.is)) c.put_pat_list-in-Set.ensures.next
-
-pub pattern_parts::put_pat_part-returns-in-Map-clause-text : goal.pattern_parts::put_pat_part-returns-in-Map-clause-text
-pattern_parts::put_pat_part-returns-in-Map-clause-text t c = IfOk-weaker c.put_pat_map.result _ _ (λ v e. λ h. let k = subst (λ q. Formed IsFine name_part (pat_part_tree q)) c.in-Map.is h in shown c.args.out.now.items (ap (λ q. text_of pat_part (pat_part_tree q) c.args.depth c.args.next) c.in-Map.is ∙ map_pattern-text (map pair_tree c.in-Map.pairs.items) c.in-Map.rest c.args.depth c.args.next (omega (arith, c.requires.room.0)) ∙ ap (λ us. codes "{" ++ (members_text (pair_of pat) (map pair_tree us) c.in-Map.rest c.args.depth c.args.next ++ codes "}")) (sym c.deref-in-Map.ensures.value)) (e (subst (λ us. Holds IsFine (all (pair_of pat)) (trees (map pair_tree us))) (sym c.deref-in-Map.ensures.value) k.1.0.1))) c.put_pat_map.ensures.text
-
-pub pattern_parts::put_pat_part-returns-in-Map-clause-next : goal.pattern_parts::put_pat_part-returns-in-Map-clause-next
-pattern_parts::put_pat_part-returns-in-Map-clause-next t c = IfOk-weaker c.put_pat_map.result _ _ (λ v e. λ h. let k = subst (λ q. Formed IsFine name_part (pat_part_tree q)) c.in-Map.is h in e (subst (λ us. Holds IsFine (all (pair_of pat)) (trees (map pair_tree us))) (sym c.deref-in-Map.ensures.value) k.1.0.1) ∙ ap (λ us. c.args.next + length (bound_all (trees (map pair_tree us))) + length (bound (leaf (rest c.in-Map.rest)))) c.deref-in-Map.ensures.value ∙ sym (two-bound (bound_all (trees (map pair_tree c.in-Map.pairs.items))) (bound (leaf (rest c.in-Map.rest))) c.args.next) ∙ ap (λ q. c.args.next + length (bound (pat_part_tree q))) (sym c.in-Map.is)) c.put_pat_map.ensures.next
-
-pub pattern_parts::put_pat_part-returns-in-Tuple-clause-text : goal.pattern_parts::put_pat_part-returns-in-Tuple-clause-text
-pattern_parts::put_pat_part-returns-in-Tuple-clause-text t c = same_pattern c.put_pat_tuple.result _ (pat_part_tree c.args.p.now) c.args.depth c.args.next _ _ (ap (λ us. many tuple us) c.deref-in-Tuple.ensures.value ∙ sym (ap pat_part_tree c.in-Tuple.is)) c.put_pat_tuple.ensures.text
-
-pub pattern_parts::put_pat_part-returns-in-Tuple-clause-next : goal.pattern_parts::put_pat_part-returns-in-Tuple-clause-next
-pattern_parts::put_pat_part-returns-in-Tuple-clause-next t c = same_next c.put_pat_tuple.result _ (pat_part_tree c.args.p.now) c.args.next (ap (λ us. many tuple us) c.deref-in-Tuple.ensures.value ∙ sym (ap pat_part_tree c.in-Tuple.is)) c.put_pat_tuple.ensures.next
-
-pub pattern_parts::put_pat_part-returns-in-Send-clause-text : goal.pattern_parts::put_pat_part-returns-in-Send-clause-text
-pattern_parts::put_pat_part-returns-in-Send-clause-text t c = same_pattern c.put_pat_send.result _ (pat_part_tree c.args.p.now) c.args.depth c.args.next _ _ (ap (λ us. two (send c.in-Send.persistent) c.in-Send.channel (many row us)) c.deref-in-Send.ensures.value ∙ sym (ap pat_part_tree c.in-Send.is)) c.put_pat_send.ensures.text
-
-pub pattern_parts::put_pat_part-returns-in-Send-clause-next : goal.pattern_parts::put_pat_part-returns-in-Send-clause-next
-pattern_parts::put_pat_part-returns-in-Send-clause-next t c = same_next c.put_pat_send.result _ (pat_part_tree c.args.p.now) c.args.next (ap (λ us. two (send c.in-Send.persistent) c.in-Send.channel (many row us)) c.deref-in-Send.ensures.value ∙ sym (ap pat_part_tree c.in-Send.is)) c.put_pat_send.ensures.next
-
-pub pattern_parts::put_pat_part-returns-in-Bundle-clause-text : goal.pattern_parts::put_pat_part-returns-in-Bundle-clause-text
-pattern_parts::put_pat_part-returns-in-Bundle-clause-text t c = same_pattern c.put_pat_bundle.result _ (pat_part_tree c.args.p.now) c.args.depth c.args.next _ _ (sym (ap pat_part_tree c.in-Bundle.is)) c.put_pat_bundle.ensures.text
-
-pub pattern_parts::put_pat_part-returns-in-Bundle-clause-next : goal.pattern_parts::put_pat_part-returns-in-Bundle-clause-next
-pattern_parts::put_pat_part-returns-in-Bundle-clause-next t c = same_next c.put_pat_bundle.result _ (pat_part_tree c.args.p.now) c.args.next (sym (ap pat_part_tree c.in-Bundle.is)) c.put_pat_bundle.ensures.next
-
-pub pattern_parts::put_pat_part-returns-in-Closed-clause-text : goal.pattern_parts::put_pat_part-returns-in-Closed-clause-text
-pattern_parts::put_pat_part-returns-in-Closed-clause-text t c = same_pattern c.put_closed.result _ (pat_part_tree c.args.p.now) c.args.depth c.args.next _ _ (sym (ap pat_part_tree c.in-Closed.is)) c.put_closed.ensures.text
-
-pub pattern_parts::put_pat_part-returns-in-Closed-clause-next : goal.pattern_parts::put_pat_part-returns-in-Closed-clause-next
-pattern_parts::put_pat_part-returns-in-Closed-clause-next t c = same_next c.put_closed.result _ (pat_part_tree c.args.p.now) c.args.next (sym (ap pat_part_tree c.in-Closed.is)) c.put_closed.ensures.next
-
-pub parts::put_unary-returns-in_ok-put_operand-in-Not-clause-text : goal.parts::put_unary-returns-in_ok-put_operand-in-Not-clause-text
-parts::put_unary-returns-in_ok-put_operand-in-Not-clause-text t c = IfOk-weaker c.put-in-Not.result _ _ (λ v e. same_writes _ _ c.args.depth c.args.out.now.items _ (not-writes c.args.arg.now c.args.depth c.args.out.now.items _ _ _ c.in_ok-put-in-Not.ensures.text c.in_ok-put_operand-in-Not.ensures.text e) (ap (λ o. one (unary o) c.args.arg.now) (sym c.in-Not.is))) c.put-in-Not.ensures.text
-
-pub parts::put_unary-returns-in_ok-put_braced-in-Neg-clause-text : goal.parts::put_unary-returns-in_ok-put_braced-in-Neg-clause-text
-parts::put_unary-returns-in_ok-put_braced-in-Neg-clause-text t c = IfOk-weaker c.put-in-Neg-2.result _ _ (λ v e. same_writes _ _ c.args.depth c.args.out.now.items _ (neg-writes c.args.arg.now c.args.depth c.args.out.now.items _ _ _ c.in_ok-put-in-Neg.ensures.text c.in_ok-put_braced-in-Neg.ensures.text e) (ap (λ o. one (unary o) c.args.arg.now) (sym c.in-Neg.is))) c.put-in-Neg-2.ensures.text
+pub pattern_parts::put_pat_part-put_pat_bundle-requires : goal.pattern_parts::put_pat_part-put_pat_bundle-requires
+pattern_parts::put_pat_part-put_pat_bundle-requires t c = (omega (arith, ap (λ q. weight (pat_part_tree q)) c.in-Bundle.is), c.requires.room)

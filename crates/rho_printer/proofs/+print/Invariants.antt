@@ -51,14 +51,8 @@ decreases-terms::put_pair l = 8 * weight (pair_tree l.pair.now)
 abbrev pub decreases-parts::put_part : goal.decreases-parts::put_part
 decreases-parts::put_part l = 8 * weight (part_tree l.p.now)
 
-abbrev pub decreases-parts::put_list : goal.decreases-parts::put_list
-decreases-parts::put_list l = 8 * weights (trees l.members.now) + 6
-
-abbrev pub decreases-parts::put_tuple : goal.decreases-parts::put_tuple
-decreases-parts::put_tuple l = 8 * weights (trees l.members.now) + 6
-
-abbrev pub decreases-parts::put_set : goal.decreases-parts::put_set
-decreases-parts::put_set l = 8 * weights (trees l.members.now) + 6
+abbrev pub decreases-parts::put_members : goal.decreases-parts::put_members
+decreases-parts::put_members l = 8 * weights (trees l.members.now) + 6
 
 abbrev pub decreases-parts::put_map : goal.decreases-parts::put_map
 decreases-parts::put_map l = 8 * weights (trees (map pair_tree l.pairs.now)) + 6
@@ -155,9 +149,6 @@ decreases-pattern_parts::put_pat_list l = 8 * weights (trees l.members.now) + 6
 
 abbrev pub decreases-pattern_parts::put_pat_map : goal.decreases-pattern_parts::put_pat_map
 decreases-pattern_parts::put_pat_map l = 8 * weights (trees (map pair_tree l.pairs.now)) + 6
-
-abbrev pub decreases-pattern_parts::put_pat_tuple : goal.decreases-pattern_parts::put_pat_tuple
-decreases-pattern_parts::put_pat_tuple l = 8 * weights (trees l.members.now) + 6
 
 abbrev pub decreases-pattern_parts::put_pat_send : goal.decreases-pattern_parts::put_pat_send
 decreases-pattern_parts::put_pat_send l = 8 * (weight l.channel.now + weights (trees l.args.now)) + 6

@@ -130,8 +130,8 @@ forms::find_set-find_members-requires t c =
         (
           c.requires.tries,
           (
-            subst (AllReady term) (sym c.deref.ensures.value) (set-ready c.in-Set.terms.items (ready_as _ _ c.in-Set.is c.requires.ready)),
-            subst (λ (ts : List Tree). IsAscending (codes (trees ts))) (sym c.deref.ensures.value) o,
+            subst (AllReady term) (sym c.as_slice-terms.ensures.value) (set-ready c.in-Set.terms.items (ready_as _ _ c.in-Set.is c.requires.ready)),
+            subst (λ (ts : List Tree). IsAscending (codes (trees ts))) (sym c.as_slice-terms.ensures.value) o,
           ),
         ),
       ),
@@ -140,12 +140,12 @@ forms::find_set-find_members-requires t c =
 pub forms::find_set-returns-in-Set : goal.forms::find_set-returns-in-Set
 forms::find_set-returns-in-Set t c =
     let ps = c.args.pats.now in
-    let ts = c.deref.result.now in
+    let ts = c.as_slice-terms.result.now in
     let made = λ (vs : List Tree). only (many set vs) in
     let o = subst (λ (q : Part). IsOrdered (part_tree q)) c.in-Set.is c.requires.order in
-    let h = subst (λ (us : List Tree). IsAscending (codes (trees us))) (sym c.deref.ensures.value) o in
+    let h = subst (λ (us : List Tree). IsAscending (codes (trees us))) (sym c.as_slice-terms.ensures.value) o in
     let p = two set_pattern (many row ps) (leaf (rest c.args.remainder)) in
-    let e = set-found ps ts c.args.remainder ∙ ap (λ (us : List Tree). found p (many set us)) c.deref.ensures.value ∙ ap (λ (q : Part). found p (part_tree q)) (sym c.in-Set.is) in
+    let e = set-found ps ts c.args.remainder ∙ ap (λ (us : List Tree). found p (many set us)) c.as_slice-terms.ensures.value ∙ ap (λ (q : Part). found p (part_tree q)) (sym c.in-Set.is) in
     ok_map (λ (o : Option (Vec Tree Global)). IsFirstMembers c.args.remainder made (ways (tried_pats ps) (left_from 0 [] ts)) o) (λ (o : Option (Vec Tree Global)). IsFirst (found p (part_tree c.args.target.now)) o)
     (λ o k. subst (λ (bs : List Bindings). IsFirst bs o) e (members-found (tried_pats ps) c.args.remainder made ts h o k)) c.find_members.result c.find_members.ensures
 
@@ -158,8 +158,8 @@ forms::find_map-find_pairs-requires t c =
         (
           c.requires.tries,
           (
-            subst (λ (ps : List (Tree × Tree)). AllReady (pair_of term) (map pair_tree ps)) (sym c.deref.ensures.value) (map-ready (map pair_tree c.in-Map.pairs.items) (ready_as _ _ c.in-Map.is c.requires.ready)),
-            subst (λ (ps : List (Tree × Tree)). IsAscending (codes (trees (map pair_tree ps)))) (sym c.deref.ensures.value) o,
+            subst (λ (ps : List (Tree × Tree)). AllReady (pair_of term) (map pair_tree ps)) (sym c.as_slice-pairs.ensures.value) (map-ready (map pair_tree c.in-Map.pairs.items) (ready_as _ _ c.in-Map.is c.requires.ready)),
+            subst (λ (ps : List (Tree × Tree)). IsAscending (codes (trees (map pair_tree ps)))) (sym c.as_slice-pairs.ensures.value) o,
           ),
         ),
       ),
@@ -168,12 +168,12 @@ forms::find_map-find_pairs-requires t c =
 pub forms::find_map-returns-in-Map : goal.forms::find_map-returns-in-Map
 forms::find_map-returns-in-Map t c =
     let ps = c.args.pats.now in
-    let ts = map pair_tree c.deref.result.now in
+    let ts = map pair_tree c.as_slice-pairs.result.now in
     let made = λ (vs : List Tree). only (many dict vs) in
     let o = subst (λ (q : Part). IsOrdered (part_tree q)) c.in-Map.is c.requires.order in
-    let h = subst (λ (us : List (Tree × Tree)). IsAscending (codes (trees (map pair_tree us)))) (sym c.deref.ensures.value) o in
+    let h = subst (λ (us : List (Tree × Tree)). IsAscending (codes (trees (map pair_tree us)))) (sym c.as_slice-pairs.ensures.value) o in
     let p = two map_pattern (many row (map pair_tree ps)) (leaf (rest c.args.remainder)) in
-    let e = map-found ps ts c.args.remainder ∙ ap (λ (us : List (Tree × Tree)). found p (many dict (map pair_tree us))) c.deref.ensures.value ∙ ap (λ (q : Part). found p (part_tree q)) (sym c.in-Map.is) in
+    let e = map-found ps ts c.args.remainder ∙ ap (λ (us : List (Tree × Tree)). found p (many dict (map pair_tree us))) c.as_slice-pairs.ensures.value ∙ ap (λ (q : Part). found p (part_tree q)) (sym c.in-Map.is) in
     ok_map (λ (o : Option (Vec Tree Global)). IsFirstMembers c.args.remainder made (ways (tried_pairs ps) (left_from 0 [] ts)) o) (λ (o : Option (Vec Tree Global)). IsFirst (found p (part_tree c.args.target.now)) o)
     (λ o k. subst (λ (bs : List Bindings). IsFirst bs o) e (members-found (tried_pairs ps) c.args.remainder made ts h o k)) c.find_pairs.result c.find_pairs.ensures
 
@@ -256,88 +256,99 @@ heavy_row (t ∷ ts) = omega (arith, heavy_row ts, weight-pos t)
 
 pub members::find_members-loop-j-init : goal.members::find_members-loop-j-init
 members::find_members-loop-j-init t c =
-    let l : c.args.i < length c.args.pats.now = omega arith in (
-      member-starts c.args.rest (λ vs. only (many set vs)) (tried_pats c.args.pats.now) c.args.used.now c.args.terms.now c.args.i (omega (arith, length-row c.args.pats.now)) (row-thin c.args.pats.now c.args.i c.index-pats-i.result l c.index-pats-i.is (ap label_of c.parts-given.ensures.parts)),
-      member-none-failed c.args.rest (λ vs. only (many set vs)) (tried_pats c.args.pats.now) c.args.used.now c.args.terms.now c.args.i (omega (arith, length-row c.args.pats.now)),
+    let s = c.args.search in
+    let l : c.args.i < length s.pats.now = omega arith in (
+      member-starts s.rest (λ vs. only (many set vs)) (tried_pats s.pats.now) c.args.used.now s.terms.now c.args.i (omega (arith, length-row s.pats.now)) (row-thin s.pats.now c.args.i c.index-pats-i.result l c.index-pats-i.is (ap label_of c.parts-given.ensures.parts)),
+      member-none-failed s.rest (λ vs. only (many set vs)) (tried_pats s.pats.now) c.args.used.now s.terms.now c.args.i (omega (arith, length-row s.pats.now)),
     )
 
 pub members::find_members-try_member-requires : goal.members::find_members-try_member-requires
 members::find_members-try_member-requires t c =
-    let l : c.args.i < length c.args.pats.now = omega arith in
-    (omega (arith, heavy_row c.args.pats.now), (l, (c.loop-j-test.true, (c.loop-j.invariant.1, (c.requires.tries, (c.requires.ready, c.requires.ordered))))))
+    let s = c.args.search in
+    let l : c.args.i < length s.pats.now = omega arith in
+    (omega (arith, heavy_row s.pats.now), (l, (c.loop-j-test.true, (c.loop-j.invariant.1, (c.requires.tries, (c.requires.ready, c.requires.ordered))))))
 
 pub members::find_members-returns-then-is_some : goal.members::find_members-returns-then-is_some
 members::find_members-returns-then-is_some t c =
-    let l : c.args.i < length c.args.pats.now = omega arith in
-    member-stops c.args.rest (λ vs. only (many set vs)) (tried_pats c.args.pats.now) c.args.used.now c.args.terms.now c.args.i (omega (arith, length-row c.args.pats.now))
+    let s = c.args.search in
+    let l : c.args.i < length s.pats.now = omega arith in
+    member-stops s.rest (λ vs. only (many set vs)) (tried_pats s.pats.now) c.args.used.now s.terms.now c.args.i (omega (arith, length-row s.pats.now))
     c.loop-j.j c.in_ok-found.found c.loop-j-test.true (sym c.is_some.ensures ∙ c.if-is_some.true) c.loop-j.invariant.0 c.in_ok-found.ensures
 
 pub members::find_members-loop-j-preserved : goal.members::find_members-loop-j-preserved
 members::find_members-loop-j-preserved t c =
-    let l : c.args.i < length c.args.pats.now = omega arith in (
-      member-passes c.args.rest (λ vs. only (many set vs)) (tried_pats c.args.pats.now) c.args.used.now c.args.terms.now c.args.i (omega (arith, length-row c.args.pats.now))
+    let s = c.args.search in
+    let l : c.args.i < length s.pats.now = omega arith in (
+      member-passes s.rest (λ vs. only (many set vs)) (tried_pats s.pats.now) c.args.used.now s.terms.now c.args.i (omega (arith, length-row s.pats.now))
           c.loop-j.j c.in_ok-found.found c.loop-j-test.true (sym c.is_some.ensures ∙ c.if-is_some.false) c.loop-j.invariant.0 c.in_ok-found.ensures,
-      member-next-failed c.args.rest (λ vs. only (many set vs)) (tried_pats c.args.pats.now) c.args.used.now c.args.terms.now c.args.i (omega (arith, length-row c.args.pats.now))
+      member-next-failed s.rest (λ vs. only (many set vs)) (tried_pats s.pats.now) c.args.used.now s.terms.now c.args.i (omega (arith, length-row s.pats.now))
           c.loop-j.j c.in_ok-found.found (sym c.is_some.ensures ∙ c.if-is_some.false) c.in_ok-found.ensures,
     )
 
 pub members::find_members-returns : goal.members::find_members-returns
 members::find_members-returns t c =
-    let l : c.args.i < length c.args.pats.now = omega arith in
-    member-ends c.args.rest (λ vs. only (many set vs)) (tried_pats c.args.pats.now) c.args.used.now c.args.terms.now c.args.i (omega (arith, length-row c.args.pats.now)) c.loop-j.j c.loop-j-test.false c.loop-j.invariant.0
+    let s = c.args.search in
+    let l : c.args.i < length s.pats.now = omega arith in
+    member-ends s.rest (λ vs. only (many set vs)) (tried_pats s.pats.now) c.args.used.now s.terms.now c.args.i (omega (arith, length-row s.pats.now)) c.loop-j.j c.loop-j-test.false c.loop-j.invariant.0
 
 pub members::try_member-returns-then-repeats_member : goal.members::try_member-returns-then-repeats_member
 members::try_member-returns-then-repeats_member t c =
-    member-repeated c.args.rest (λ vs. only (many set vs)) (tried_pats c.args.pats.now) c.args.used.now c.args.terms.now c.args.i (omega (arith, length-row c.args.pats.now, c.requires.within))
+    let s = c.args.search in
+    member-repeated s.rest (λ vs. only (many set vs)) (tried_pats s.pats.now) c.args.used.now s.terms.now c.args.i (omega (arith, length-row s.pats.now, c.requires.within))
     c.args.j c.requires.target_within (c.repeats_member.ensures c.if-repeats_member.true) c.requires.failed
 
 pub members::try_member-find_whole-requires : goal.members::try_member-find_whole-requires
 members::try_member-find_whole-requires t c =
+    let s = c.args.search in
     let x = c.index-pats-i in
     let y = c.index-terms-j in
-    let w : weight x.result + length c.args.pats.now ≤ weights (trees c.args.pats.now) + 1 = rw x.is (tree-beside c.args.pats.now c.args.i x.result c.requires.within) in (
+    let w : weight x.result + length s.pats.now ≤ weights (trees s.pats.now) + 1 = rw x.is (tree-beside s.pats.now c.args.i x.result c.requires.within) in (
       omega (arith, w),
       (
-        subst Tries (sym x.is) (tries-at c.args.pats.now c.args.i x.result c.requires.within c.requires.tries),
-        subst (Ready term) (sym y.is) (ready-at term c.args.terms.now c.args.j y.result c.requires.target_within c.requires.ready),
+        subst Tries (sym x.is) (tries-at s.pats.now c.args.i x.result c.requires.within c.requires.tries),
+        subst (Ready term) (sym y.is) (ready-at term s.terms.now c.args.j y.result c.requires.target_within c.requires.ready),
       ),
     )
 
 pub members::try_member-find_members-requires : goal.members::try_member-find_members-requires
 members::try_member-find_members-requires t c =
-    (omega (arith, heavy_row c.args.pats.now), (omega arith, (c.requires.tries, (c.requires.ready, c.requires.ordered))))
+    let s = c.args.search in
+    (omega (arith, heavy_row s.pats.now), (omega arith, (c.requires.tries, (c.requires.ready, c.requires.ordered))))
 
 pub members::try_member-returns-in-None : goal.members::try_member-returns-in-None
 members::try_member-returns-in-None t c =
+    let s = c.args.search in
     let x = c.index-pats-i in
     let y = c.index-terms-j in
     let n = none-of (found x.result y.result) c.in_ok-find_whole.field-0 c.in-None.is c.in_ok-find_whole.ensures in
-    member-refused c.args.rest (λ vs. only (many set vs)) (tried_pats c.args.pats.now) c.args.used.now c.args.terms.now c.args.i (omega (arith, length-row c.args.pats.now, c.requires.within)) c.args.j
-    (ap first_of_all (at_two c.args.pats.now c.args.terms.now c.args.i c.args.j x.result y.result c.requires.within c.requires.target_within x.is y.is) ∙ n)
+    member-refused s.rest (λ vs. only (many set vs)) (tried_pats s.pats.now) c.args.used.now s.terms.now c.args.i (omega (arith, length-row s.pats.now, c.requires.within)) c.args.j
+    (ap first_of_all (at_two s.pats.now s.terms.now c.args.i c.args.j x.result y.result c.requires.within c.requires.target_within x.is y.is) ∙ n)
 
 pub members::try_member-returns-in-None-2 : goal.members::try_member-returns-in-None-2
 members::try_member-returns-in-None-2 t c =
-    let all = tried_pats c.args.pats.now in
+    let s = c.args.search in
+    let all = tried_pats s.pats.now in
     let us = c.deref.result.now in
     let e = c.deref.ensures.value ∙ c.in_ok-next-in-Some.ensures in
-    let k = no_members-of c.args.rest (λ vs. only (many set vs)) (ways (drop (c.args.i + 1) all) (left_from 0 us c.args.terms.now)) c.in_ok-find_members-in-Some.field-0 c.in-None-2.is c.in_ok-find_members-in-Some.ensures in
-    member-dead c.args.rest (λ vs. only (many set vs)) all c.args.used.now c.args.terms.now c.args.i (omega (arith, length-row c.args.pats.now, c.requires.within)) c.args.j
-    (subst (λ (vs : List ℕ). first_way (may_rest c.args.rest) (ways (drop (c.args.i + 1) all) (left_from 0 vs c.args.terms.now)) ≡ None) e k)
+    let k = no_members-of s.rest (λ vs. only (many set vs)) (ways (drop (c.args.i + 1) all) (left_from 0 us s.terms.now)) c.in_ok-find_members-in-Some.field-0 c.in-None-2.is c.in_ok-find_members-in-Some.ensures in
+    member-dead s.rest (λ vs. only (many set vs)) all c.args.used.now s.terms.now c.args.i (omega (arith, length-row s.pats.now, c.requires.within)) c.args.j
+    (subst (λ (vs : List ℕ). first_way (may_rest s.rest) (ways (drop (c.args.i + 1) all) (left_from 0 vs s.terms.now)) ≡ None) e k)
 
 pub members::try_member-returns-in_ok-joined-in-Some-2 : goal.members::try_member-returns-in_ok-joined-in-Some-2
 members::try_member-returns-in_ok-joined-in-Some-2 t c =
-    let all = tried_pats c.args.pats.now in
+    let s = c.args.search in
+    let all = tried_pats s.pats.now in
     let x = c.index-pats-i in
     let y = c.index-terms-j in
     let us = c.deref.result.now in
     let made = λ (vs : List Tree). only (many set vs) in
     let e = c.deref.ensures.value ∙ c.in_ok-next-in-Some.ensures in
     let a = some-of (found x.result y.result) c.in_ok-find_whole.field-0 c.in-Some.found c.in-Some.is c.in_ok-find_whole.ensures in
-    let k = members-of c.args.rest made (ways (drop (c.args.i + 1) all) (left_from 0 us c.args.terms.now)) c.in_ok-find_members-in-Some.field-0 c.in-Some-2.others c.in-Some-2.is c.in_ok-find_members-in-Some.ensures in
-    member-taking c.args.rest made all c.args.used.now c.args.terms.now c.args.i (omega (arith, length-row c.args.pats.now, c.requires.within)) c.args.j
+    let k = members-of s.rest made (ways (drop (c.args.i + 1) all) (left_from 0 us s.terms.now)) c.in_ok-find_members-in-Some.field-0 c.in-Some-2.others c.in-Some-2.is c.in_ok-find_members-in-Some.ensures in
+    member-taking s.rest made all c.args.used.now s.terms.now c.args.i (omega (arith, length-row s.pats.now, c.requires.within)) c.args.j
     c.in-Some.found.items c.in-Some-2.others.items c.in_ok-joined-in-Some-2.field-0.items (is-free (has c.args.used.now c.args.j) (sym c.if-not-is_free.false ∙ c.is_free.ensures))
-    (ap first_of_all (at_two c.args.pats.now c.args.terms.now c.args.i c.args.j x.result y.result c.requires.within c.requires.target_within x.is y.is) ∙ a)
-    (subst (λ (vs : List ℕ). MemberWay c.args.rest made (ways (drop (c.args.i + 1) all) (left_from 0 vs c.args.terms.now)) c.in-Some-2.others.items) e k)
+    (ap first_of_all (at_two s.pats.now s.terms.now c.args.i c.args.j x.result y.result c.requires.within c.requires.target_within x.is y.is) ∙ a)
+    (subst (λ (vs : List ℕ). MemberWay s.rest made (ways (drop (c.args.i + 1) all) (left_from 0 vs s.terms.now)) c.in-Some-2.others.items) e k)
     c.in_ok-joined-in-Some-2.ensures
 
 pair_thin : (ps : List (Tree × Tree)) (i : ℕ) → i < length ps → (member_at i (tried_pairs ps)).wide ≡ false
@@ -369,88 +380,99 @@ pairs::find_pair-returns-in_ok-joined-in-Some-2 t c =
 
 pub pairs::find_pairs-loop-j-init : goal.pairs::find_pairs-loop-j-init
 pairs::find_pairs-loop-j-init t c =
-    let l : c.args.i < length c.args.pats.now = omega arith in (
-      member-starts c.args.rest (λ vs. only (many dict vs)) (tried_pairs c.args.pats.now) c.args.used.now (map pair_tree c.args.pairs.now) c.args.i (omega (arith, length-each pair_tree c.args.pats.now)) (pair_thin c.args.pats.now c.args.i l),
-      member-none-failed c.args.rest (λ vs. only (many dict vs)) (tried_pairs c.args.pats.now) c.args.used.now (map pair_tree c.args.pairs.now) c.args.i (omega (arith, length-each pair_tree c.args.pats.now)),
+    let s = c.args.search in
+    let l : c.args.i < length s.pats.now = omega arith in (
+      member-starts s.rest (λ vs. only (many dict vs)) (tried_pairs s.pats.now) c.args.used.now (map pair_tree s.pairs.now) c.args.i (omega (arith, length-each pair_tree s.pats.now)) (pair_thin s.pats.now c.args.i l),
+      member-none-failed s.rest (λ vs. only (many dict vs)) (tried_pairs s.pats.now) c.args.used.now (map pair_tree s.pairs.now) c.args.i (omega (arith, length-each pair_tree s.pats.now)),
     )
 
 pub pairs::find_pairs-try_pair-requires : goal.pairs::find_pairs-try_pair-requires
 pairs::find_pairs-try_pair-requires t c =
-    let l : c.args.i < length c.args.pats.now = omega arith in
-    (omega (arith, heavy pair_tree c.args.pats.now), (l, (c.loop-j-test.true, (c.loop-j.invariant.1, (c.requires.tries, (c.requires.ready, c.requires.ordered))))))
+    let s = c.args.search in
+    let l : c.args.i < length s.pats.now = omega arith in
+    (omega (arith, heavy pair_tree s.pats.now), (l, (c.loop-j-test.true, (c.loop-j.invariant.1, (c.requires.tries, (c.requires.ready, c.requires.ordered))))))
 
 pub pairs::find_pairs-returns-then-is_some : goal.pairs::find_pairs-returns-then-is_some
 pairs::find_pairs-returns-then-is_some t c =
-    let l : c.args.i < length c.args.pats.now = omega arith in
-    member-stops c.args.rest (λ vs. only (many dict vs)) (tried_pairs c.args.pats.now) c.args.used.now (map pair_tree c.args.pairs.now) c.args.i (omega (arith, length-each pair_tree c.args.pats.now))
-    c.loop-j.j c.in_ok-found.found (omega (arith, length-map c.args.pairs.now pair_tree)) (sym c.is_some.ensures ∙ c.if-is_some.true) c.loop-j.invariant.0 c.in_ok-found.ensures
+    let s = c.args.search in
+    let l : c.args.i < length s.pats.now = omega arith in
+    member-stops s.rest (λ vs. only (many dict vs)) (tried_pairs s.pats.now) c.args.used.now (map pair_tree s.pairs.now) c.args.i (omega (arith, length-each pair_tree s.pats.now))
+    c.loop-j.j c.in_ok-found.found (omega (arith, length-map s.pairs.now pair_tree)) (sym c.is_some.ensures ∙ c.if-is_some.true) c.loop-j.invariant.0 c.in_ok-found.ensures
 
 pub pairs::find_pairs-loop-j-preserved : goal.pairs::find_pairs-loop-j-preserved
 pairs::find_pairs-loop-j-preserved t c =
-    let l : c.args.i < length c.args.pats.now = omega arith in (
-      member-passes c.args.rest (λ vs. only (many dict vs)) (tried_pairs c.args.pats.now) c.args.used.now (map pair_tree c.args.pairs.now) c.args.i (omega (arith, length-each pair_tree c.args.pats.now))
-          c.loop-j.j c.in_ok-found.found (omega (arith, length-map c.args.pairs.now pair_tree)) (sym c.is_some.ensures ∙ c.if-is_some.false) c.loop-j.invariant.0 c.in_ok-found.ensures,
-      member-next-failed c.args.rest (λ vs. only (many dict vs)) (tried_pairs c.args.pats.now) c.args.used.now (map pair_tree c.args.pairs.now) c.args.i (omega (arith, length-each pair_tree c.args.pats.now))
+    let s = c.args.search in
+    let l : c.args.i < length s.pats.now = omega arith in (
+      member-passes s.rest (λ vs. only (many dict vs)) (tried_pairs s.pats.now) c.args.used.now (map pair_tree s.pairs.now) c.args.i (omega (arith, length-each pair_tree s.pats.now))
+          c.loop-j.j c.in_ok-found.found (omega (arith, length-map s.pairs.now pair_tree)) (sym c.is_some.ensures ∙ c.if-is_some.false) c.loop-j.invariant.0 c.in_ok-found.ensures,
+      member-next-failed s.rest (λ vs. only (many dict vs)) (tried_pairs s.pats.now) c.args.used.now (map pair_tree s.pairs.now) c.args.i (omega (arith, length-each pair_tree s.pats.now))
           c.loop-j.j c.in_ok-found.found (sym c.is_some.ensures ∙ c.if-is_some.false) c.in_ok-found.ensures,
     )
 
 pub pairs::find_pairs-returns : goal.pairs::find_pairs-returns
 pairs::find_pairs-returns t c =
-    let l : c.args.i < length c.args.pats.now = omega arith in
-    member-ends c.args.rest (λ vs. only (many dict vs)) (tried_pairs c.args.pats.now) c.args.used.now (map pair_tree c.args.pairs.now) c.args.i (omega (arith, length-each pair_tree c.args.pats.now)) c.loop-j.j (omega (arith, length-map c.args.pairs.now pair_tree)) c.loop-j.invariant.0
+    let s = c.args.search in
+    let l : c.args.i < length s.pats.now = omega arith in
+    member-ends s.rest (λ vs. only (many dict vs)) (tried_pairs s.pats.now) c.args.used.now (map pair_tree s.pairs.now) c.args.i (omega (arith, length-each pair_tree s.pats.now)) c.loop-j.j (omega (arith, length-map s.pairs.now pair_tree)) c.loop-j.invariant.0
 
 pub pairs::try_pair-returns-then-repeats_pair : goal.pairs::try_pair-returns-then-repeats_pair
 pairs::try_pair-returns-then-repeats_pair t c =
-    member-repeated c.args.rest (λ vs. only (many dict vs)) (tried_pairs c.args.pats.now) c.args.used.now (map pair_tree c.args.pairs.now) c.args.i (omega (arith, length-each pair_tree c.args.pats.now, c.requires.within))
-    c.args.j (omega (arith, length-map c.args.pairs.now pair_tree, c.requires.target_within)) (c.repeats_pair.ensures c.if-repeats_pair.true) c.requires.failed
+    let s = c.args.search in
+    member-repeated s.rest (λ vs. only (many dict vs)) (tried_pairs s.pats.now) c.args.used.now (map pair_tree s.pairs.now) c.args.i (omega (arith, length-each pair_tree s.pats.now, c.requires.within))
+    c.args.j (omega (arith, length-map s.pairs.now pair_tree, c.requires.target_within)) (c.repeats_pair.ensures c.if-repeats_pair.true) c.requires.failed
 
 pub pairs::try_pair-find_pair-requires : goal.pairs::try_pair-find_pair-requires
 pairs::try_pair-find_pair-requires t c =
+    let s = c.args.search in
     let x = c.index-pats-i in
     let y = c.index-pairs-j in
-    let w : weight (pair_tree x.result) + length c.args.pats.now ≤ weights (trees (map pair_tree c.args.pats.now)) + 1 = rw x.is (weight-beside pair_tree c.args.pats.now c.args.i x.result c.requires.within) in (
+    let w : weight (pair_tree x.result) + length s.pats.now ≤ weights (trees (map pair_tree s.pats.now)) + 1 = rw x.is (weight-beside pair_tree s.pats.now c.args.i x.result c.requires.within) in (
       omega (arith, w),
       (
-        subst (λ (p : Tree × Tree). Tries (pair_tree p)) (sym x.is) (tries-of pair_tree c.args.pats.now c.args.i x.result c.requires.within c.requires.tries),
-        subst (λ (p : Tree × Tree). Ready (pair_of term) (pair_tree p)) (sym y.is) (ready-of pair_tree (pair_of term) c.args.pairs.now c.args.j y.result c.requires.target_within c.requires.ready),
+        subst (λ (p : Tree × Tree). Tries (pair_tree p)) (sym x.is) (tries-of pair_tree s.pats.now c.args.i x.result c.requires.within c.requires.tries),
+        subst (λ (p : Tree × Tree). Ready (pair_of term) (pair_tree p)) (sym y.is) (ready-of pair_tree (pair_of term) s.pairs.now c.args.j y.result c.requires.target_within c.requires.ready),
       ),
     )
 
 pub pairs::try_pair-find_pairs-requires : goal.pairs::try_pair-find_pairs-requires
 pairs::try_pair-find_pairs-requires t c =
-    (omega (arith, heavy pair_tree c.args.pats.now), (omega arith, (c.requires.tries, (c.requires.ready, c.requires.ordered))))
+    let s = c.args.search in
+    (omega (arith, heavy pair_tree s.pats.now), (omega arith, (c.requires.tries, (c.requires.ready, c.requires.ordered))))
 
 pub pairs::try_pair-returns-in-None : goal.pairs::try_pair-returns-in-None
 pairs::try_pair-returns-in-None t c =
+    let s = c.args.search in
     let x = c.index-pats-i in
     let y = c.index-pairs-j in
     let n = none-of (found (pair_tree x.result) (pair_tree y.result)) c.in_ok-find_pair.field-0 c.in-None.is c.in_ok-find_pair.ensures in
-    member-refused c.args.rest (λ vs. only (many dict vs)) (tried_pairs c.args.pats.now) c.args.used.now (map pair_tree c.args.pairs.now) c.args.i (omega (arith, length-each pair_tree c.args.pats.now, c.requires.within)) c.args.j
-    (ap first_of_all (at_pairs c.args.pats.now c.args.pairs.now c.args.i c.args.j x.result y.result c.requires.within c.requires.target_within x.is y.is) ∙ n)
+    member-refused s.rest (λ vs. only (many dict vs)) (tried_pairs s.pats.now) c.args.used.now (map pair_tree s.pairs.now) c.args.i (omega (arith, length-each pair_tree s.pats.now, c.requires.within)) c.args.j
+    (ap first_of_all (at_pairs s.pats.now s.pairs.now c.args.i c.args.j x.result y.result c.requires.within c.requires.target_within x.is y.is) ∙ n)
 
 pub pairs::try_pair-returns-in-None-2 : goal.pairs::try_pair-returns-in-None-2
 pairs::try_pair-returns-in-None-2 t c =
-    let all = tried_pairs c.args.pats.now in
+    let s = c.args.search in
+    let all = tried_pairs s.pats.now in
     let us = c.deref.result.now in
     let e = c.deref.ensures.value ∙ c.in_ok-next-in-Some.ensures in
-    let k = no_members-of c.args.rest (λ vs. only (many dict vs)) (ways (drop (c.args.i + 1) all) (left_from 0 us (map pair_tree c.args.pairs.now))) c.in_ok-find_pairs-in-Some.field-0 c.in-None-2.is c.in_ok-find_pairs-in-Some.ensures in
-    member-dead c.args.rest (λ vs. only (many dict vs)) all c.args.used.now (map pair_tree c.args.pairs.now) c.args.i (omega (arith, length-each pair_tree c.args.pats.now, c.requires.within)) c.args.j
-    (subst (λ (vs : List ℕ). first_way (may_rest c.args.rest) (ways (drop (c.args.i + 1) all) (left_from 0 vs (map pair_tree c.args.pairs.now))) ≡ None) e k)
+    let k = no_members-of s.rest (λ vs. only (many dict vs)) (ways (drop (c.args.i + 1) all) (left_from 0 us (map pair_tree s.pairs.now))) c.in_ok-find_pairs-in-Some.field-0 c.in-None-2.is c.in_ok-find_pairs-in-Some.ensures in
+    member-dead s.rest (λ vs. only (many dict vs)) all c.args.used.now (map pair_tree s.pairs.now) c.args.i (omega (arith, length-each pair_tree s.pats.now, c.requires.within)) c.args.j
+    (subst (λ (vs : List ℕ). first_way (may_rest s.rest) (ways (drop (c.args.i + 1) all) (left_from 0 vs (map pair_tree s.pairs.now))) ≡ None) e k)
 
 pub pairs::try_pair-returns-in_ok-joined-in-Some-2 : goal.pairs::try_pair-returns-in_ok-joined-in-Some-2
 pairs::try_pair-returns-in_ok-joined-in-Some-2 t c =
-    let all = tried_pairs c.args.pats.now in
+    let s = c.args.search in
+    let all = tried_pairs s.pats.now in
     let x = c.index-pats-i in
     let y = c.index-pairs-j in
     let us = c.deref.result.now in
     let made = λ (vs : List Tree). only (many dict vs) in
     let e = c.deref.ensures.value ∙ c.in_ok-next-in-Some.ensures in
     let a = some-of (found (pair_tree x.result) (pair_tree y.result)) c.in_ok-find_pair.field-0 c.in-Some.found c.in-Some.is c.in_ok-find_pair.ensures in
-    let k = members-of c.args.rest made (ways (drop (c.args.i + 1) all) (left_from 0 us (map pair_tree c.args.pairs.now))) c.in_ok-find_pairs-in-Some.field-0 c.in-Some-2.others c.in-Some-2.is c.in_ok-find_pairs-in-Some.ensures in
-    member-taking c.args.rest made all c.args.used.now (map pair_tree c.args.pairs.now) c.args.i (omega (arith, length-each pair_tree c.args.pats.now, c.requires.within)) c.args.j
+    let k = members-of s.rest made (ways (drop (c.args.i + 1) all) (left_from 0 us (map pair_tree s.pairs.now))) c.in_ok-find_pairs-in-Some.field-0 c.in-Some-2.others c.in-Some-2.is c.in_ok-find_pairs-in-Some.ensures in
+    member-taking s.rest made all c.args.used.now (map pair_tree s.pairs.now) c.args.i (omega (arith, length-each pair_tree s.pats.now, c.requires.within)) c.args.j
     c.in-Some.found.items c.in-Some-2.others.items c.in_ok-joined-in-Some-2.field-0.items (is-free (has c.args.used.now c.args.j) (sym c.if-not-is_free.false ∙ c.is_free.ensures))
-    (ap first_of_all (at_pairs c.args.pats.now c.args.pairs.now c.args.i c.args.j x.result y.result c.requires.within c.requires.target_within x.is y.is) ∙ a)
-    (subst (λ (vs : List ℕ). MemberWay c.args.rest made (ways (drop (c.args.i + 1) all) (left_from 0 vs (map pair_tree c.args.pairs.now))) c.in-Some-2.others.items) e k)
+    (ap first_of_all (at_pairs s.pats.now s.pairs.now c.args.i c.args.j x.result y.result c.requires.within c.requires.target_within x.is y.is) ∙ a)
+    (subst (λ (vs : List ℕ). MemberWay s.rest made (ways (drop (c.args.i + 1) all) (left_from 0 vs (map pair_tree s.pairs.now))) c.in-Some-2.others.items) e k)
     c.in_ok-joined-in-Some-2.ensures
 
 any_part : (ps : List PatPart) (k : ℕ) (p q : PatPart) → k < length ps → p ≡ get_or ps k p → q ≡ get_or ps k q → p ≡ q

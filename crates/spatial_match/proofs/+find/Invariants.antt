@@ -66,16 +66,16 @@ abbrev pub decreases-forms::find_items : goal.decreases-forms::find_items
 decreases-forms::find_items l = 16 * weight (many row l.pats.now) + 4
 
 abbrev pub decreases-members::find_members : goal.decreases-members::find_members
-decreases-members::find_members l = 16 * weight (many row l.pats.now) - 3 * l.i
+decreases-members::find_members l = 16 * weight (many row l.search.pats.now) - 3 * l.i
 
 abbrev pub decreases-members::try_member : goal.decreases-members::try_member
-decreases-members::try_member l = 16 * weight (many row l.pats.now) - (3 * l.i + 1)
+decreases-members::try_member l = 16 * weight (many row l.search.pats.now) - (3 * l.i + 1)
 
 abbrev pub decreases-pairs::find_pairs : goal.decreases-pairs::find_pairs
-decreases-pairs::find_pairs l = 16 * weight (many row (map pair_tree l.pats.now)) - 3 * l.i
+decreases-pairs::find_pairs l = 16 * weight (many row (map pair_tree l.search.pats.now)) - 3 * l.i
 
 abbrev pub decreases-pairs::try_pair : goal.decreases-pairs::try_pair
-decreases-pairs::try_pair l = 16 * weight (many row (map pair_tree l.pats.now)) - (3 * l.i + 1)
+decreases-pairs::try_pair l = 16 * weight (many row (map pair_tree l.search.pats.now)) - (3 * l.i + 1)
 
 abbrev pub decreases-pairs::find_pair : goal.decreases-pairs::find_pair
 decreases-pairs::find_pair l = 16 * weight (pair_tree l.pat.now) + 3
@@ -92,18 +92,20 @@ invariant-parts::find_end-loop-k l = NoneBefore l.k (tried l.pats)
 
 abbrev pub invariant-members::find_members-loop-j : goal.invariant-members::find_members-loop-j
 invariant-members::find_members-loop-j l =
-    let all = tried_pats l.pats in
-    (first_way (may_rest l.rest) (ways (drop l.i all) (left_from 0 l.used l.terms))
-    ≡ first_way (may_rest l.rest) (later (may_rest l.rest) (member_at l.i all) (drop (l.i + 1) all) l.used l.terms l.j))
-    × FailedBefore (may_rest l.rest) (member_at l.i all) (drop (l.i + 1) all) l.used l.terms l.j
+    let s = l.fn.search in
+    let all = tried_pats s.pats.now in
+    (first_way (may_rest s.rest) (ways (drop l.fn.i all) (left_from 0 l.fn.used s.terms.now))
+    ≡ first_way (may_rest s.rest) (later (may_rest s.rest) (member_at l.fn.i all) (drop (l.fn.i + 1) all) l.fn.used s.terms.now l.j))
+    × FailedBefore (may_rest s.rest) (member_at l.fn.i all) (drop (l.fn.i + 1) all) l.fn.used s.terms.now l.j
 
 abbrev pub invariant-pairs::find_pairs-loop-j : goal.invariant-pairs::find_pairs-loop-j
 invariant-pairs::find_pairs-loop-j l =
-    let all = tried_pairs l.pats in
-    let ts = map pair_tree l.pairs in
-    (first_way (may_rest l.rest) (ways (drop l.i all) (left_from 0 l.used ts))
-    ≡ first_way (may_rest l.rest) (later (may_rest l.rest) (member_at l.i all) (drop (l.i + 1) all) l.used ts l.j))
-    × FailedBefore (may_rest l.rest) (member_at l.i all) (drop (l.i + 1) all) l.used ts l.j
+    let s = l.fn.search in
+    let all = tried_pairs s.pats.now in
+    let ts = map pair_tree s.pairs.now in
+    (first_way (may_rest s.rest) (ways (drop l.fn.i all) (left_from 0 l.fn.used ts))
+    ≡ first_way (may_rest s.rest) (later (may_rest s.rest) (member_at l.fn.i all) (drop (l.fn.i + 1) all) l.fn.used ts l.j))
+    × FailedBefore (may_rest s.rest) (member_at l.fn.i all) (drop (l.fn.i + 1) all) l.fn.used ts l.j
 
 abbrev pub invariant-forms::find_items-loop-i : goal.invariant-forms::find_items-loop-i
 invariant-forms::find_items-loop-i l = Reaches l.remainder of_list (tried_pats l.pats) l.terms l.i l.found.items

@@ -16,37 +16,36 @@ use Rattle.code_faults.proofs.Forms.{reads-at, tuple-form, tuple_pattern-form, r
 use Rattle.code_faults.proofs.Parts.{pair-form, case-form, bind-form, bind-bound, set_pattern-form, map_pattern-form, pat-done}
 use Rattle.code_faults.proofs.Names.{name-variable, wide-tag}
 use Rattle.code_faults.proofs.Pushing.{row-start, bag-start, row-push, bag-push, count-push, all-push, bound-start, bound-start_trees, bound-push, bound-push_trees, wides-push, scope-more, scope-names}
-use Rattle.code_faults.proofs.Kids.{pair-first, pair-second, no_false}
-use Rattle.code_faults.proofs.Going.{row-going, number-row, number-bag, bag-low, bag-refused, bag-lower}
+use Rattle.code_faults.proofs.Kids.{no_false}
+use Rattle.code_faults.proofs.Going.{bag-refused}
 use Rattle.code_faults.proofs.Tags.{form-tags, pat_form-tags}
 use Rattle.code_faults.proofs.LeafRefusals.{fresh-refused, var-refused, name_var-refused, ground-refused, deep-refused}
-use Rattle.code_faults.proofs.PartRefusals.{list-refused, tuple-refused, set-refused, map-refused}
-use Rattle.code_faults.proofs.PatRefusals.{tuple_pattern-refused}
 use Rattle.code_faults.proofs.PatGoing.{pat-number, pat-refused}
-use Rattle.code_faults.proofs.NameRefusals.{refuses-at, none-left, wide-refused, name-refused, term-refused, at-room}
-use Rattle.code_faults.proofs.Exits.{at-tag, send-flag, send-channel, send-args, receive-kind, receive-binds, receive-body, new-origins, new-body, match-target, match-cases, bundle-rights, bundle-body, unary-op, unary-arg, binary-op, binary-left, binary-right, method-name, method-target, method-args}
-use Rattle.code_faults.proofs.PatExits.{list-members, list-rest, set-members, set-rest, map-pairs, map-rest, pat_send-flag, pat_send-channel, pat_send-args, pat_bundle-rights, pat_bundle-body, same-body, both-left, both-right, either-left, either-right, not-body, variable-refused, simple-refused, closed-refused, plain-refused, deep_pattern-refused, case-pattern, case-body, bind-channel, bind-patterns, bind-rest}
-use Rattle.code_faults.proofs.Blaming.{none-told, no-memory, no-form, has-room}
-use Rattle.code_faults.proofs.BlamedRows.{row-blamed, number-row_blamed, number-bag_blamed, pair-first_blamed, pair-second_blamed}
-use Rattle.code_faults.proofs.BlamedBags.{bag-blamed, bag-deep_blamed, tag-no_form, tag-form, bag-low_blamed, bag-lower_blamed, term_blamed}
-use Rattle.code_faults.proofs.BlamedParts.{room_wrong, bytes_wrong, wrong-unscoped, var_wrong, name_var_wrong, ground_wrong, plain_wrong, unbound_wrong, simple_wrong, closed_wrong}
+use Rattle.code_faults.proofs.NameRefusals.{refuses-at, none-left, wide-refused, name-refused, term-refused}
+use Rattle.code_faults.proofs.Exits.{at-tag}
+use Rattle.code_faults.proofs.PatExits.{variable-refused, simple-refused, closed-refused, plain-refused, deep_pattern-refused}
+use Rattle.code_faults.proofs.Blaming.{none-told, no-form, has-room}
+use Rattle.code_faults.proofs.BlamedBags.{bag-deep_blamed, tag-no_form, tag-form, term_blamed}
+use Rattle.code_faults.proofs.BlamedParts.{bytes_wrong, wrong-unscoped, var_wrong, name_var_wrong, ground_wrong, plain_wrong, unbound_wrong, simple_wrong, closed_wrong}
 use Rattle.code_faults.proofs.BlamedPats.{pat-number_wrong, pat_wrong, pat-deep_wrong, pat-tag_no_form, pat-tag_form, wide_wrong}
 use Rattle.code_faults.proofs.BlamedNames.{name_wrong}
-use Rattle.code_faults.proofs.BlamedExits.{at-tag_wrong, at-form_wrong, at-leaf_wrong, list_wrong, tuple_wrong, set_wrong, map_wrong, send-flag_wrong, send-channel_wrong, send-args_wrong, receive-kind_wrong, receive-binds_wrong, receive-body_wrong, new-origins_wrong, new-body_wrong, match-target_wrong, match-cases_wrong, bundle-rights_wrong, bundle-body_wrong, unary-op_wrong, unary-arg_wrong, binary-op_wrong, binary-left_wrong, binary-right_wrong, method-name_wrong, method-target_wrong, method-args_wrong}
-use Rattle.code_faults.proofs.BlamedPatExits.{list-members_wrong, list-rest_wrong, tuple_pattern_wrong, set-members_wrong, set-rest_wrong, map-pairs_wrong, map-rest_wrong, pat_send-flag_wrong, pat_send-channel_wrong, pat_send-args_wrong, pat_bundle-rights_wrong, pat_bundle-body_wrong, same-body_wrong, both-left_wrong, both-right_wrong, either-left_wrong, either-right_wrong, not-body_wrong, case-pattern_wrong, case-body_wrong, bind-channel_wrong, bind-patterns_wrong, bind-rest_wrong}
+use Rattle.code_faults.proofs.BlamedExits.{at-tag_wrong}
 use Rattle.code_faults.proofs.Begins.{a_term, a_part, a_pat, a_name, a_pair, some-case, some-bind}
-use Rattle.code_faults.proofs.BegunRows.{row-begun, number-begun, bag-begun, number-begun_bag}
-use Rattle.code_faults.proofs.BegunForms.{term-begun, list-begun, tuple-begun, set-begun, map-begun, send-flag_begun, send-channel_begun, send-args_begun, receive-kind_begun, receive-binds_begun, receive-body_begun, new-origins_begun, new-body_begun, match-target_begun, match-cases_begun, bundle-rights_begun, bundle-body_begun, unary-op_begun, unary-arg_begun, binary-op_begun, binary-left_begun, binary-right_begun, method-name_begun, method-target_begun, method-args_begun, fresh-begun, var-begun, name_var-begun, at-tag_begun}
-use Rattle.code_faults.proofs.BegunPats.{list-members_begun, list-rest_begun, tuple_pattern-begun, set-members_begun, set-rest_begun, map-pairs_begun, map-rest_begun, pat_send-flag_begun, pat_send-channel_begun, pat_send-args_begun, pat_bundle-rights_begun, pat_bundle-body_begun, same-body_begun, both-left_begun, both-right_begun, either-left_begun, either-right_begun, not-body_begun, name-begun, pair-first_begun, pair-second_begun, simple-begun, no-part_begun, closed-begun, ground-begun, plain-begun, case-pattern_begun, case-body_begun, bind-channel_begun, bind-patterns_begun, bind-rest_begun, free-two}
+use Rattle.code_faults.proofs.BegunForms.{term-begun, fresh-begun, var-begun, name_var-begun, at-tag_begun}
+use Rattle.code_faults.proofs.BegunPats.{name-begun, simple-begun, no-part_begun, closed-begun, ground-begun, plain-begun, free-two}
 use Rattle.code_faults.proofs.BegunParts.{pat-number_begun, pat-tag_begun, pat-part_begun}
-use Rattle.code_faults.proofs.BegunMore.{bag-none_begun, begun-at, begun-room, begun-unscoped, quiet-push}
+use Rattle.code_faults.proofs.BegunMore.{bag-none_begun, begun-unscoped, quiet-push}
 use Rattle.code_faults.proofs.Places.{goes-on, goes-here, goes-at}
-use Rattle.code_faults.proofs.Memory.{memory-refuses, memory-row, memory-bag}
 use Rattle.code_faults.specs.declared.fault.ReadFault.TheVariants.{TooDeep}
 use Rattle.code_faults.proofs.Scoped.{refuses-unscoped, reads-unscoped}
-use Rattle.term_code.proofs.Failing.{failed, passed}
+use Rattle.term_code.proofs.Tags.{later-form, later-pat_form}
+use Rattle.term_code.proofs.Counting.{more-left, all-read, at-least, at-most, any-fits, few-fit, eight-fit, nine-fit}
+use Rattle.term_code.proofs.Failing.{failed, passed, tag-fails, part-at-room, pat_part-at-room}
+use Rattle.term_code.proofs.RowFailures.{memory-fails, memory-row-fails, memory-bag-fails, bytes-fail, term-fails, row-number-fails, bag-number-fails, row-fails, bag-fails, bag-order-fails, bag-lower-fails}
+use Rattle.term_code.proofs.FormFailures.{list-fails, tuple-fails, set-fails, map-fails, send-flag-fails, send-channel-fails, send-args-fails, receive-kind-fails, receive-binds-fails, receive-body-fails, new-origins-fails, new-body-fails, match-target-fails, match-cases-fails, bundle-rights-fails, bundle-body-fails, unary-op-fails, unary-arg-fails, binary-op-fails, binary-left-fails, binary-right-fails, method-name-fails, method-target-fails, method-args-fails}
+use Rattle.term_code.proofs.PatFailures.{list-members-fails, list-rest-fails, tuple_pattern-fails, set-members-fails, set-rest-fails, map-pairs-fails, map-rest-fails, pat_send-flag-fails, pat_send-channel-fails, pat_send-args-fails, pat_bundle-rights-fails, pat_bundle-body-fails, same-body-fails, both-left-fails, both-right-fails, either-left-fails, either-right-fails, not-body-fails, pair-first-fails, pair-second-fails, case-pattern-fails, case-body-fails, bind-channel-fails, bind-patterns-fails, bind-rest-fails}
 use Rattle.term_code.proofs.Formed.{list-form, set-form, map-form, send-form, bundle-form, unary-form, binary-form, method-form, same-form, both-form, pat_send-form}
-use Rattle.term_code.proofs.Leaves.{reads-room, name-read, fresh-read, var-read, name_var-read, ground-read, plain-read, ground-unbound, ground-ordered, variable-read, wild-read, simple-read, closed-read, list_pattern-form, pat_bundle-form, either-form, not-form, one-free, bound-two, bound-free, senses-push}
+use Rattle.term_code.proofs.Leaves.{name-read, fresh-read, var-read, name_var-read, ground-read, plain-read, ground-unbound, ground-ordered, variable-read, wild-read, simple-read, closed-read, list_pattern-form, pat_bundle-form, either-form, not-form, one-free, bound-two, bound-free, senses-push}
 use Rattle.term_code.proofs.+read.Goals as goal
 
 pub terms::read_terms-loop-i-init : goal.terms::read_terms-loop-i-init
@@ -57,9 +56,9 @@ terms::read_terms-loop-i-preserved t c = record { read = row-push c.in_ok-push.e
 
 pub terms::read_terms-returns : goal.terms::read_terms-returns
 terms::read_terms-returns t c = record {
-  reads = row-done_trees c.in_ok-count.count c.args.reader.now.input.now c.loop-i.invariant.read (omega (arith, c.loop-i.invariant.count, c.loop-i.auto._i-end)) c.in_ok-count.ensures.is;
-  enough = omega (arith, c.in_ok-count.ensures.least, c.loop-i.invariant.count, c.loop-i.auto._i-end);
-  few = omega (arith, c.in_ok-count.ensures.most, c.loop-i.invariant.count, c.loop-i.auto._i-end);
+  reads = row-done_trees c.in_ok-count.count c.args.reader.now.input.now c.loop-i.invariant.read (all-read c.loop-i.invariant.count c.loop-i.auto._i-end c.loop-i-test.false) c.in_ok-count.ensures.is;
+  enough = at-least (all-read c.loop-i.invariant.count c.loop-i.auto._i-end c.loop-i-test.false) c.in_ok-count.ensures.least;
+  few = at-most (all-read c.loop-i.invariant.count c.loop-i.auto._i-end c.loop-i-test.false) c.in_ok-count.ensures.most;
 }
 
 pub terms::read_members-loop-i-init : goal.terms::read_members-loop-i-init
@@ -69,7 +68,7 @@ pub terms::read_members-loop-i-preserved : goal.terms::read_members-loop-i-prese
 terms::read_members-loop-i-preserved t c = record { read = bag-push c.in_ok-push.ensures.items c.loop-i.invariant.read c.in_ok-term.ensures c.in_ok-last.ensures.code c.in_ok-last.ensures.up; count = count-push _ _ c.in_ok-push.ensures.items c.loop-i.invariant.count }
 
 pub terms::read_members-returns : goal.terms::read_members-returns
-terms::read_members-returns t c = bag-done_trees c.in_ok-count.count c.args.reader.now.input.now c.loop-i.invariant.read (omega (arith, c.loop-i.invariant.count, c.loop-i.auto._i-end)) c.in_ok-count.ensures.is
+terms::read_members-returns t c = bag-done_trees c.in_ok-count.count c.args.reader.now.input.now c.loop-i.invariant.read (all-read c.loop-i.invariant.count c.loop-i.auto._i-end c.loop-i-test.false) c.in_ok-count.ensures.is
 
 pub terms::read_pairs-loop-i-init : goal.terms::read_pairs-loop-i-init
 terms::read_pairs-loop-i-init t c = record { read = bag-start c.list-pairs.ensures; count = ap length c.list-pairs.ensures }
@@ -78,7 +77,7 @@ pub terms::read_pairs-loop-i-preserved : goal.terms::read_pairs-loop-i-preserved
 terms::read_pairs-loop-i-preserved t c = record { read = bag-push c.in_ok-push.ensures.items c.loop-i.invariant.read (pair-form c.in_ok-key.ensures c.in_ok-value.ensures) c.in_ok-last.ensures.code c.in_ok-last.ensures.up; count = count-push _ _ c.in_ok-push.ensures.items c.loop-i.invariant.count }
 
 pub terms::read_pairs-returns : goal.terms::read_pairs-returns
-terms::read_pairs-returns t c = bag-done c.in_ok-count.count c.args.reader.now.input.now c.loop-i.invariant.read (omega (arith, c.loop-i.invariant.count, c.loop-i.auto._i-end)) c.in_ok-count.ensures.is
+terms::read_pairs-returns t c = bag-done c.in_ok-count.count c.args.reader.now.input.now c.loop-i.invariant.read (all-read c.loop-i.invariant.count c.loop-i.auto._i-end c.loop-i-test.false) c.in_ok-count.ensures.is
 
 pub terms::read_term-loop-i-init : goal.terms::read_term-loop-i-init
 terms::read_term-loop-i-init t c = record { read = bag-start c.list-parts.ensures; count = ap length c.list-parts.ensures; ordered = subst (λ ps. All (λ p. IsOrdered (part_tree p)) ps) (sym c.list-parts.ensures) (λ k d h. absurd (omega arith)) }
@@ -93,7 +92,7 @@ pub terms::read_term-from_sorted-requires-clause-members : goal.terms::read_term
 terms::read_term-from_sorted-requires-clause-members t c = c.loop-i.invariant.ordered
 
 pub terms::read_term-returns : goal.terms::read_term-returns
-terms::read_term-returns t c = rw c.from_sorted.ensures (process-done (bag-done c.in_ok-count.count c.args.reader.now.input.now c.loop-i.invariant.read (omega (arith, c.loop-i.invariant.count, c.loop-i.auto._i-end)) c.in_ok-count.ensures.is))
+terms::read_term-returns t c = rw c.from_sorted.ensures (process-done (bag-done c.in_ok-count.count c.args.reader.now.input.now c.loop-i.invariant.read (all-read c.loop-i.invariant.count c.loop-i.auto._i-end c.loop-i-test.false) c.in_ok-count.ensures.is))
 
 pub terms::read_cases-loop-i-init : goal.terms::read_cases-loop-i-init
 terms::read_cases-loop-i-init t c = record { read = row-start c.list-cases.ensures; count = ap length c.list-cases.ensures }
@@ -103,9 +102,9 @@ terms::read_cases-loop-i-preserved t c = record { read = row-push c.in_ok-push.e
 
 pub terms::read_cases-returns : goal.terms::read_cases-returns
 terms::read_cases-returns t c = record {
-  reads = row-done c.in_ok-count.count c.args.reader.now.input.now c.loop-i.invariant.read (omega (arith, c.loop-i.invariant.count, c.loop-i.auto._i-end)) c.in_ok-count.ensures.is;
-  enough = rw (length-map case_tree c.loop-i.cases.items) (omega (arith, c.in_ok-count.ensures.least, c.loop-i.invariant.count, c.loop-i.auto._i-end));
-  few = rw (length-map case_tree c.loop-i.cases.items) (omega (arith, c.in_ok-count.ensures.most, c.loop-i.invariant.count, c.loop-i.auto._i-end));
+  reads = row-done c.in_ok-count.count c.args.reader.now.input.now c.loop-i.invariant.read (all-read c.loop-i.invariant.count c.loop-i.auto._i-end c.loop-i-test.false) c.in_ok-count.ensures.is;
+  enough = rw (length-map case_tree c.loop-i.cases.items) (at-least (all-read c.loop-i.invariant.count c.loop-i.auto._i-end c.loop-i-test.false) c.in_ok-count.ensures.least);
+  few = rw (length-map case_tree c.loop-i.cases.items) (at-most (all-read c.loop-i.invariant.count c.loop-i.auto._i-end c.loop-i-test.false) c.in_ok-count.ensures.most);
 }
 
 pub terms::read_binds-loop-i-init : goal.terms::read_binds-loop-i-init
@@ -123,9 +122,9 @@ terms::read_binds-loop-i-preserved t c = record {
 
 pub terms::read_binds-returns : goal.terms::read_binds-returns
 terms::read_binds-returns t c = record {
-  reads = row-done c.in_ok-count.count c.args.reader.now.input.now c.loop-i.invariant.read (omega (arith, c.loop-i.invariant.count, c.loop-i.auto._i-end)) c.in_ok-count.ensures.is;
-  enough = rw (length-map bind_tree c.loop-i.binds.items) (omega (arith, c.in_ok-count.ensures.least, c.loop-i.invariant.count, c.loop-i.auto._i-end));
-  few = rw (length-map bind_tree c.loop-i.binds.items) (omega (arith, c.in_ok-count.ensures.most, c.loop-i.invariant.count, c.loop-i.auto._i-end));
+  reads = row-done c.in_ok-count.count c.args.reader.now.input.now c.loop-i.invariant.read (all-read c.loop-i.invariant.count c.loop-i.auto._i-end c.loop-i-test.false) c.in_ok-count.ensures.is;
+  enough = rw (length-map bind_tree c.loop-i.binds.items) (at-least (all-read c.loop-i.invariant.count c.loop-i.auto._i-end c.loop-i-test.false) c.in_ok-count.ensures.least);
+  few = rw (length-map bind_tree c.loop-i.binds.items) (at-most (all-read c.loop-i.invariant.count c.loop-i.auto._i-end c.loop-i-test.false) c.in_ok-count.ensures.most);
   found = c.loop-i.invariant.binding;
   free = λ q. absurd (no_false q);
 }
@@ -138,9 +137,9 @@ patterns::read_pats-loop-i-preserved t c = record { quiet = λ q. quiet-push (λ
 
 pub patterns::read_pats-returns : goal.patterns::read_pats-returns
 patterns::read_pats-returns t c = record {
-  reads = row-done_trees c.in_ok-count.count c.args.reader.now.input.now c.loop-i.invariant.read (omega (arith, c.loop-i.invariant.count, c.loop-i.auto._i-end)) c.in_ok-count.ensures.is;
-  enough = omega (arith, c.in_ok-count.ensures.least, c.loop-i.invariant.count, c.loop-i.auto._i-end);
-  few = omega (arith, c.in_ok-count.ensures.most, c.loop-i.invariant.count, c.loop-i.auto._i-end);
+  reads = row-done_trees c.in_ok-count.count c.args.reader.now.input.now c.loop-i.invariant.read (all-read c.loop-i.invariant.count c.loop-i.auto._i-end c.loop-i-test.false) c.in_ok-count.ensures.is;
+  enough = at-least (all-read c.loop-i.invariant.count c.loop-i.auto._i-end c.loop-i-test.false) c.in_ok-count.ensures.least;
+  few = at-most (all-read c.loop-i.invariant.count c.loop-i.auto._i-end c.loop-i-test.false) c.in_ok-count.ensures.most;
   found = c.loop-i.invariant.binding;
   free = λ q. sym (ap (λ us. bound_all (trees us)) (map-same c.loop-i.pats.items)) ∙ c.loop-i.invariant.quiet q;
 }
@@ -153,9 +152,9 @@ patterns::read_name_pats-loop-i-preserved t c = record { read = row-push c.in_ok
 
 pub patterns::read_name_pats-returns : goal.patterns::read_name_pats-returns
 patterns::read_name_pats-returns t c = record {
-  reads = row-done_trees c.in_ok-count.count c.args.reader.now.input.now c.loop-i.invariant.read (omega (arith, c.loop-i.invariant.count, c.loop-i.auto._i-end)) c.in_ok-count.ensures.is;
+  reads = row-done_trees c.in_ok-count.count c.args.reader.now.input.now c.loop-i.invariant.read (all-read c.loop-i.invariant.count c.loop-i.auto._i-end c.loop-i-test.false) c.in_ok-count.ensures.is;
   enough = omega arith;
-  few = omega (arith, c.in_ok-count.ensures.most, c.loop-i.invariant.count, c.loop-i.auto._i-end);
+  few = at-most (all-read c.loop-i.invariant.count c.loop-i.auto._i-end c.loop-i-test.false) c.in_ok-count.ensures.most;
   found = c.loop-i.invariant.binding;
   free = λ q. absurd (no_false q);
 }
@@ -176,9 +175,9 @@ patterns::read_pat_pairs-loop-i-preserved t c = record {
 
 pub patterns::read_pat_pairs-returns : goal.patterns::read_pat_pairs-returns
 patterns::read_pat_pairs-returns t c = record {
-  reads = row-done c.in_ok-count.count c.args.reader.now.input.now c.loop-i.invariant.read (omega (arith, c.loop-i.invariant.count, c.loop-i.auto._i-end)) c.in_ok-count.ensures.is;
+  reads = row-done c.in_ok-count.count c.args.reader.now.input.now c.loop-i.invariant.read (all-read c.loop-i.invariant.count c.loop-i.auto._i-end c.loop-i-test.false) c.in_ok-count.ensures.is;
   enough = omega arith;
-  few = rw (length-map pair_tree c.loop-i.pairs.items) (omega (arith, c.in_ok-count.ensures.most, c.loop-i.invariant.count, c.loop-i.auto._i-end));
+  few = rw (length-map pair_tree c.loop-i.pairs.items) (at-most (all-read c.loop-i.invariant.count c.loop-i.auto._i-end c.loop-i-test.false) c.in_ok-count.ensures.most);
   found = c.loop-i.invariant.binding;
   free = c.loop-i.invariant.quiet;
 }
@@ -203,7 +202,7 @@ patterns::read_pat-new-requires t c = c.loop-i.invariant.ordered
 
 pub patterns::read_pat-returns : goal.patterns::read_pat-returns
 patterns::read_pat-returns t c = record {
-  reads = rw c.new.ensures (pat-done c.in_ok-count.count c.loop-i.wide c.args.reader.now.input.now c.loop-i.invariant.read (omega (arith, c.loop-i.invariant.count, c.loop-i.auto.i-end)) c.in_ok-count.ensures.is c.loop-i.invariant.wide c.loop-i.invariant.one (omega (arith, c.loop-i.invariant.thin, c.loop-i.auto.i-end)));
+  reads = rw c.new.ensures (pat-done c.in_ok-count.count c.loop-i.wide c.args.reader.now.input.now c.loop-i.invariant.read (all-read c.loop-i.invariant.count c.loop-i.auto.i-end c.loop-i-test.false) c.in_ok-count.ensures.is c.loop-i.invariant.wide c.loop-i.invariant.one (omega (arith, c.loop-i.invariant.thin, c.loop-i.auto.i-end)));
   found = rw c.new.ensures c.loop-i.invariant.binding;
   free = λ q. rw c.new.ensures (c.loop-i.invariant.quiet q);
 }
@@ -214,236 +213,120 @@ terms::read_form-returns-in_ok-read_terms-in-33 t c = record {
   ordered = tt;
 }
 
-pub terms::read_form-returns-in_ok-body-in-49 : goal.terms::read_form-returns-in_ok-body-in-49
-terms::read_form-returns-in_ok-body-in-49 t c = record {
+pub terms::read_process-returns-in_ok-body-in-49 : goal.terms::read_process-returns-in_ok-body-in-49
+terms::read_process-returns-in_ok-body-in-49 t c = record {
   reads = receive-form (map bind_tree c.in_ok-binds-in-49.binds.items) c.in_ok-kind-in-49.kind c.args.tag c.in-49.is c.in_ok-kind-in-49.ensures.is c.in_ok-binds-in-49.ensures.reads c.in_ok-body-in-49.ensures
       (scope-more c.args.scope.now.items c.read_binds.new.found.items (bound (many row (map bind_tree c.in_ok-binds-in-49.binds.items))) (c.in_ok-binds-in-49.ensures.found ∙ ap (λ xs. senses_of xs ++ bound (many row (map bind_tree c.in_ok-binds-in-49.binds.items))) c.in_ok-inner-in-49.ensures))
       c.in_ok-binds-in-49.ensures.enough c.in_ok-binds-in-49.ensures.few;
   ordered = tt;
 }
 
-pub terms::read_form-returns-in_ok-body-in-50 : goal.terms::read_form-returns-in_ok-body-in-50
-terms::read_form-returns-in_ok-body-in-50 t c = record {
+pub terms::read_process-returns-in_ok-body-in-50 : goal.terms::read_process-returns-in_ok-body-in-50
+terms::read_process-returns-in_ok-body-in-50 t c = record {
   reads = new-form c.in_ok-names-in-50.names.items c.args.tag c.in-50.is c.in_ok-names-in-50.ensures.is c.in_ok-body-in-50.ensures
       (scope-names c.args.scope.now.items c.in_ok-inner-in-50.inner.items c.in_ok-names-in-50.names.items c.len.result (omega arith) c.in_ok-inner-in-50.ensures) c.in_ok-names-in-50.ensures.some;
   ordered = tt;
 }
 
-pub terms::read_form-returns-in_ok-cases-in-51 : goal.terms::read_form-returns-in_ok-cases-in-51
-terms::read_form-returns-in_ok-cases-in-51 t c = record {
+pub terms::read_process-returns-in_ok-cases-in-51 : goal.terms::read_process-returns-in_ok-cases-in-51
+terms::read_process-returns-in_ok-cases-in-51 t c = record {
   reads = match-form (map case_tree c.in_ok-cases-in-51.cases.items) c.args.tag c.in-51.is c.in_ok-target-in-51.ensures c.in_ok-cases-in-51.ensures.reads c.in_ok-cases-in-51.ensures.enough;
   ordered = tt;
 }
 
 pub terms::read_terms-returns-in_err-count : goal.terms::read_terms-returns-in_err-count
-terms::read_terms-returns-in_err-count t c = failed _ _ _ _ c.from_residual.ensures.1 (record {
-  wrong = number-row_blamed c.in_err-count.ensures.wrong;
-  refuses = number-row c.in_err-count.ensures.refuses;
-  begun = λ s. goes-on (c.in_err-count.ensures.begun s (omega arith)) (λ z g. number-begun g (a_term _));
-})
+terms::read_terms-returns-in_err-count t c = failed _ _ _ _ c.from_residual.ensures.1 (row-number-fails (a_term _) (omega arith) c.in_err-count.ensures.wrong c.in_err-count.ensures.refuses c.in_err-count.ensures.begun)
 
 pub terms::read_terms-returns-in_err-term : goal.terms::read_terms-returns-in_err-term
-terms::read_terms-returns-in_err-term t c = failed _ _ _ _ c.from_residual-in_err-term.ensures.1 (record {
-  wrong = row-blamed c.args.least 0xFFFFFFFF c.in_ok-count.count _ c.loop-i.invariant.read c.in_ok-count.ensures.is (omega arith) (omega (arith, c.loop-i.invariant.count)) c.in_err-term.ensures.wrong;
-  refuses = row-going c.args.least 0xFFFFFFFF c.in_ok-count.count _ c.loop-i.invariant.read c.in_ok-count.ensures.is (omega arith) (omega (arith, c.loop-i.invariant.count)) c.in_err-term.ensures.refuses;
-  begun = λ s. goes-on (c.in_err-term.ensures.begun s) (λ z g. row-begun c.args.least 0xFFFFFFFF c.in_ok-count.count c.loop-i.invariant.read (λ q. absurd (no_false q)) c.in_ok-count.ensures.is c.in_ok-count.ensures.least c.in_ok-count.ensures.most (omega (arith, c.loop-i.invariant.count)) (a_term _) g);
-})
+terms::read_terms-returns-in_err-term t c = failed _ _ _ _ c.from_residual-in_err-term.ensures.1 (row-fails c.args.least 0xFFFFFFFF c.in_ok-count.count c.loop-i.invariant.read (λ q. absurd (no_false q)) c.in_ok-count.ensures.is c.in_ok-count.ensures.least c.in_ok-count.ensures.most (any-fits c.in_ok-count.ensures.most) (more-left c.loop-i.invariant.count c.loop-i-test.true) (a_term _) c.in_err-term.ensures)
 
 pub terms::read_members-returns-in_err-count : goal.terms::read_members-returns-in_err-count
-terms::read_members-returns-in_err-count t c = failed _ _ _ _ c.from_residual.ensures.1 (record {
-  wrong = number-bag_blamed c.in_err-count.ensures.wrong;
-  refuses = number-bag c.in_err-count.ensures.refuses;
-  begun = λ s. goes-on (c.in_err-count.ensures.begun s (omega arith)) (λ z n. number-begun_bag n.number (a_term _) n.cut);
-})
+terms::read_members-returns-in_err-count t c = failed _ _ _ _ c.from_residual.ensures.1 (bag-number-fails (a_term _) c.in_err-count.ensures.wrong c.in_err-count.ensures.refuses c.in_err-count.ensures.begun)
 
 pub terms::read_members-returns-in_err-check_order : goal.terms::read_members-returns-in_err-check_order
-terms::read_members-returns-in_err-check_order t c = failed _ _ _ _ c.from_residual-in_err-check_order.ensures.1 (record {
-  wrong = bag-low_blamed c.in_ok-count.count _ c.loop-i.invariant.read c.in_ok-count.ensures.is (omega arith) (omega (arith, c.loop-i.invariant.count)) c.in_err-check_order.ensures.place (no-form _ _) c.in_err-check_order.ensures.refuses;
-  refuses = bag-low c.in_ok-count.count _ c.loop-i.invariant.read c.in_ok-count.ensures.is (omega arith) (omega (arith, c.loop-i.invariant.count)) c.in_err-check_order.ensures.refuses;
-  begun = λ s. goes-at _ (bag-none_begun c.in_ok-count.count (a_term _) c.loop-i.invariant.read c.in_ok-count.ensures.is (omega (arith, c.loop-i.invariant.count))) c.in_err-check_order.ensures.place (omega arith);
-})
+terms::read_members-returns-in_err-check_order t c = failed _ _ _ _ c.from_residual-in_err-check_order.ensures.1 (bag-order-fails c.in_ok-count.count c.loop-i.invariant.read c.in_ok-count.ensures.is (any-fits c.in_ok-count.ensures.most) (more-left c.loop-i.invariant.count c.loop-i-test.true) (no-form _ _) (a_term _) c.in_err-check_order.ensures.place c.in_err-check_order.ensures.refuses)
 
 pub terms::read_members-returns-in_err-term : goal.terms::read_members-returns-in_err-term
-terms::read_members-returns-in_err-term t c = failed _ _ _ _ c.from_residual-in_err-term.ensures.1 (record {
-  wrong = bag-blamed c.in_ok-count.count _ c.loop-i.invariant.read c.in_ok-count.ensures.is (omega arith) (omega (arith, c.loop-i.invariant.count)) c.in_ok-check_order.ensures.up (no-form _ _) c.in_err-term.ensures.wrong;
-  refuses = bag-refused c.in_ok-count.count _ c.loop-i.invariant.read c.in_ok-count.ensures.is (omega arith) (omega (arith, c.loop-i.invariant.count)) c.in_err-term.ensures.refuses;
-  begun = λ s. goes-on (c.in_err-term.ensures.begun s) (λ z g. bag-begun {b = true} c.in_ok-count.count c.loop-i.invariant.read c.in_ok-count.ensures.is (omega (arith, c.loop-i.invariant.count)) c.in_ok-check_order.ensures.follows g);
-})
+terms::read_members-returns-in_err-term t c = failed _ _ _ _ c.from_residual-in_err-term.ensures.1 (bag-fails c.in_ok-count.count c.loop-i.invariant.read c.in_ok-count.ensures.is (any-fits c.in_ok-count.ensures.most) (more-left c.loop-i.invariant.count c.loop-i-test.true) (no-form _ _) c.in_ok-check_order.ensures.up c.in_ok-check_order.ensures.follows c.in_err-term.ensures)
 
 pub terms::read_members-returns-in_err-last : goal.terms::read_members-returns-in_err-last
-terms::read_members-returns-in_err-last t c = failed _ _ _ _ c.from_residual-in_err-last.ensures.1 (record {
-  wrong = bag-lower_blamed c.in_ok-count.count _ c.loop-i.invariant.read c.in_ok-count.ensures.is (omega arith) (omega (arith, c.loop-i.invariant.count)) c.in_err-last.ensures.place (no-form _ _) c.in_ok-term.ensures c.in_err-last.ensures.down;
-  refuses = bag-lower c.in_ok-count.count _ c.loop-i.invariant.read c.in_ok-count.ensures.is (omega arith) (omega (arith, c.loop-i.invariant.count)) c.in_ok-term.ensures c.in_err-last.ensures.down;
-  begun = λ s. goes-at _ (bag-none_begun c.in_ok-count.count (a_term _) c.loop-i.invariant.read c.in_ok-count.ensures.is (omega (arith, c.loop-i.invariant.count))) c.in_err-last.ensures.place (omega arith);
-})
+terms::read_members-returns-in_err-last t c = failed _ _ _ _ c.from_residual-in_err-last.ensures.1 (bag-lower-fails c.in_ok-count.count c.loop-i.invariant.read c.in_ok-count.ensures.is (any-fits c.in_ok-count.ensures.most) (more-left c.loop-i.invariant.count c.loop-i-test.true) (no-form _ _) (a_term _) c.in_err-last.ensures.place c.in_ok-term.ensures c.in_err-last.ensures.down)
 
 pub terms::read_pairs-returns-in_err-count : goal.terms::read_pairs-returns-in_err-count
-terms::read_pairs-returns-in_err-count t c = failed _ _ _ _ c.from_residual.ensures.1 (record {
-  wrong = number-bag_blamed c.in_err-count.ensures.wrong;
-  refuses = number-bag c.in_err-count.ensures.refuses;
-  begun = λ s. goes-on (c.in_err-count.ensures.begun s (omega arith)) (λ z n. number-begun_bag n.number (a_pair (a_term _)) n.cut);
-})
+terms::read_pairs-returns-in_err-count t c = failed _ _ _ _ c.from_residual.ensures.1 (bag-number-fails (a_pair (a_term _)) c.in_err-count.ensures.wrong c.in_err-count.ensures.refuses c.in_err-count.ensures.begun)
 
 pub terms::read_pairs-returns-in_err-check_order : goal.terms::read_pairs-returns-in_err-check_order
-terms::read_pairs-returns-in_err-check_order t c = failed _ _ _ _ c.from_residual-in_err-check_order.ensures.1 (record {
-  wrong = bag-low_blamed c.in_ok-count.count _ c.loop-i.invariant.read c.in_ok-count.ensures.is (omega arith) (omega (arith, c.loop-i.invariant.count)) c.in_err-check_order.ensures.place (no-form _ _) c.in_err-check_order.ensures.refuses;
-  refuses = bag-low c.in_ok-count.count _ c.loop-i.invariant.read c.in_ok-count.ensures.is (omega arith) (omega (arith, c.loop-i.invariant.count)) c.in_err-check_order.ensures.refuses;
-  begun = λ s. goes-at _ (bag-none_begun c.in_ok-count.count (a_pair (a_term _)) c.loop-i.invariant.read c.in_ok-count.ensures.is (omega (arith, c.loop-i.invariant.count))) c.in_err-check_order.ensures.place (omega arith);
-})
+terms::read_pairs-returns-in_err-check_order t c = failed _ _ _ _ c.from_residual-in_err-check_order.ensures.1 (bag-order-fails c.in_ok-count.count c.loop-i.invariant.read c.in_ok-count.ensures.is (any-fits c.in_ok-count.ensures.most) (more-left c.loop-i.invariant.count c.loop-i-test.true) (no-form _ _) (a_pair (a_term _)) c.in_err-check_order.ensures.place c.in_err-check_order.ensures.refuses)
 
 pub terms::read_pairs-returns-in_err-key : goal.terms::read_pairs-returns-in_err-key
-terms::read_pairs-returns-in_err-key t c = failed _ _ _ _ c.from_residual-in_err-key.ensures.1 (record {
-  wrong = bag-blamed c.in_ok-count.count _ c.loop-i.invariant.read c.in_ok-count.ensures.is (omega arith) (omega (arith, c.loop-i.invariant.count)) c.in_ok-check_order.ensures.up (no-form _ _) (pair-first_blamed c.in_err-key.ensures.wrong);
-  refuses = bag-refused c.in_ok-count.count _ c.loop-i.invariant.read c.in_ok-count.ensures.is (omega arith) (omega (arith, c.loop-i.invariant.count)) (pair-first c.in_err-key.ensures.refuses);
-  begun = λ s. goes-on (c.in_err-key.ensures.begun s) (λ z g. bag-begun {b = true} c.in_ok-count.count c.loop-i.invariant.read c.in_ok-count.ensures.is (omega (arith, c.loop-i.invariant.count)) c.in_ok-check_order.ensures.follows (pair-first_begun (a_term _) g));
-})
+terms::read_pairs-returns-in_err-key t c = failed _ _ _ _ c.from_residual-in_err-key.ensures.1 (bag-fails c.in_ok-count.count c.loop-i.invariant.read c.in_ok-count.ensures.is (any-fits c.in_ok-count.ensures.most) (more-left c.loop-i.invariant.count c.loop-i-test.true) (no-form _ _) c.in_ok-check_order.ensures.up c.in_ok-check_order.ensures.follows (pair-first-fails (a_term _) c.in_err-key.ensures))
 
 pub terms::read_pairs-returns-in_err-value : goal.terms::read_pairs-returns-in_err-value
-terms::read_pairs-returns-in_err-value t c = failed _ _ _ _ c.from_residual-in_err-value.ensures.1 (record {
-  wrong = bag-blamed c.in_ok-count.count _ c.loop-i.invariant.read c.in_ok-count.ensures.is (omega arith) (omega (arith, c.loop-i.invariant.count)) c.in_ok-check_order.ensures.up (no-form _ _) (pair-second_blamed c.in_ok-key.ensures c.in_err-value.ensures.wrong);
-  refuses = bag-refused c.in_ok-count.count _ c.loop-i.invariant.read c.in_ok-count.ensures.is (omega arith) (omega (arith, c.loop-i.invariant.count)) (pair-second c.in_ok-key.ensures c.in_err-value.ensures.refuses);
-  begun = λ s. goes-on (c.in_err-value.ensures.begun s) (λ z g. bag-begun {b = true} c.in_ok-count.count c.loop-i.invariant.read c.in_ok-count.ensures.is (omega (arith, c.loop-i.invariant.count)) c.in_ok-check_order.ensures.follows (pair-second_begun c.in_ok-key.ensures (λ q. absurd (no_false q)) g));
-})
+terms::read_pairs-returns-in_err-value t c = failed _ _ _ _ c.from_residual-in_err-value.ensures.1 (bag-fails c.in_ok-count.count c.loop-i.invariant.read c.in_ok-count.ensures.is (any-fits c.in_ok-count.ensures.most) (more-left c.loop-i.invariant.count c.loop-i-test.true) (no-form _ _) c.in_ok-check_order.ensures.up c.in_ok-check_order.ensures.follows (pair-second-fails c.in_ok-key.ensures (λ q. absurd (no_false q)) c.in_err-value.ensures))
 
 pub terms::read_pairs-returns-in_err-last : goal.terms::read_pairs-returns-in_err-last
-terms::read_pairs-returns-in_err-last t c = failed _ _ _ _ c.from_residual-in_err-last.ensures.1 (record {
-  wrong = bag-lower_blamed c.in_ok-count.count _ c.loop-i.invariant.read c.in_ok-count.ensures.is (omega arith) (omega (arith, c.loop-i.invariant.count)) c.in_err-last.ensures.place (no-form _ _) (pair-form c.in_ok-key.ensures c.in_ok-value.ensures) c.in_err-last.ensures.down;
-  refuses = bag-lower c.in_ok-count.count _ c.loop-i.invariant.read c.in_ok-count.ensures.is (omega arith) (omega (arith, c.loop-i.invariant.count)) (pair-form c.in_ok-key.ensures c.in_ok-value.ensures) c.in_err-last.ensures.down;
-  begun = λ s. goes-at _ (bag-none_begun c.in_ok-count.count (a_pair (a_term _)) c.loop-i.invariant.read c.in_ok-count.ensures.is (omega (arith, c.loop-i.invariant.count))) c.in_err-last.ensures.place (omega arith);
-})
+terms::read_pairs-returns-in_err-last t c = failed _ _ _ _ c.from_residual-in_err-last.ensures.1 (bag-lower-fails c.in_ok-count.count c.loop-i.invariant.read c.in_ok-count.ensures.is (any-fits c.in_ok-count.ensures.most) (more-left c.loop-i.invariant.count c.loop-i-test.true) (no-form _ _) (a_pair (a_term _)) c.in_err-last.ensures.place (pair-form c.in_ok-key.ensures c.in_ok-value.ensures) c.in_err-last.ensures.down)
 
 pub terms::read_term-returns-in_err-count : goal.terms::read_term-returns-in_err-count
-terms::read_term-returns-in_err-count t c = failed _ _ _ _ c.from_residual.ensures.1 (record {
-  wrong = term_blamed (number-bag_blamed c.in_err-count.ensures.wrong);
-  refuses = term-refused (number-bag c.in_err-count.ensures.refuses);
-  begun = λ s. goes-on (c.in_err-count.ensures.begun s (omega arith)) (λ z n. term-begun (number-begun_bag n.number (a_part _) n.cut));
-})
+terms::read_term-returns-in_err-count t c = failed _ _ _ _ c.from_residual.ensures.1 (term-fails (bag-number-fails (a_part _) c.in_err-count.ensures.wrong c.in_err-count.ensures.refuses c.in_err-count.ensures.begun))
 
 pub terms::read_term-returns-in_err-tag : goal.terms::read_term-returns-in_err-tag
 terms::read_term-returns-in_err-tag t c = failed _ _ _ _ c.from_residual-in_err-tag.ensures.1 (record {
   wrong = none-told _ c.in_err-tag.ensures.tells;
-  refuses = term-refused (bag-refused c.in_ok-count.count _ c.loop-i.invariant.read c.in_ok-count.ensures.is (omega arith) (omega (arith, c.loop-i.invariant.count)) (none-left c.in_err-tag.ensures.refuses));
-  begun = λ s. goes-here _ (term-begun (bag-none_begun c.in_ok-count.count (a_part _) c.loop-i.invariant.read c.in_ok-count.ensures.is (omega (arith, c.loop-i.invariant.count)))) c.in_err-tag.ensures.place;
+  refuses = term-refused (bag-refused c.in_ok-count.count _ c.loop-i.invariant.read c.in_ok-count.ensures.is (any-fits c.in_ok-count.ensures.most) (more-left c.loop-i.invariant.count c.loop-i-test.true) (none-left c.in_err-tag.ensures.refuses));
+  begun = λ s. goes-here _ (term-begun (bag-none_begun c.in_ok-count.count (a_part _) c.loop-i.invariant.read c.in_ok-count.ensures.is (more-left c.loop-i.invariant.count c.loop-i-test.true))) c.in_err-tag.ensures.place;
 })
 
 pub terms::read_term-returns-in_err-check_order : goal.terms::read_term-returns-in_err-check_order
-terms::read_term-returns-in_err-check_order t c = failed _ _ _ _ c.from_residual-in_err-check_order.ensures.1 (record {
-  wrong = term_blamed (bag-low_blamed c.in_ok-count.count _ c.loop-i.invariant.read c.in_ok-count.ensures.is (omega arith) (omega (arith, c.loop-i.invariant.count)) c.in_err-check_order.ensures.place (tag-no_form c.in_ok-tag.ensures.is (λ q. sym c.is_form.ensures ∙ c.lacks_room.ensures.no c.if-lacks_room.false q)) c.in_err-check_order.ensures.refuses);
-  refuses = term-refused (bag-low c.in_ok-count.count _ c.loop-i.invariant.read c.in_ok-count.ensures.is (omega arith) (omega (arith, c.loop-i.invariant.count)) c.in_err-check_order.ensures.refuses);
-  begun = λ s. goes-at _ (term-begun (bag-none_begun c.in_ok-count.count (a_part _) c.loop-i.invariant.read c.in_ok-count.ensures.is (omega (arith, c.loop-i.invariant.count)))) c.in_err-check_order.ensures.place (omega arith);
-})
+terms::read_term-returns-in_err-check_order t c = failed _ _ _ _ c.from_residual-in_err-check_order.ensures.1 (term-fails (bag-order-fails c.in_ok-count.count c.loop-i.invariant.read c.in_ok-count.ensures.is (any-fits c.in_ok-count.ensures.most) (more-left c.loop-i.invariant.count c.loop-i-test.true) (tag-no_form c.in_ok-tag.ensures.is (λ q. sym c.is_form.ensures ∙ c.lacks_room.ensures.no c.if-lacks_room.false q)) (a_part _) c.in_err-check_order.ensures.place c.in_err-check_order.ensures.refuses))
 
 pub terms::read_term-returns-in_err-part : goal.terms::read_term-returns-in_err-part
-terms::read_term-returns-in_err-part t c = failed _ _ _ _ c.from_residual-in_err-part.ensures.1 (record {
-  wrong = term_blamed (bag-blamed c.in_ok-count.count _ c.loop-i.invariant.read c.in_ok-count.ensures.is (omega arith) (omega (arith, c.loop-i.invariant.count)) c.in_ok-check_order.ensures.up (tag-no_form c.in_ok-tag.ensures.is (λ q. sym c.is_form.ensures ∙ c.lacks_room.ensures.no c.if-lacks_room.false q)) (bytes_wrong c.in_ok-tag.ensures.is c.in_err-part.ensures.wrong));
-  refuses = term-refused (bag-refused c.in_ok-count.count _ c.loop-i.invariant.read c.in_ok-count.ensures.is (omega arith) (omega (arith, c.loop-i.invariant.count)) (refuses-at c.in_ok-tag.ensures.is c.in_err-part.ensures.refuses));
-  begun = λ s. goes-on (c.in_err-part.ensures.begun s) (λ z g. term-begun (bag-begun {b = true} c.in_ok-count.count c.loop-i.invariant.read c.in_ok-count.ensures.is (omega (arith, c.loop-i.invariant.count)) c.in_ok-check_order.ensures.follows (begun-at c.in_ok-tag.ensures.is g)));
-})
+terms::read_term-returns-in_err-part t c = failed _ _ _ _ c.from_residual-in_err-part.ensures.1 (term-fails (bag-fails c.in_ok-count.count c.loop-i.invariant.read c.in_ok-count.ensures.is (any-fits c.in_ok-count.ensures.most) (more-left c.loop-i.invariant.count c.loop-i-test.true) (tag-no_form c.in_ok-tag.ensures.is (λ q. sym c.is_form.ensures ∙ c.lacks_room.ensures.no c.if-lacks_room.false q)) c.in_ok-check_order.ensures.up c.in_ok-check_order.ensures.follows (bytes-fail c.in_ok-tag.ensures.is c.in_err-part.ensures)))
 
 pub terms::read_term-returns-in_err-last : goal.terms::read_term-returns-in_err-last
-terms::read_term-returns-in_err-last t c = failed _ _ _ _ c.from_residual-in_err-last.ensures.1 (record {
-  wrong = term_blamed (bag-lower_blamed c.in_ok-count.count _ c.loop-i.invariant.read c.in_ok-count.ensures.is (omega arith) (omega (arith, c.loop-i.invariant.count)) c.in_err-last.ensures.place (tag-no_form c.in_ok-tag.ensures.is (λ q. sym c.is_form.ensures ∙ c.lacks_room.ensures.no c.if-lacks_room.false q)) (reads-at _ c.in_ok-tag.ensures.is c.in_ok-part.ensures.reads) c.in_err-last.ensures.down);
-  refuses = term-refused (bag-lower c.in_ok-count.count _ c.loop-i.invariant.read c.in_ok-count.ensures.is (omega arith) (omega (arith, c.loop-i.invariant.count)) (reads-at _ c.in_ok-tag.ensures.is c.in_ok-part.ensures.reads) c.in_err-last.ensures.down);
-  begun = λ s. goes-at _ (term-begun (bag-none_begun c.in_ok-count.count (a_part _) c.loop-i.invariant.read c.in_ok-count.ensures.is (omega (arith, c.loop-i.invariant.count)))) c.in_err-last.ensures.place (omega arith);
-})
+terms::read_term-returns-in_err-last t c = failed _ _ _ _ c.from_residual-in_err-last.ensures.1 (term-fails (bag-lower-fails c.in_ok-count.count c.loop-i.invariant.read c.in_ok-count.ensures.is (any-fits c.in_ok-count.ensures.most) (more-left c.loop-i.invariant.count c.loop-i-test.true) (tag-no_form c.in_ok-tag.ensures.is (λ q. sym c.is_form.ensures ∙ c.lacks_room.ensures.no c.if-lacks_room.false q)) (a_part _) c.in_err-last.ensures.place (reads-at _ c.in_ok-tag.ensures.is c.in_ok-part.ensures.reads) c.in_err-last.ensures.down))
 
 pub terms::read_cases-returns-in_err-count : goal.terms::read_cases-returns-in_err-count
-terms::read_cases-returns-in_err-count t c = failed _ _ _ _ c.from_residual.ensures.1 (record {
-  wrong = number-row_blamed c.in_err-count.ensures.wrong;
-  refuses = number-row c.in_err-count.ensures.refuses;
-  begun = λ s. goes-on (c.in_err-count.ensures.begun s (omega arith)) (λ z g. number-begun g (some-case _));
-})
+terms::read_cases-returns-in_err-count t c = failed _ _ _ _ c.from_residual.ensures.1 (row-number-fails (some-case _) (omega arith) c.in_err-count.ensures.wrong c.in_err-count.ensures.refuses c.in_err-count.ensures.begun)
 
 pub terms::read_cases-returns-in_err-pat : goal.terms::read_cases-returns-in_err-pat
-terms::read_cases-returns-in_err-pat t c = failed _ _ _ _ c.from_residual-in_err-pat.ensures.1 (record {
-  wrong = row-blamed 1 0xFFFFFFFF c.in_ok-count.count _ c.loop-i.invariant.read c.in_ok-count.ensures.is (omega arith) (omega (arith, c.loop-i.invariant.count)) (case-pattern_wrong c.in_err-pat.ensures.wrong);
-  refuses = row-going 1 0xFFFFFFFF c.in_ok-count.count _ c.loop-i.invariant.read c.in_ok-count.ensures.is (omega arith) (omega (arith, c.loop-i.invariant.count)) (case-pattern c.in_err-pat.ensures.refuses);
-  begun = λ s. goes-on (c.in_err-pat.ensures.begun s) (λ z g. row-begun 1 0xFFFFFFFF c.in_ok-count.count c.loop-i.invariant.read (λ q. absurd (no_false q)) c.in_ok-count.ensures.is c.in_ok-count.ensures.least c.in_ok-count.ensures.most (omega (arith, c.loop-i.invariant.count)) (some-case _) (case-pattern_begun g));
-})
+terms::read_cases-returns-in_err-pat t c = failed _ _ _ _ c.from_residual-in_err-pat.ensures.1 (row-fails 1 0xFFFFFFFF c.in_ok-count.count c.loop-i.invariant.read (λ q. absurd (no_false q)) c.in_ok-count.ensures.is c.in_ok-count.ensures.least c.in_ok-count.ensures.most (any-fits c.in_ok-count.ensures.most) (more-left c.loop-i.invariant.count c.loop-i-test.true) (some-case _) (case-pattern-fails c.in_err-pat.ensures))
 
 pub terms::read_cases-returns-in_err-body : goal.terms::read_cases-returns-in_err-body
-terms::read_cases-returns-in_err-body t c = failed _ _ _ _ c.from_residual-in_err-body.ensures.1 (record {
-  wrong = row-blamed 1 0xFFFFFFFF c.in_ok-count.count _ c.loop-i.invariant.read c.in_ok-count.ensures.is (omega arith) (omega (arith, c.loop-i.invariant.count)) (case-body_wrong c.in_ok-pat.ensures.reads (scope-more c.args.scope.now.items c.read_pat.new.found.items (bound c.in_ok-pat.pat) (c.in_ok-pat.ensures.found ∙ ap (λ xs. senses_of xs ++ bound c.in_ok-pat.pat) c.in_ok-inner.ensures)) c.in_err-body.ensures.wrong);
-  refuses = row-going 1 0xFFFFFFFF c.in_ok-count.count _ c.loop-i.invariant.read c.in_ok-count.ensures.is (omega arith) (omega (arith, c.loop-i.invariant.count)) (case-body c.in_ok-pat.ensures.reads (scope-more c.args.scope.now.items c.read_pat.new.found.items (bound c.in_ok-pat.pat) (c.in_ok-pat.ensures.found ∙ ap (λ xs. senses_of xs ++ bound c.in_ok-pat.pat) c.in_ok-inner.ensures)) c.in_err-body.ensures.refuses);
-  begun = λ s. goes-on (c.in_err-body.ensures.begun s) (λ z g. row-begun 1 0xFFFFFFFF c.in_ok-count.count c.loop-i.invariant.read (λ q. absurd (no_false q)) c.in_ok-count.ensures.is c.in_ok-count.ensures.least c.in_ok-count.ensures.most (omega (arith, c.loop-i.invariant.count)) (some-case _) (case-body_begun c.in_ok-pat.ensures.reads (scope-more c.args.scope.now.items c.read_pat.new.found.items (bound c.in_ok-pat.pat) (c.in_ok-pat.ensures.found ∙ ap (λ xs. senses_of xs ++ bound c.in_ok-pat.pat) c.in_ok-inner.ensures)) g));
-})
+terms::read_cases-returns-in_err-body t c = failed _ _ _ _ c.from_residual-in_err-body.ensures.1 (row-fails 1 0xFFFFFFFF c.in_ok-count.count c.loop-i.invariant.read (λ q. absurd (no_false q)) c.in_ok-count.ensures.is c.in_ok-count.ensures.least c.in_ok-count.ensures.most (any-fits c.in_ok-count.ensures.most) (more-left c.loop-i.invariant.count c.loop-i-test.true) (some-case _) (case-body-fails c.in_ok-pat.ensures.reads (scope-more c.args.scope.now.items c.read_pat.new.found.items (bound c.in_ok-pat.pat) (c.in_ok-pat.ensures.found ∙ ap (λ xs. senses_of xs ++ bound c.in_ok-pat.pat) c.in_ok-inner.ensures)) c.in_err-body.ensures))
 
 pub terms::read_binds-returns-in_err-count : goal.terms::read_binds-returns-in_err-count
-terms::read_binds-returns-in_err-count t c = failed _ _ _ _ c.from_residual.ensures.1 (record {
-  wrong = number-row_blamed c.in_err-count.ensures.wrong;
-  refuses = number-row c.in_err-count.ensures.refuses;
-  begun = λ s. goes-on (c.in_err-count.ensures.begun s (omega arith)) (λ z g. number-begun g (some-bind _));
-})
+terms::read_binds-returns-in_err-count t c = failed _ _ _ _ c.from_residual.ensures.1 (row-number-fails (some-bind _) (omega arith) c.in_err-count.ensures.wrong c.in_err-count.ensures.refuses c.in_err-count.ensures.begun)
 
 pub terms::read_binds-returns-in_err-channel : goal.terms::read_binds-returns-in_err-channel
-terms::read_binds-returns-in_err-channel t c = failed _ _ _ _ c.from_residual-in_err-channel.ensures.1 (record {
-  wrong = row-blamed 1 16 c.in_ok-count.count _ c.loop-i.invariant.read c.in_ok-count.ensures.is (omega arith) (omega (arith, c.loop-i.invariant.count)) (bind-channel_wrong c.in_err-channel.ensures.wrong);
-  refuses = row-going 1 16 c.in_ok-count.count _ c.loop-i.invariant.read c.in_ok-count.ensures.is (omega arith) (omega (arith, c.loop-i.invariant.count)) (bind-channel c.in_err-channel.ensures.refuses);
-  begun = λ s. goes-on (c.in_err-channel.ensures.begun s) (λ z g. row-begun 1 16 c.in_ok-count.count c.loop-i.invariant.read (λ q. absurd (no_false q)) c.in_ok-count.ensures.is c.in_ok-count.ensures.least c.in_ok-count.ensures.most (omega (arith, c.loop-i.invariant.count)) (some-bind _) (bind-channel_begun g));
-})
+terms::read_binds-returns-in_err-channel t c = failed _ _ _ _ c.from_residual-in_err-channel.ensures.1 (row-fails 1 16 c.in_ok-count.count c.loop-i.invariant.read (λ q. absurd (no_false q)) c.in_ok-count.ensures.is c.in_ok-count.ensures.least c.in_ok-count.ensures.most (few-fit c.in_ok-count.ensures.most) (more-left c.loop-i.invariant.count c.loop-i-test.true) (some-bind _) (bind-channel-fails c.in_err-channel.ensures))
 
 pub terms::read_binds-returns-in_err-pats : goal.terms::read_binds-returns-in_err-pats
-terms::read_binds-returns-in_err-pats t c = failed _ _ _ _ c.from_residual-in_err-pats.ensures.1 (record {
-  wrong = row-blamed 1 16 c.in_ok-count.count _ c.loop-i.invariant.read c.in_ok-count.ensures.is (omega arith) (omega (arith, c.loop-i.invariant.count)) (bind-patterns_wrong c.in_ok-channel.ensures c.in_err-pats.ensures.wrong);
-  refuses = row-going 1 16 c.in_ok-count.count _ c.loop-i.invariant.read c.in_ok-count.ensures.is (omega arith) (omega (arith, c.loop-i.invariant.count)) (bind-patterns c.in_ok-channel.ensures c.in_err-pats.ensures.refuses);
-  begun = λ s. goes-on (c.in_err-pats.ensures.begun s) (λ z g. row-begun 1 16 c.in_ok-count.count c.loop-i.invariant.read (λ q. absurd (no_false q)) c.in_ok-count.ensures.is c.in_ok-count.ensures.least c.in_ok-count.ensures.most (omega (arith, c.loop-i.invariant.count)) (some-bind _) (bind-patterns_begun c.in_ok-channel.ensures g));
-})
+terms::read_binds-returns-in_err-pats t c = failed _ _ _ _ c.from_residual-in_err-pats.ensures.1 (row-fails 1 16 c.in_ok-count.count c.loop-i.invariant.read (λ q. absurd (no_false q)) c.in_ok-count.ensures.is c.in_ok-count.ensures.least c.in_ok-count.ensures.most (few-fit c.in_ok-count.ensures.most) (more-left c.loop-i.invariant.count c.loop-i-test.true) (some-bind _) (bind-patterns-fails c.in_ok-channel.ensures c.in_err-pats.ensures))
 
 pub terms::read_binds-returns-in_err-rest : goal.terms::read_binds-returns-in_err-rest
-terms::read_binds-returns-in_err-rest t c = failed _ _ _ _ c.from_residual-in_err-rest.ensures.1 (record {
-  wrong = row-blamed 1 16 c.in_ok-count.count _ c.loop-i.invariant.read c.in_ok-count.ensures.is (omega arith) (omega (arith, c.loop-i.invariant.count)) (bind-rest_wrong c.in_ok-channel.ensures c.in_ok-pats.ensures.reads c.in_err-rest.ensures.wrong);
-  refuses = row-going 1 16 c.in_ok-count.count _ c.loop-i.invariant.read c.in_ok-count.ensures.is (omega arith) (omega (arith, c.loop-i.invariant.count)) (bind-rest c.in_ok-channel.ensures c.in_ok-pats.ensures.reads c.in_err-rest.ensures.refuses);
-  begun = λ s. goes-here _ (row-begun 1 16 c.in_ok-count.count c.loop-i.invariant.read (λ q. absurd (no_false q)) c.in_ok-count.ensures.is c.in_ok-count.ensures.least c.in_ok-count.ensures.most (omega (arith, c.loop-i.invariant.count)) (some-bind _) (bind-rest_begun c.in_ok-channel.ensures c.in_ok-pats.ensures.reads)) c.in_err-rest.ensures.place;
-})
+terms::read_binds-returns-in_err-rest t c = failed _ _ _ _ c.from_residual-in_err-rest.ensures.1 (row-fails 1 16 c.in_ok-count.count c.loop-i.invariant.read (λ q. absurd (no_false q)) c.in_ok-count.ensures.is c.in_ok-count.ensures.least c.in_ok-count.ensures.most (few-fit c.in_ok-count.ensures.most) (more-left c.loop-i.invariant.count c.loop-i-test.true) (some-bind _) (bind-rest-fails c.in_ok-channel.ensures c.in_ok-pats.ensures.reads c.in_err-rest.ensures.wrong c.in_err-rest.ensures.refuses c.in_err-rest.ensures.place))
 
 pub patterns::read_pats-returns-in_err-count : goal.patterns::read_pats-returns-in_err-count
-patterns::read_pats-returns-in_err-count t c = failed _ _ _ _ c.from_residual.ensures.1 (record {
-  wrong = number-row_blamed c.in_err-count.ensures.wrong;
-  refuses = number-row c.in_err-count.ensures.refuses;
-  begun = λ s. goes-on (c.in_err-count.ensures.begun s c.requires) (λ z g. number-begun g (a_pat _));
-})
+patterns::read_pats-returns-in_err-count t c = failed _ _ _ _ c.from_residual.ensures.1 (row-number-fails (a_pat _) c.requires c.in_err-count.ensures.wrong c.in_err-count.ensures.refuses c.in_err-count.ensures.begun)
 
 pub patterns::read_pats-returns-in_err-pat : goal.patterns::read_pats-returns-in_err-pat
-patterns::read_pats-returns-in_err-pat t c = failed _ _ _ _ c.from_residual-in_err-pat.ensures.1 (record {
-  wrong = row-blamed c.args.least c.args.most c.in_ok-count.count _ c.loop-i.invariant.read c.in_ok-count.ensures.is (omega arith) (omega (arith, c.loop-i.invariant.count)) c.in_err-pat.ensures.wrong;
-  refuses = row-going c.args.least c.args.most c.in_ok-count.count _ c.loop-i.invariant.read c.in_ok-count.ensures.is (omega arith) (omega (arith, c.loop-i.invariant.count)) c.in_err-pat.ensures.refuses;
-  begun = λ s. goes-on (c.in_err-pat.ensures.begun s) (λ z g. row-begun c.args.least c.args.most c.in_ok-count.count c.loop-i.invariant.read c.loop-i.invariant.quiet c.in_ok-count.ensures.is c.in_ok-count.ensures.least c.in_ok-count.ensures.most (omega (arith, c.loop-i.invariant.count)) (a_pat _) g);
-})
+patterns::read_pats-returns-in_err-pat t c = failed _ _ _ _ c.from_residual-in_err-pat.ensures.1 (row-fails c.args.row.least c.args.row.most c.in_ok-count.count c.loop-i.invariant.read c.loop-i.invariant.quiet c.in_ok-count.ensures.is c.in_ok-count.ensures.least c.in_ok-count.ensures.most (omega arith) (more-left c.loop-i.invariant.count c.loop-i-test.true) (a_pat _) c.in_err-pat.ensures)
 
 pub patterns::read_name_pats-returns-in_err-count : goal.patterns::read_name_pats-returns-in_err-count
-patterns::read_name_pats-returns-in_err-count t c = failed _ _ _ _ c.from_residual.ensures.1 (record {
-  wrong = number-row_blamed c.in_err-count.ensures.wrong;
-  refuses = number-row c.in_err-count.ensures.refuses;
-  begun = λ s. goes-on (c.in_err-count.ensures.begun s (omega arith)) (λ z g. number-begun g (a_name _));
-})
+patterns::read_name_pats-returns-in_err-count t c = failed _ _ _ _ c.from_residual.ensures.1 (row-number-fails (a_name _) (omega arith) c.in_err-count.ensures.wrong c.in_err-count.ensures.refuses c.in_err-count.ensures.begun)
 
 pub patterns::read_name_pats-returns-in_err-pat : goal.patterns::read_name_pats-returns-in_err-pat
-patterns::read_name_pats-returns-in_err-pat t c = failed _ _ _ _ c.from_residual-in_err-pat.ensures.1 (record {
-  wrong = row-blamed 0 0xFFFFFFFF c.in_ok-count.count _ c.loop-i.invariant.read c.in_ok-count.ensures.is (omega arith) (omega (arith, c.loop-i.invariant.count)) c.in_err-pat.ensures.wrong;
-  refuses = row-going 0 0xFFFFFFFF c.in_ok-count.count _ c.loop-i.invariant.read c.in_ok-count.ensures.is (omega arith) (omega (arith, c.loop-i.invariant.count)) c.in_err-pat.ensures.refuses;
-  begun = λ s. goes-on (c.in_err-pat.ensures.begun s) (λ z g. row-begun 0 0xFFFFFFFF c.in_ok-count.count c.loop-i.invariant.read (λ q. absurd (no_false q)) c.in_ok-count.ensures.is c.in_ok-count.ensures.least c.in_ok-count.ensures.most (omega (arith, c.loop-i.invariant.count)) (a_name _) g);
-})
+patterns::read_name_pats-returns-in_err-pat t c = failed _ _ _ _ c.from_residual-in_err-pat.ensures.1 (row-fails 0 0xFFFFFFFF c.in_ok-count.count c.loop-i.invariant.read (λ q. absurd (no_false q)) c.in_ok-count.ensures.is c.in_ok-count.ensures.least c.in_ok-count.ensures.most (any-fits c.in_ok-count.ensures.most) (more-left c.loop-i.invariant.count c.loop-i-test.true) (a_name _) c.in_err-pat.ensures)
 
 pub patterns::read_pat_pairs-returns-in_err-count : goal.patterns::read_pat_pairs-returns-in_err-count
-patterns::read_pat_pairs-returns-in_err-count t c = failed _ _ _ _ c.from_residual.ensures.1 (record {
-  wrong = number-row_blamed c.in_err-count.ensures.wrong;
-  refuses = number-row c.in_err-count.ensures.refuses;
-  begun = λ s. goes-on (c.in_err-count.ensures.begun s (omega arith)) (λ z g. number-begun g (a_pair (a_pat _)));
-})
+patterns::read_pat_pairs-returns-in_err-count t c = failed _ _ _ _ c.from_residual.ensures.1 (row-number-fails (a_pair (a_pat _)) (omega arith) c.in_err-count.ensures.wrong c.in_err-count.ensures.refuses c.in_err-count.ensures.begun)
 
 pub patterns::read_pat_pairs-returns-in_err-key : goal.patterns::read_pat_pairs-returns-in_err-key
-patterns::read_pat_pairs-returns-in_err-key t c = failed _ _ _ _ c.from_residual-in_err-key.ensures.1 (record {
-  wrong = row-blamed 0 8 c.in_ok-count.count _ c.loop-i.invariant.read c.in_ok-count.ensures.is (omega arith) (omega (arith, c.loop-i.invariant.count)) (pair-first_blamed c.in_err-key.ensures.wrong);
-  refuses = row-going 0 8 c.in_ok-count.count _ c.loop-i.invariant.read c.in_ok-count.ensures.is (omega arith) (omega (arith, c.loop-i.invariant.count)) (pair-first c.in_err-key.ensures.refuses);
-  begun = λ s. goes-on (c.in_err-key.ensures.begun s) (λ z g. row-begun 0 8 c.in_ok-count.count c.loop-i.invariant.read c.loop-i.invariant.quiet c.in_ok-count.ensures.is c.in_ok-count.ensures.least c.in_ok-count.ensures.most (omega (arith, c.loop-i.invariant.count)) (a_pair (a_pat _)) (pair-first_begun (a_pat _) g));
-})
+patterns::read_pat_pairs-returns-in_err-key t c = failed _ _ _ _ c.from_residual-in_err-key.ensures.1 (row-fails 0 8 c.in_ok-count.count c.loop-i.invariant.read c.loop-i.invariant.quiet c.in_ok-count.ensures.is c.in_ok-count.ensures.least c.in_ok-count.ensures.most (eight-fit c.in_ok-count.ensures.most) (more-left c.loop-i.invariant.count c.loop-i-test.true) (a_pair (a_pat _)) (pair-first-fails (a_pat _) c.in_err-key.ensures))
 
 pub patterns::read_pat_pairs-returns-in_err-value : goal.patterns::read_pat_pairs-returns-in_err-value
-patterns::read_pat_pairs-returns-in_err-value t c = failed _ _ _ _ c.from_residual-in_err-value.ensures.1 (record {
-  wrong = row-blamed 0 8 c.in_ok-count.count _ c.loop-i.invariant.read c.in_ok-count.ensures.is (omega arith) (omega (arith, c.loop-i.invariant.count)) (pair-second_blamed c.in_ok-key.ensures.reads c.in_err-value.ensures.wrong);
-  refuses = row-going 0 8 c.in_ok-count.count _ c.loop-i.invariant.read c.in_ok-count.ensures.is (omega arith) (omega (arith, c.loop-i.invariant.count)) (pair-second c.in_ok-key.ensures.reads c.in_err-value.ensures.refuses);
-  begun = λ s. goes-on (c.in_err-value.ensures.begun s) (λ z g. row-begun 0 8 c.in_ok-count.count c.loop-i.invariant.read c.loop-i.invariant.quiet c.in_ok-count.ensures.is c.in_ok-count.ensures.least c.in_ok-count.ensures.most (omega (arith, c.loop-i.invariant.count)) (a_pair (a_pat _)) (pair-second_begun c.in_ok-key.ensures.reads c.in_ok-key.ensures.free g));
-})
+patterns::read_pat_pairs-returns-in_err-value t c = failed _ _ _ _ c.from_residual-in_err-value.ensures.1 (row-fails 0 8 c.in_ok-count.count c.loop-i.invariant.read c.loop-i.invariant.quiet c.in_ok-count.ensures.is c.in_ok-count.ensures.least c.in_ok-count.ensures.most (eight-fit c.in_ok-count.ensures.most) (more-left c.loop-i.invariant.count c.loop-i-test.true) (a_pair (a_pat _)) (pair-second-fails c.in_ok-key.ensures.reads c.in_ok-key.ensures.free c.in_err-value.ensures))
 
 pub patterns::read_pat-returns-in_err-count : goal.patterns::read_pat-returns-in_err-count
 patterns::read_pat-returns-in_err-count t c = failed _ _ _ _ c.from_residual.ensures.1 (record {
@@ -455,317 +338,149 @@ patterns::read_pat-returns-in_err-count t c = failed _ _ _ _ c.from_residual.ens
 pub patterns::read_pat-returns-in_err-tag : goal.patterns::read_pat-returns-in_err-tag
 patterns::read_pat-returns-in_err-tag t c = failed _ _ _ _ c.from_residual-in_err-tag.ensures.1 (record {
   wrong = none-told _ c.in_err-tag.ensures.tells;
-  refuses = pat-refused _ c.in_ok-count.count c.loop-i.invariant.read c.in_ok-count.ensures.is (omega arith) (omega (arith, c.loop-i.invariant.count)) (none-left c.in_err-tag.ensures.refuses);
-  begun = λ s. goes-here _ (pat-tag_begun c.in_ok-count.count c.loop-i.wide c.loop-i.invariant.read c.loop-i.invariant.quiet c.in_ok-count.ensures.is (omega (arith, c.loop-i.invariant.count)) c.in_ok-count.ensures.most c.loop-i.invariant.wide c.loop-i.invariant.one) c.in_err-tag.ensures.place;
+  refuses = pat-refused _ c.in_ok-count.count c.loop-i.invariant.read c.in_ok-count.ensures.is (nine-fit c.in_ok-count.ensures.most) (more-left c.loop-i.invariant.count c.loop-i-test.true) (none-left c.in_err-tag.ensures.refuses);
+  begun = λ s. goes-here _ (pat-tag_begun c.in_ok-count.count c.loop-i.wide c.loop-i.invariant.read c.loop-i.invariant.quiet c.in_ok-count.ensures.is (more-left c.loop-i.invariant.count c.loop-i-test.true) c.in_ok-count.ensures.most c.loop-i.invariant.wide c.loop-i.invariant.one) c.in_err-tag.ensures.place;
 })
 
 pub patterns::read_pat-returns-in_err-wide : goal.patterns::read_pat-returns-in_err-wide
 patterns::read_pat-returns-in_err-wide t c = failed _ _ _ _ c.from_residual-in_err-wide.ensures.1 (record {
-  wrong = wide_wrong _ c.in_ok-count.count c.loop-i.invariant.read c.in_ok-count.ensures.is (omega arith) (omega (arith, c.loop-i.invariant.count)) c.in_err-wide.ensures.place (omega arith) c.in_ok-tag.ensures.is (pat-tag_no_form c.in_ok-tag.ensures.is (λ q. sym c.is_pat_form.ensures ∙ c.lacks_room.ensures.no c.if-lacks_room.false q)) (λ p q. c.in_err-wide.ensures.many (omega (arith, p, c.loop-i.invariant.wide)) (omega (arith, q, c.loop-i.invariant.wide, c.loop-i.invariant.count)));
-  refuses = wide-refused _ c.in_ok-count.count c.loop-i.invariant.read c.in_ok-count.ensures.is (omega arith) (omega (arith, c.loop-i.invariant.count)) c.in_ok-tag.ensures.is (λ p q. c.in_err-wide.ensures.many (omega (arith, p, c.loop-i.invariant.wide)) (omega (arith, q, c.loop-i.invariant.wide, c.loop-i.invariant.count)));
-  begun = λ s. goes-at _ (pat-tag_begun c.in_ok-count.count c.loop-i.wide c.loop-i.invariant.read c.loop-i.invariant.quiet c.in_ok-count.ensures.is (omega (arith, c.loop-i.invariant.count)) c.in_ok-count.ensures.most c.loop-i.invariant.wide c.loop-i.invariant.one) c.in_err-wide.ensures.place (omega arith);
+  wrong = wide_wrong _ c.in_ok-count.count c.loop-i.invariant.read c.in_ok-count.ensures.is (nine-fit c.in_ok-count.ensures.most) (more-left c.loop-i.invariant.count c.loop-i-test.true) c.in_err-wide.ensures.place (omega arith) c.in_ok-tag.ensures.is (pat-tag_no_form c.in_ok-tag.ensures.is (λ q. sym c.is_pat_form.ensures ∙ c.lacks_room.ensures.no c.if-lacks_room.false q)) (λ p q. c.in_err-wide.ensures.many (omega (arith, p, c.loop-i.invariant.wide)) (omega (arith, q, c.loop-i.invariant.wide, c.loop-i.invariant.count)));
+  refuses = wide-refused _ c.in_ok-count.count c.loop-i.invariant.read c.in_ok-count.ensures.is (nine-fit c.in_ok-count.ensures.most) (more-left c.loop-i.invariant.count c.loop-i-test.true) c.in_ok-tag.ensures.is (λ p q. c.in_err-wide.ensures.many (omega (arith, p, c.loop-i.invariant.wide)) (omega (arith, q, c.loop-i.invariant.wide, c.loop-i.invariant.count)));
+  begun = λ s. goes-at _ (pat-tag_begun c.in_ok-count.count c.loop-i.wide c.loop-i.invariant.read c.loop-i.invariant.quiet c.in_ok-count.ensures.is (more-left c.loop-i.invariant.count c.loop-i-test.true) c.in_ok-count.ensures.most c.loop-i.invariant.wide c.loop-i.invariant.one) c.in_err-wide.ensures.place (omega arith);
 })
 
 pub patterns::read_pat-returns-in_err-part : goal.patterns::read_pat-returns-in_err-part
 patterns::read_pat-returns-in_err-part t c = failed _ _ _ _ c.from_residual-in_err-part.ensures.1 (record {
-  wrong = pat_wrong _ c.in_ok-count.count c.loop-i.invariant.read c.in_ok-count.ensures.is (omega arith) (omega (arith, c.loop-i.invariant.count)) (pat-tag_no_form c.in_ok-tag.ensures.is (λ q. sym c.is_pat_form.ensures ∙ c.lacks_room.ensures.no c.if-lacks_room.false q)) (bytes_wrong c.in_ok-tag.ensures.is c.in_err-part.ensures.wrong);
-  refuses = pat-refused _ c.in_ok-count.count c.loop-i.invariant.read c.in_ok-count.ensures.is (omega arith) (omega (arith, c.loop-i.invariant.count)) (refuses-at c.in_ok-tag.ensures.is c.in_err-part.ensures.refuses);
-  begun = λ s. goes-on (c.in_err-part.ensures.begun s) (λ z g. pat-part_begun c.in_ok-count.count _ _ c.loop-i.invariant.read c.loop-i.invariant.quiet c.in_ok-count.ensures.is (omega (arith, c.loop-i.invariant.count)) c.in_ok-count.ensures.most c.in_ok-tag.ensures.is c.in_ok-wide.ensures.is c.loop-i.invariant.wide c.loop-i.invariant.one c.in_ok-wide.ensures.one (omega (arith, c.in_ok-wide.ensures.thin, c.loop-i.invariant.count)) g);
+  wrong = pat_wrong _ c.in_ok-count.count c.loop-i.invariant.read c.in_ok-count.ensures.is (nine-fit c.in_ok-count.ensures.most) (more-left c.loop-i.invariant.count c.loop-i-test.true) (pat-tag_no_form c.in_ok-tag.ensures.is (λ q. sym c.is_pat_form.ensures ∙ c.lacks_room.ensures.no c.if-lacks_room.false q)) (bytes_wrong c.in_ok-tag.ensures.is c.in_err-part.ensures.wrong);
+  refuses = pat-refused _ c.in_ok-count.count c.loop-i.invariant.read c.in_ok-count.ensures.is (nine-fit c.in_ok-count.ensures.most) (more-left c.loop-i.invariant.count c.loop-i-test.true) (refuses-at c.in_ok-tag.ensures.is c.in_err-part.ensures.refuses);
+  begun = λ s. goes-on (c.in_err-part.ensures.begun s) (λ z g. pat-part_begun c.in_ok-count.count _ _ c.loop-i.invariant.read c.loop-i.invariant.quiet c.in_ok-count.ensures.is (more-left c.loop-i.invariant.count c.loop-i-test.true) c.in_ok-count.ensures.most c.in_ok-tag.ensures.is c.in_ok-wide.ensures.is c.loop-i.invariant.wide c.loop-i.invariant.one c.in_ok-wide.ensures.one (omega (arith, c.in_ok-wide.ensures.thin, c.loop-i.invariant.count)) g);
 })
 
 pub terms::read_form-returns-in_err-read_terms-in-32 : goal.terms::read_form-returns-in_err-read_terms-in-32
-terms::read_form-returns-in_err-read_terms-in-32 t c = failed _ _ _ _ c.from_residual.ensures.1 (record {
-  wrong = at-form_wrong _ 0x20 c.in-32.is (list_wrong c.in_err-read_terms-in-32.ensures.wrong) (omega arith);
-  refuses = at-tag _ 0x20 c.in-32.is (list-refused _ c.in_err-read_terms-in-32.ensures.refuses);
-  begun = λ s. goes-on (c.in_err-read_terms-in-32.ensures.begun s) (λ z g. at-tag_begun _ 0x20 c.in-32.is (list-begun g));
-})
+terms::read_form-returns-in_err-read_terms-in-32 t c = failed _ _ _ _ c.from_residual.ensures.1 (tag-fails _ 0x20 c.in-32.is (list-fails c.in_err-read_terms-in-32.ensures))
 
 pub terms::read_form-returns-in_err-read_terms-in-33 : goal.terms::read_form-returns-in_err-read_terms-in-33
-terms::read_form-returns-in_err-read_terms-in-33 t c = failed _ _ _ _ c.from_residual-in_err-read_terms-in-33.ensures.1 (record {
-  wrong = at-form_wrong _ 0x21 c.in-33.is (tuple_wrong c.in_err-read_terms-in-33.ensures.wrong) (omega arith);
-  refuses = at-tag _ 0x21 c.in-33.is (tuple-refused _ c.in_err-read_terms-in-33.ensures.refuses);
-  begun = λ s. goes-on (c.in_err-read_terms-in-33.ensures.begun s) (λ z g. at-tag_begun _ 0x21 c.in-33.is (tuple-begun g));
-})
+terms::read_form-returns-in_err-read_terms-in-33 t c = failed _ _ _ _ c.from_residual-in_err-read_terms-in-33.ensures.1 (tag-fails _ 0x21 c.in-33.is (tuple-fails c.in_err-read_terms-in-33.ensures))
 
 pub terms::read_form-returns-in_err-read_members-in-34 : goal.terms::read_form-returns-in_err-read_members-in-34
-terms::read_form-returns-in_err-read_members-in-34 t c = failed _ _ _ _ c.from_residual-in_err-read_members-in-34.ensures.1 (record {
-  wrong = at-form_wrong _ 0x22 c.in-34.is (set_wrong c.in_err-read_members-in-34.ensures.wrong) (omega arith);
-  refuses = at-tag _ 0x22 c.in-34.is (set-refused _ c.in_err-read_members-in-34.ensures.refuses);
-  begun = λ s. goes-on (c.in_err-read_members-in-34.ensures.begun s) (λ z g. at-tag_begun _ 0x22 c.in-34.is (set-begun g));
-})
+terms::read_form-returns-in_err-read_members-in-34 t c = failed _ _ _ _ c.from_residual-in_err-read_members-in-34.ensures.1 (tag-fails _ 0x22 c.in-34.is (set-fails c.in_err-read_members-in-34.ensures))
 
 pub terms::read_form-returns-in_err-read_pairs-in-35 : goal.terms::read_form-returns-in_err-read_pairs-in-35
-terms::read_form-returns-in_err-read_pairs-in-35 t c = failed _ _ _ _ c.from_residual-in_err-read_pairs-in-35.ensures.1 (record {
-  wrong = at-form_wrong _ 0x23 c.in-35.is (map_wrong c.in_err-read_pairs-in-35.ensures.wrong) (omega arith);
-  refuses = at-tag _ 0x23 c.in-35.is (map-refused _ c.in_err-read_pairs-in-35.ensures.refuses);
-  begun = λ s. goes-on (c.in_err-read_pairs-in-35.ensures.begun s) (λ z g. at-tag_begun _ 0x23 c.in-35.is (map-begun g));
-})
+terms::read_form-returns-in_err-read_pairs-in-35 t c = failed _ _ _ _ c.from_residual-in_err-read_pairs-in-35.ensures.1 (tag-fails _ 0x23 c.in-35.is (map-fails c.in_err-read_pairs-in-35.ensures))
 
-pub terms::read_form-returns-in_err-persistent-in-48 : goal.terms::read_form-returns-in_err-persistent-in-48
-terms::read_form-returns-in_err-persistent-in-48 t c = failed _ _ _ _ c.from_residual-in_err-persistent-in-48.ensures.1 (record {
-  wrong = at-leaf_wrong _ 0x30 c.in-48.is (λ r. send-flag_wrong r c.in_err-persistent-in-48.ensures.wrong) (omega arith);
-  refuses = at-tag _ 0x30 c.in-48.is (send-flag _ c.in_err-persistent-in-48.ensures.refuses);
-  begun = λ s. goes-here _ (at-tag_begun _ 0x30 c.in-48.is (send-flag_begun _)) c.in_err-persistent-in-48.ensures.place;
-})
+pub terms::read_process-returns-in_err-persistent-in-48 : goal.terms::read_process-returns-in_err-persistent-in-48
+terms::read_process-returns-in_err-persistent-in-48 t c = failed _ _ _ _ c.from_residual.ensures.1 (tag-fails _ 0x30 c.in-48.is (send-flag-fails c.args.room c.in_err-persistent-in-48.ensures.wrong c.in_err-persistent-in-48.ensures.refuses c.in_err-persistent-in-48.ensures.place))
 
-pub terms::read_form-returns-in_err-channel-in-48 : goal.terms::read_form-returns-in_err-channel-in-48
-terms::read_form-returns-in_err-channel-in-48 t c = failed _ _ _ _ c.from_residual-in_err-channel-in-48.ensures.1 (record {
-  wrong = at-form_wrong _ 0x30 c.in-48.is (send-channel_wrong c.in_ok-persistent-in-48.ensures.is c.in_err-channel-in-48.ensures.wrong) (omega arith);
-  refuses = at-tag _ 0x30 c.in-48.is (send-channel c.in_ok-persistent-in-48.ensures.is c.in_err-channel-in-48.ensures.refuses);
-  begun = λ s. goes-on (c.in_err-channel-in-48.ensures.begun s) (λ z g. at-tag_begun _ 0x30 c.in-48.is (send-channel_begun c.in_ok-persistent-in-48.persistent c.in_ok-persistent-in-48.ensures.is g));
-})
+pub terms::read_process-returns-in_err-channel-in-48 : goal.terms::read_process-returns-in_err-channel-in-48
+terms::read_process-returns-in_err-channel-in-48 t c = failed _ _ _ _ c.from_residual-in_err-channel-in-48.ensures.1 (tag-fails _ 0x30 c.in-48.is (send-channel-fails c.in_ok-persistent-in-48.persistent c.in_ok-persistent-in-48.ensures.is c.in_err-channel-in-48.ensures))
 
-pub terms::read_form-returns-in_err-args-in-48 : goal.terms::read_form-returns-in_err-args-in-48
-terms::read_form-returns-in_err-args-in-48 t c = failed _ _ _ _ c.from_residual-in_err-args-in-48.ensures.1 (record {
-  wrong = at-form_wrong _ 0x30 c.in-48.is (send-args_wrong c.in_ok-persistent-in-48.ensures.is c.in_ok-channel-in-48.ensures c.in_err-args-in-48.ensures.wrong) (omega arith);
-  refuses = at-tag _ 0x30 c.in-48.is (send-args c.in_ok-persistent-in-48.ensures.is c.in_ok-channel-in-48.ensures c.in_err-args-in-48.ensures.refuses);
-  begun = λ s. goes-on (c.in_err-args-in-48.ensures.begun s) (λ z g. at-tag_begun _ 0x30 c.in-48.is (send-args_begun c.in_ok-persistent-in-48.persistent c.in_ok-persistent-in-48.ensures.is c.in_ok-channel-in-48.ensures g));
-})
+pub terms::read_process-returns-in_err-args-in-48 : goal.terms::read_process-returns-in_err-args-in-48
+terms::read_process-returns-in_err-args-in-48 t c = failed _ _ _ _ c.from_residual-in_err-args-in-48.ensures.1 (tag-fails _ 0x30 c.in-48.is (send-args-fails c.in_ok-persistent-in-48.persistent c.in_ok-persistent-in-48.ensures.is c.in_ok-channel-in-48.ensures c.in_err-args-in-48.ensures))
 
-pub terms::read_form-returns-in_err-kind-in-49 : goal.terms::read_form-returns-in_err-kind-in-49
-terms::read_form-returns-in_err-kind-in-49 t c = failed _ _ _ _ c.from_residual-in_err-kind-in-49.ensures.1 (record {
-  wrong = at-leaf_wrong _ 0x31 c.in-49.is (λ r. receive-kind_wrong r c.in_err-kind-in-49.ensures.wrong) (omega arith);
-  refuses = at-tag _ 0x31 c.in-49.is (receive-kind _ c.in_err-kind-in-49.ensures.refuses);
-  begun = λ s. goes-here _ (at-tag_begun _ 0x31 c.in-49.is (receive-kind_begun _)) c.in_err-kind-in-49.ensures.place;
-})
+pub terms::read_process-returns-in_err-kind-in-49 : goal.terms::read_process-returns-in_err-kind-in-49
+terms::read_process-returns-in_err-kind-in-49 t c = failed _ _ _ _ c.from_residual-in_err-kind-in-49.ensures.1 (tag-fails _ 0x31 c.in-49.is (receive-kind-fails c.args.room c.in_err-kind-in-49.ensures.wrong c.in_err-kind-in-49.ensures.refuses c.in_err-kind-in-49.ensures.place))
 
-pub terms::read_form-returns-in_err-binds-in-49 : goal.terms::read_form-returns-in_err-binds-in-49
-terms::read_form-returns-in_err-binds-in-49 t c = failed _ _ _ _ c.from_residual-in_err-binds-in-49.ensures.1 (record {
-  wrong = at-form_wrong _ 0x31 c.in-49.is (receive-binds_wrong c.in_ok-kind-in-49.ensures.is c.in_err-binds-in-49.ensures.wrong) (omega arith);
-  refuses = at-tag _ 0x31 c.in-49.is (receive-binds c.in_ok-kind-in-49.ensures.is c.in_err-binds-in-49.ensures.refuses);
-  begun = λ s. goes-on (c.in_err-binds-in-49.ensures.begun s) (λ z g. at-tag_begun _ 0x31 c.in-49.is (receive-binds_begun c.in_ok-kind-in-49.kind c.in_ok-kind-in-49.ensures.is g));
-})
+pub terms::read_process-returns-in_err-binds-in-49 : goal.terms::read_process-returns-in_err-binds-in-49
+terms::read_process-returns-in_err-binds-in-49 t c = failed _ _ _ _ c.from_residual-in_err-binds-in-49.ensures.1 (tag-fails _ 0x31 c.in-49.is (receive-binds-fails c.in_ok-kind-in-49.kind c.in_ok-kind-in-49.ensures.is c.in_err-binds-in-49.ensures))
 
-pub terms::read_form-returns-in_err-body-in-49 : goal.terms::read_form-returns-in_err-body-in-49
-terms::read_form-returns-in_err-body-in-49 t c = failed _ _ _ _ c.from_residual-in_err-body-in-49.ensures.1 (record {
-  wrong = at-form_wrong _ 0x31 c.in-49.is (receive-body_wrong c.in_ok-kind-in-49.ensures.is c.in_ok-binds-in-49.ensures.reads (scope-more c.args.scope.now.items c.read_binds.new.found.items (bound (many row (map bind_tree c.in_ok-binds-in-49.binds.items))) (c.in_ok-binds-in-49.ensures.found ∙ ap (λ xs. senses_of xs ++ bound (many row (map bind_tree c.in_ok-binds-in-49.binds.items))) c.in_ok-inner-in-49.ensures)) c.in_err-body-in-49.ensures.wrong) (omega arith);
-  refuses = at-tag _ 0x31 c.in-49.is (receive-body c.in_ok-kind-in-49.ensures.is c.in_ok-binds-in-49.ensures.reads (scope-more c.args.scope.now.items c.read_binds.new.found.items (bound (many row (map bind_tree c.in_ok-binds-in-49.binds.items))) (c.in_ok-binds-in-49.ensures.found ∙ ap (λ xs. senses_of xs ++ bound (many row (map bind_tree c.in_ok-binds-in-49.binds.items))) c.in_ok-inner-in-49.ensures)) c.in_err-body-in-49.ensures.refuses);
-  begun = λ s. goes-on (c.in_err-body-in-49.ensures.begun s) (λ z g. at-tag_begun _ 0x31 c.in-49.is (receive-body_begun (map bind_tree c.in_ok-binds-in-49.binds.items) c.in_ok-kind-in-49.kind c.in_ok-kind-in-49.ensures.is c.in_ok-binds-in-49.ensures.reads (scope-more c.args.scope.now.items c.read_binds.new.found.items (bound (many row (map bind_tree c.in_ok-binds-in-49.binds.items))) (c.in_ok-binds-in-49.ensures.found ∙ ap (λ xs. senses_of xs ++ bound (many row (map bind_tree c.in_ok-binds-in-49.binds.items))) c.in_ok-inner-in-49.ensures)) c.in_ok-binds-in-49.ensures.enough c.in_ok-binds-in-49.ensures.few g));
-})
+pub terms::read_process-returns-in_err-body-in-49 : goal.terms::read_process-returns-in_err-body-in-49
+terms::read_process-returns-in_err-body-in-49 t c = failed _ _ _ _ c.from_residual-in_err-body-in-49.ensures.1 (tag-fails _ 0x31 c.in-49.is (receive-body-fails (map bind_tree c.in_ok-binds-in-49.binds.items) c.in_ok-kind-in-49.kind c.in_ok-kind-in-49.ensures.is c.in_ok-binds-in-49.ensures.reads (scope-more c.args.scope.now.items c.read_binds.new.found.items (bound (many row (map bind_tree c.in_ok-binds-in-49.binds.items))) (c.in_ok-binds-in-49.ensures.found ∙ ap (λ xs. senses_of xs ++ bound (many row (map bind_tree c.in_ok-binds-in-49.binds.items))) c.in_ok-inner-in-49.ensures)) c.in_ok-binds-in-49.ensures.enough c.in_ok-binds-in-49.ensures.few c.in_err-body-in-49.ensures))
 
-pub terms::read_form-returns-in_err-names-in-50 : goal.terms::read_form-returns-in_err-names-in-50
-terms::read_form-returns-in_err-names-in-50 t c = failed _ _ _ _ c.from_residual-in_err-names-in-50.ensures.1 (record {
-  wrong = at-leaf_wrong _ 0x32 c.in-50.is (λ r. new-origins_wrong r c.in_err-names-in-50.ensures.wrong) (omega arith);
-  refuses = at-tag _ 0x32 c.in-50.is (new-origins _ c.in_err-names-in-50.ensures.refuses);
-  begun = λ s. goes-on (c.in_err-names-in-50.ensures.begun s) (λ z g. at-tag_begun _ 0x32 c.in-50.is (new-origins_begun _ g));
-})
+pub terms::read_process-returns-in_err-names-in-50 : goal.terms::read_process-returns-in_err-names-in-50
+terms::read_process-returns-in_err-names-in-50 t c = failed _ _ _ _ c.from_residual-in_err-names-in-50.ensures.1 (tag-fails _ 0x32 c.in-50.is (new-origins-fails c.args.room c.in_err-names-in-50.ensures.wrong c.in_err-names-in-50.ensures.refuses c.in_err-names-in-50.ensures.begun))
 
-pub terms::read_form-returns-in_err-body-in-50 : goal.terms::read_form-returns-in_err-body-in-50
-terms::read_form-returns-in_err-body-in-50 t c = failed _ _ _ _ c.from_residual-in_err-body-in-50.ensures.1 (record {
-  wrong = at-form_wrong _ 0x32 c.in-50.is (new-body_wrong c.in_ok-names-in-50.names.items c.in_ok-names-in-50.ensures.is (scope-names c.args.scope.now.items c.in_ok-inner-in-50.inner.items c.in_ok-names-in-50.names.items c.len.result (omega arith) c.in_ok-inner-in-50.ensures) c.in_err-body-in-50.ensures.wrong) (omega arith);
-  refuses = at-tag _ 0x32 c.in-50.is (new-body c.in_ok-names-in-50.names.items c.in_ok-names-in-50.ensures.is (scope-names c.args.scope.now.items c.in_ok-inner-in-50.inner.items c.in_ok-names-in-50.names.items c.len.result (omega arith) c.in_ok-inner-in-50.ensures) c.in_err-body-in-50.ensures.refuses);
-  begun = λ s. goes-on (c.in_err-body-in-50.ensures.begun s) (λ z g. at-tag_begun _ 0x32 c.in-50.is (new-body_begun c.in_ok-names-in-50.names.items c.in_ok-names-in-50.ensures.is (scope-names c.args.scope.now.items c.in_ok-inner-in-50.inner.items c.in_ok-names-in-50.names.items c.len.result (omega arith) c.in_ok-inner-in-50.ensures) c.in_ok-names-in-50.ensures.some g));
-})
+pub terms::read_process-returns-in_err-body-in-50 : goal.terms::read_process-returns-in_err-body-in-50
+terms::read_process-returns-in_err-body-in-50 t c = failed _ _ _ _ c.from_residual-in_err-body-in-50.ensures.1 (tag-fails _ 0x32 c.in-50.is (new-body-fails c.in_ok-names-in-50.names.items c.in_ok-names-in-50.ensures.is (scope-names c.args.scope.now.items c.in_ok-inner-in-50.inner.items c.in_ok-names-in-50.names.items c.len.result (omega arith) c.in_ok-inner-in-50.ensures) c.in_ok-names-in-50.ensures.some c.in_err-body-in-50.ensures))
 
-pub terms::read_form-returns-in_err-target-in-51 : goal.terms::read_form-returns-in_err-target-in-51
-terms::read_form-returns-in_err-target-in-51 t c = failed _ _ _ _ c.from_residual-in_err-target-in-51.ensures.1 (record {
-  wrong = at-form_wrong _ 0x33 c.in-51.is (match-target_wrong c.in_err-target-in-51.ensures.wrong) (omega arith);
-  refuses = at-tag _ 0x33 c.in-51.is (match-target c.in_err-target-in-51.ensures.refuses);
-  begun = λ s. goes-on (c.in_err-target-in-51.ensures.begun s) (λ z g. at-tag_begun _ 0x33 c.in-51.is (match-target_begun g));
-})
+pub terms::read_process-returns-in_err-target-in-51 : goal.terms::read_process-returns-in_err-target-in-51
+terms::read_process-returns-in_err-target-in-51 t c = failed _ _ _ _ c.from_residual-in_err-target-in-51.ensures.1 (tag-fails _ 0x33 c.in-51.is (match-target-fails c.in_err-target-in-51.ensures))
 
-pub terms::read_form-returns-in_err-cases-in-51 : goal.terms::read_form-returns-in_err-cases-in-51
-terms::read_form-returns-in_err-cases-in-51 t c = failed _ _ _ _ c.from_residual-in_err-cases-in-51.ensures.1 (record {
-  wrong = at-form_wrong _ 0x33 c.in-51.is (match-cases_wrong c.in_ok-target-in-51.ensures c.in_err-cases-in-51.ensures.wrong) (omega arith);
-  refuses = at-tag _ 0x33 c.in-51.is (match-cases c.in_ok-target-in-51.ensures c.in_err-cases-in-51.ensures.refuses);
-  begun = λ s. goes-on (c.in_err-cases-in-51.ensures.begun s) (λ z g. at-tag_begun _ 0x33 c.in-51.is (match-cases_begun c.in_ok-target-in-51.ensures g));
-})
+pub terms::read_process-returns-in_err-cases-in-51 : goal.terms::read_process-returns-in_err-cases-in-51
+terms::read_process-returns-in_err-cases-in-51 t c = failed _ _ _ _ c.from_residual-in_err-cases-in-51.ensures.1 (tag-fails _ 0x33 c.in-51.is (match-cases-fails c.in_ok-target-in-51.ensures c.in_err-cases-in-51.ensures))
 
-pub terms::read_form-returns-in_err-rights-in-52 : goal.terms::read_form-returns-in_err-rights-in-52
-terms::read_form-returns-in_err-rights-in-52 t c = failed _ _ _ _ c.from_residual-in_err-rights-in-52.ensures.1 (record {
-  wrong = at-leaf_wrong _ 0x34 c.in-52.is (λ r. bundle-rights_wrong r c.in_err-rights-in-52.ensures.wrong) (omega arith);
-  refuses = at-tag _ 0x34 c.in-52.is (bundle-rights _ c.in_err-rights-in-52.ensures.refuses);
-  begun = λ s. goes-here _ (at-tag_begun _ 0x34 c.in-52.is (bundle-rights_begun _)) c.in_err-rights-in-52.ensures.place;
-})
+pub terms::read_process-returns-in_err-rights-in_default : goal.terms::read_process-returns-in_err-rights-in_default
+terms::read_process-returns-in_err-rights-in_default t c = failed _ _ _ _ c.from_residual-in_err-rights-in_default.ensures.1 (tag-fails _ 0x34 (omega arith) (bundle-rights-fails c.args.room c.in_err-rights-in_default.ensures.wrong c.in_err-rights-in_default.ensures.refuses c.in_err-rights-in_default.ensures.place))
 
-pub terms::read_form-returns-in_err-body-in-52 : goal.terms::read_form-returns-in_err-body-in-52
-terms::read_form-returns-in_err-body-in-52 t c = failed _ _ _ _ c.from_residual-in_err-body-in-52.ensures.1 (record {
-  wrong = at-form_wrong _ 0x34 c.in-52.is (bundle-body_wrong c.in_ok-rights-in-52.ensures.is c.in_err-body-in-52.ensures.wrong) (omega arith);
-  refuses = at-tag _ 0x34 c.in-52.is (bundle-body c.in_ok-rights-in-52.ensures.is c.in_err-body-in-52.ensures.refuses);
-  begun = λ s. goes-on (c.in_err-body-in-52.ensures.begun s) (λ z g. at-tag_begun _ 0x34 c.in-52.is (bundle-body_begun c.in_ok-rights-in-52.rights c.in_ok-rights-in-52.ensures.is g));
-})
+pub terms::read_process-returns-in_err-body-in_default : goal.terms::read_process-returns-in_err-body-in_default
+terms::read_process-returns-in_err-body-in_default t c = failed _ _ _ _ c.from_residual-in_err-body-in_default.ensures.1 (tag-fails _ 0x34 (omega arith) (bundle-body-fails c.in_ok-rights-in_default.rights c.in_ok-rights-in_default.ensures.is c.in_err-body-in_default.ensures))
 
-pub terms::read_form-returns-in_err-op-in-64 : goal.terms::read_form-returns-in_err-op-in-64
-terms::read_form-returns-in_err-op-in-64 t c = failed _ _ _ _ c.from_residual-in_err-op-in-64.ensures.1 (record {
-  wrong = at-leaf_wrong _ 0x40 c.in-64.is (λ r. unary-op_wrong r c.in_err-op-in-64.ensures.wrong) (omega arith);
-  refuses = at-tag _ 0x40 c.in-64.is (unary-op _ c.in_err-op-in-64.ensures.refuses);
-  begun = λ s. goes-here _ (at-tag_begun _ 0x40 c.in-64.is (unary-op_begun _)) c.in_err-op-in-64.ensures.place;
-})
+pub terms::read_operation-returns-in_err-op-in-64 : goal.terms::read_operation-returns-in_err-op-in-64
+terms::read_operation-returns-in_err-op-in-64 t c = failed _ _ _ _ c.from_residual.ensures.1 (tag-fails _ 0x40 c.in-64.is (unary-op-fails c.args.room c.in_err-op-in-64.ensures.wrong c.in_err-op-in-64.ensures.refuses c.in_err-op-in-64.ensures.place))
 
-pub terms::read_form-returns-in_err-arg-in-64 : goal.terms::read_form-returns-in_err-arg-in-64
-terms::read_form-returns-in_err-arg-in-64 t c = failed _ _ _ _ c.from_residual-in_err-arg-in-64.ensures.1 (record {
-  wrong = at-form_wrong _ 0x40 c.in-64.is (unary-arg_wrong c.in_ok-op-in-64.ensures.is c.in_err-arg-in-64.ensures.wrong) (omega arith);
-  refuses = at-tag _ 0x40 c.in-64.is (unary-arg c.in_ok-op-in-64.ensures.is c.in_err-arg-in-64.ensures.refuses);
-  begun = λ s. goes-on (c.in_err-arg-in-64.ensures.begun s) (λ z g. at-tag_begun _ 0x40 c.in-64.is (unary-arg_begun c.in_ok-op-in-64.op c.in_ok-op-in-64.ensures.is g));
-})
+pub terms::read_operation-returns-in_err-arg-in-64 : goal.terms::read_operation-returns-in_err-arg-in-64
+terms::read_operation-returns-in_err-arg-in-64 t c = failed _ _ _ _ c.from_residual-in_err-arg-in-64.ensures.1 (tag-fails _ 0x40 c.in-64.is (unary-arg-fails c.in_ok-op-in-64.op c.in_ok-op-in-64.ensures.is c.in_err-arg-in-64.ensures))
 
-pub terms::read_form-returns-in_err-op-in-65 : goal.terms::read_form-returns-in_err-op-in-65
-terms::read_form-returns-in_err-op-in-65 t c = failed _ _ _ _ c.from_residual-in_err-op-in-65.ensures.1 (record {
-  wrong = at-leaf_wrong _ 0x41 c.in-65.is (λ r. binary-op_wrong r c.in_err-op-in-65.ensures.wrong) (omega arith);
-  refuses = at-tag _ 0x41 c.in-65.is (binary-op _ c.in_err-op-in-65.ensures.refuses);
-  begun = λ s. goes-here _ (at-tag_begun _ 0x41 c.in-65.is (binary-op_begun _)) c.in_err-op-in-65.ensures.place;
-})
+pub terms::read_operation-returns-in_err-op-in-65 : goal.terms::read_operation-returns-in_err-op-in-65
+terms::read_operation-returns-in_err-op-in-65 t c = failed _ _ _ _ c.from_residual-in_err-op-in-65.ensures.1 (tag-fails _ 0x41 c.in-65.is (binary-op-fails c.args.room c.in_err-op-in-65.ensures.wrong c.in_err-op-in-65.ensures.refuses c.in_err-op-in-65.ensures.place))
 
-pub terms::read_form-returns-in_err-left-in-65 : goal.terms::read_form-returns-in_err-left-in-65
-terms::read_form-returns-in_err-left-in-65 t c = failed _ _ _ _ c.from_residual-in_err-left-in-65.ensures.1 (record {
-  wrong = at-form_wrong _ 0x41 c.in-65.is (binary-left_wrong c.in_ok-op-in-65.ensures.is c.in_err-left-in-65.ensures.wrong) (omega arith);
-  refuses = at-tag _ 0x41 c.in-65.is (binary-left c.in_ok-op-in-65.ensures.is c.in_err-left-in-65.ensures.refuses);
-  begun = λ s. goes-on (c.in_err-left-in-65.ensures.begun s) (λ z g. at-tag_begun _ 0x41 c.in-65.is (binary-left_begun c.in_ok-op-in-65.op c.in_ok-op-in-65.ensures.is g));
-})
+pub terms::read_operation-returns-in_err-left-in-65 : goal.terms::read_operation-returns-in_err-left-in-65
+terms::read_operation-returns-in_err-left-in-65 t c = failed _ _ _ _ c.from_residual-in_err-left-in-65.ensures.1 (tag-fails _ 0x41 c.in-65.is (binary-left-fails c.in_ok-op-in-65.op c.in_ok-op-in-65.ensures.is c.in_err-left-in-65.ensures))
 
-pub terms::read_form-returns-in_err-right-in-65 : goal.terms::read_form-returns-in_err-right-in-65
-terms::read_form-returns-in_err-right-in-65 t c = failed _ _ _ _ c.from_residual-in_err-right-in-65.ensures.1 (record {
-  wrong = at-form_wrong _ 0x41 c.in-65.is (binary-right_wrong c.in_ok-op-in-65.ensures.is c.in_ok-left-in-65.ensures c.in_err-right-in-65.ensures.wrong) (omega arith);
-  refuses = at-tag _ 0x41 c.in-65.is (binary-right c.in_ok-op-in-65.ensures.is c.in_ok-left-in-65.ensures c.in_err-right-in-65.ensures.refuses);
-  begun = λ s. goes-on (c.in_err-right-in-65.ensures.begun s) (λ z g. at-tag_begun _ 0x41 c.in-65.is (binary-right_begun c.in_ok-op-in-65.op c.in_ok-op-in-65.ensures.is c.in_ok-left-in-65.ensures g));
-})
+pub terms::read_operation-returns-in_err-right-in-65 : goal.terms::read_operation-returns-in_err-right-in-65
+terms::read_operation-returns-in_err-right-in-65 t c = failed _ _ _ _ c.from_residual-in_err-right-in-65.ensures.1 (tag-fails _ 0x41 c.in-65.is (binary-right-fails c.in_ok-op-in-65.op c.in_ok-op-in-65.ensures.is c.in_ok-left-in-65.ensures c.in_err-right-in-65.ensures))
 
-pub terms::read_form-returns-in_err-name-in-66 : goal.terms::read_form-returns-in_err-name-in-66
-terms::read_form-returns-in_err-name-in-66 t c = failed _ _ _ _ c.from_residual-in_err-name-in-66.ensures.1 (record {
-  wrong = at-leaf_wrong _ 0x42 c.in-66.is (λ r. method-name_wrong r c.in_err-name-in-66.ensures.wrong) (omega arith);
-  refuses = at-tag _ 0x42 c.in-66.is (method-name _ c.in_err-name-in-66.ensures.refuses);
-  begun = λ s. goes-on (c.in_err-name-in-66.ensures.begun s) (λ z g. at-tag_begun _ 0x42 c.in-66.is (method-name_begun _ g));
-})
+pub terms::read_operation-returns-in_err-name-in-66 : goal.terms::read_operation-returns-in_err-name-in-66
+terms::read_operation-returns-in_err-name-in-66 t c = failed _ _ _ _ c.from_residual-in_err-name-in-66.ensures.1 (tag-fails _ 0x42 c.in-66.is (method-name-fails c.args.room c.in_err-name-in-66.ensures.wrong c.in_err-name-in-66.ensures.refuses c.in_err-name-in-66.ensures.begun))
 
-pub terms::read_form-returns-in_err-target-in-66 : goal.terms::read_form-returns-in_err-target-in-66
-terms::read_form-returns-in_err-target-in-66 t c = failed _ _ _ _ c.from_residual-in_err-target-in-66.ensures.1 (record {
-  wrong = at-form_wrong _ 0x42 c.in-66.is (method-target_wrong _ c.in_ok-name-in-66.ensures.is c.in_err-target-in-66.ensures.wrong) (omega arith);
-  refuses = at-tag _ 0x42 c.in-66.is (method-target _ c.in_ok-name-in-66.ensures.is c.in_err-target-in-66.ensures.refuses);
-  begun = λ s. goes-on (c.in_err-target-in-66.ensures.begun s) (λ z g. at-tag_begun _ 0x42 c.in-66.is (method-target_begun _ c.in_ok-name-in-66.ensures.form c.in_ok-name-in-66.ensures.is g));
-})
+pub terms::read_operation-returns-in_err-target-in-66 : goal.terms::read_operation-returns-in_err-target-in-66
+terms::read_operation-returns-in_err-target-in-66 t c = failed _ _ _ _ c.from_residual-in_err-target-in-66.ensures.1 (tag-fails _ 0x42 c.in-66.is (method-target-fails _ c.in_ok-name-in-66.ensures.form c.in_ok-name-in-66.ensures.is c.in_err-target-in-66.ensures))
 
-pub terms::read_form-returns-in_err-args-in-66 : goal.terms::read_form-returns-in_err-args-in-66
-terms::read_form-returns-in_err-args-in-66 t c = failed _ _ _ _ c.from_residual-in_err-args-in-66.ensures.1 (record {
-  wrong = at-form_wrong _ 0x42 c.in-66.is (method-args_wrong _ c.in_ok-name-in-66.ensures.is c.in_ok-target-in-66.ensures c.in_err-args-in-66.ensures.wrong) (omega arith);
-  refuses = at-tag _ 0x42 c.in-66.is (method-args _ c.in_ok-name-in-66.ensures.is c.in_ok-target-in-66.ensures c.in_err-args-in-66.ensures.refuses);
-  begun = λ s. goes-on (c.in_err-args-in-66.ensures.begun s) (λ z g. at-tag_begun _ 0x42 c.in-66.is (method-args_begun _ c.in_ok-name-in-66.ensures.form c.in_ok-name-in-66.ensures.is c.in_ok-target-in-66.ensures g));
-})
+pub terms::read_operation-returns-in_err-args-in-66 : goal.terms::read_operation-returns-in_err-args-in-66
+terms::read_operation-returns-in_err-args-in-66 t c = failed _ _ _ _ c.from_residual-in_err-args-in-66.ensures.1 (tag-fails _ 0x42 c.in-66.is (method-args-fails _ c.in_ok-name-in-66.ensures.form c.in_ok-name-in-66.ensures.is c.in_ok-target-in-66.ensures c.in_err-args-in-66.ensures))
 
 pub patterns::read_pat_form-returns-in_err-members-in-32 : goal.patterns::read_pat_form-returns-in_err-members-in-32
-patterns::read_pat_form-returns-in_err-members-in-32 t c = failed _ _ _ _ c.from_residual.ensures.1 (record {
-  wrong = at-form_wrong _ 0x20 c.in-32.is (list-members_wrong c.in_err-members-in-32.ensures.wrong) (omega arith);
-  refuses = at-tag _ 0x20 c.in-32.is (list-members c.in_err-members-in-32.ensures.refuses);
-  begun = λ s. goes-on (c.in_err-members-in-32.ensures.begun s) (λ z g. at-tag_begun _ 0x20 c.in-32.is (list-members_begun g));
-})
+patterns::read_pat_form-returns-in_err-members-in-32 t c = failed _ _ _ _ c.from_residual.ensures.1 (tag-fails _ 0x20 c.in-32.is (list-members-fails c.in_err-members-in-32.ensures))
 
 pub patterns::read_pat_form-returns-in_err-rest-in-32 : goal.patterns::read_pat_form-returns-in_err-rest-in-32
-patterns::read_pat_form-returns-in_err-rest-in-32 t c = failed _ _ _ _ c.from_residual-in_err-rest-in-32.ensures.1 (record {
-  wrong = at-leaf_wrong _ 0x20 c.in-32.is (λ r. list-rest_wrong r c.in_ok-members-in-32.ensures.reads c.in_err-rest-in-32.ensures.wrong) (omega arith);
-  refuses = at-tag _ 0x20 c.in-32.is (list-rest c.in_ok-members-in-32.ensures.reads c.in_err-rest-in-32.ensures.refuses);
-  begun = λ s. goes-here _ (at-tag_begun _ 0x20 c.in-32.is (list-rest_begun c.in_ok-members-in-32.ensures.reads c.in_ok-members-in-32.ensures.free)) c.in_err-rest-in-32.ensures.place;
-})
+patterns::read_pat_form-returns-in_err-rest-in-32 t c = failed _ _ _ _ c.from_residual-in_err-rest-in-32.ensures.1 (tag-fails _ 0x20 c.in-32.is (list-rest-fails c.in_ok-members-in-32.ensures.reads c.in_ok-members-in-32.ensures.free c.in_err-rest-in-32.ensures.wrong c.in_err-rest-in-32.ensures.refuses c.in_err-rest-in-32.ensures.place))
 
 pub patterns::read_pat_form-returns-in_err-read_pats-in-33 : goal.patterns::read_pat_form-returns-in_err-read_pats-in-33
-patterns::read_pat_form-returns-in_err-read_pats-in-33 t c = failed _ _ _ _ c.from_residual-in_err-read_pats-in-33.ensures.1 (record {
-  wrong = at-form_wrong _ 0x21 c.in-33.is (tuple_pattern_wrong c.in_err-read_pats-in-33.ensures.wrong) (omega arith);
-  refuses = at-tag _ 0x21 c.in-33.is (tuple_pattern-refused _ c.in_err-read_pats-in-33.ensures.refuses);
-  begun = λ s. goes-on (c.in_err-read_pats-in-33.ensures.begun s) (λ z g. at-tag_begun _ 0x21 c.in-33.is (tuple_pattern-begun g));
-})
+patterns::read_pat_form-returns-in_err-read_pats-in-33 t c = failed _ _ _ _ c.from_residual-in_err-read_pats-in-33.ensures.1 (tag-fails _ 0x21 c.in-33.is (tuple_pattern-fails c.in_err-read_pats-in-33.ensures))
 
 pub patterns::read_pat_form-returns-in_err-members-in-34 : goal.patterns::read_pat_form-returns-in_err-members-in-34
-patterns::read_pat_form-returns-in_err-members-in-34 t c = failed _ _ _ _ c.from_residual-in_err-members-in-34.ensures.1 (record {
-  wrong = at-form_wrong _ 0x22 c.in-34.is (set-members_wrong c.in_err-members-in-34.ensures.wrong) (omega arith);
-  refuses = at-tag _ 0x22 c.in-34.is (set-members c.in_err-members-in-34.ensures.refuses);
-  begun = λ s. goes-on (c.in_err-members-in-34.ensures.begun s) (λ z g. at-tag_begun _ 0x22 c.in-34.is (set-members_begun g));
-})
+patterns::read_pat_form-returns-in_err-members-in-34 t c = failed _ _ _ _ c.from_residual-in_err-members-in-34.ensures.1 (tag-fails _ 0x22 c.in-34.is (set-members-fails c.in_err-members-in-34.ensures))
 
 pub patterns::read_pat_form-returns-in_err-rest-in-34 : goal.patterns::read_pat_form-returns-in_err-rest-in-34
-patterns::read_pat_form-returns-in_err-rest-in-34 t c = failed _ _ _ _ c.from_residual-in_err-rest-in-34.ensures.1 (record {
-  wrong = at-leaf_wrong _ 0x22 c.in-34.is (λ r. set-rest_wrong r c.in_ok-members-in-34.ensures.reads c.in_err-rest-in-34.ensures.wrong) (omega arith);
-  refuses = at-tag _ 0x22 c.in-34.is (set-rest c.in_ok-members-in-34.ensures.reads c.in_err-rest-in-34.ensures.refuses);
-  begun = λ s. goes-here _ (at-tag_begun _ 0x22 c.in-34.is (set-rest_begun _ c.in_ok-members-in-34.ensures.reads c.in_ok-members-in-34.ensures.free c.in_ok-members-in-34.ensures.few)) c.in_err-rest-in-34.ensures.place;
-})
+patterns::read_pat_form-returns-in_err-rest-in-34 t c = failed _ _ _ _ c.from_residual-in_err-rest-in-34.ensures.1 (tag-fails _ 0x22 c.in-34.is (set-rest-fails _ c.in_ok-members-in-34.ensures.reads c.in_ok-members-in-34.ensures.free c.in_ok-members-in-34.ensures.few c.in_err-rest-in-34.ensures.wrong c.in_err-rest-in-34.ensures.refuses c.in_err-rest-in-34.ensures.place))
 
 pub patterns::read_pat_form-returns-in_err-pairs-in-35 : goal.patterns::read_pat_form-returns-in_err-pairs-in-35
-patterns::read_pat_form-returns-in_err-pairs-in-35 t c = failed _ _ _ _ c.from_residual-in_err-pairs-in-35.ensures.1 (record {
-  wrong = at-form_wrong _ 0x23 c.in-35.is (map-pairs_wrong c.in_err-pairs-in-35.ensures.wrong) (omega arith);
-  refuses = at-tag _ 0x23 c.in-35.is (map-pairs c.in_err-pairs-in-35.ensures.refuses);
-  begun = λ s. goes-on (c.in_err-pairs-in-35.ensures.begun s) (λ z g. at-tag_begun _ 0x23 c.in-35.is (map-pairs_begun g));
-})
+patterns::read_pat_form-returns-in_err-pairs-in-35 t c = failed _ _ _ _ c.from_residual-in_err-pairs-in-35.ensures.1 (tag-fails _ 0x23 c.in-35.is (map-pairs-fails c.in_err-pairs-in-35.ensures))
 
 pub patterns::read_pat_form-returns-in_err-rest-in-35 : goal.patterns::read_pat_form-returns-in_err-rest-in-35
-patterns::read_pat_form-returns-in_err-rest-in-35 t c = failed _ _ _ _ c.from_residual-in_err-rest-in-35.ensures.1 (record {
-  wrong = at-leaf_wrong _ 0x23 c.in-35.is (λ r. map-rest_wrong r c.in_ok-pairs-in-35.ensures.reads c.in_err-rest-in-35.ensures.wrong) (omega arith);
-  refuses = at-tag _ 0x23 c.in-35.is (map-rest c.in_ok-pairs-in-35.ensures.reads c.in_err-rest-in-35.ensures.refuses);
-  begun = λ s. goes-here _ (at-tag_begun _ 0x23 c.in-35.is (map-rest_begun (map pair_tree c.in_ok-pairs-in-35.pairs.items) c.in_ok-pairs-in-35.ensures.reads c.in_ok-pairs-in-35.ensures.free c.in_ok-pairs-in-35.ensures.few)) c.in_err-rest-in-35.ensures.place;
-})
+patterns::read_pat_form-returns-in_err-rest-in-35 t c = failed _ _ _ _ c.from_residual-in_err-rest-in-35.ensures.1 (tag-fails _ 0x23 c.in-35.is (map-rest-fails (map pair_tree c.in_ok-pairs-in-35.pairs.items) c.in_ok-pairs-in-35.ensures.reads c.in_ok-pairs-in-35.ensures.free c.in_ok-pairs-in-35.ensures.few c.in_err-rest-in-35.ensures.wrong c.in_err-rest-in-35.ensures.refuses c.in_err-rest-in-35.ensures.place))
 
 pub patterns::read_pat_form-returns-in_err-persistent-in-48 : goal.patterns::read_pat_form-returns-in_err-persistent-in-48
-patterns::read_pat_form-returns-in_err-persistent-in-48 t c = failed _ _ _ _ c.from_residual-in_err-persistent-in-48.ensures.1 (record {
-  wrong = at-leaf_wrong _ 0x30 c.in-48.is (λ r. pat_send-flag_wrong r c.in_err-persistent-in-48.ensures.wrong) (omega arith);
-  refuses = at-tag _ 0x30 c.in-48.is (pat_send-flag _ c.in_err-persistent-in-48.ensures.refuses);
-  begun = λ s. goes-here _ (at-tag_begun _ 0x30 c.in-48.is (pat_send-flag_begun _)) c.in_err-persistent-in-48.ensures.place;
-})
+patterns::read_pat_form-returns-in_err-persistent-in-48 t c = failed _ _ _ _ c.from_residual-in_err-persistent-in-48.ensures.1 (tag-fails _ 0x30 c.in-48.is (pat_send-flag-fails c.args.room c.in_err-persistent-in-48.ensures.wrong c.in_err-persistent-in-48.ensures.refuses c.in_err-persistent-in-48.ensures.place))
 
 pub patterns::read_pat_form-returns-in_err-channel-in-48 : goal.patterns::read_pat_form-returns-in_err-channel-in-48
-patterns::read_pat_form-returns-in_err-channel-in-48 t c = failed _ _ _ _ c.from_residual-in_err-channel-in-48.ensures.1 (record {
-  wrong = at-form_wrong _ 0x30 c.in-48.is (pat_send-channel_wrong c.in_ok-persistent-in-48.ensures.is c.in_err-channel-in-48.ensures.wrong) (omega arith);
-  refuses = at-tag _ 0x30 c.in-48.is (pat_send-channel c.in_ok-persistent-in-48.ensures.is c.in_err-channel-in-48.ensures.refuses);
-  begun = λ s. goes-on (c.in_err-channel-in-48.ensures.begun s) (λ z g. at-tag_begun _ 0x30 c.in-48.is (pat_send-channel_begun c.in_ok-persistent-in-48.persistent c.in_ok-persistent-in-48.ensures.is g));
-})
+patterns::read_pat_form-returns-in_err-channel-in-48 t c = failed _ _ _ _ c.from_residual-in_err-channel-in-48.ensures.1 (tag-fails _ 0x30 c.in-48.is (pat_send-channel-fails c.in_ok-persistent-in-48.persistent c.in_ok-persistent-in-48.ensures.is c.in_err-channel-in-48.ensures))
 
 pub patterns::read_pat_form-returns-in_err-args-in-48 : goal.patterns::read_pat_form-returns-in_err-args-in-48
-patterns::read_pat_form-returns-in_err-args-in-48 t c = failed _ _ _ _ c.from_residual-in_err-args-in-48.ensures.1 (record {
-  wrong = at-form_wrong _ 0x30 c.in-48.is (pat_send-args_wrong c.in_ok-persistent-in-48.ensures.is c.in_ok-channel-in-48.ensures.reads c.in_err-args-in-48.ensures.wrong) (omega arith);
-  refuses = at-tag _ 0x30 c.in-48.is (pat_send-args c.in_ok-persistent-in-48.ensures.is c.in_ok-channel-in-48.ensures.reads c.in_err-args-in-48.ensures.refuses);
-  begun = λ s. goes-on (c.in_err-args-in-48.ensures.begun s) (λ z g. at-tag_begun _ 0x30 c.in-48.is (pat_send-args_begun c.in_ok-persistent-in-48.persistent c.in_ok-persistent-in-48.ensures.is c.in_ok-channel-in-48.ensures.reads c.in_ok-channel-in-48.ensures.free g));
-})
+patterns::read_pat_form-returns-in_err-args-in-48 t c = failed _ _ _ _ c.from_residual-in_err-args-in-48.ensures.1 (tag-fails _ 0x30 c.in-48.is (pat_send-args-fails c.in_ok-persistent-in-48.persistent c.in_ok-persistent-in-48.ensures.is c.in_ok-channel-in-48.ensures.reads c.in_ok-channel-in-48.ensures.free c.in_err-args-in-48.ensures))
 
 pub patterns::read_pat_form-returns-in_err-rights-in-52 : goal.patterns::read_pat_form-returns-in_err-rights-in-52
-patterns::read_pat_form-returns-in_err-rights-in-52 t c = failed _ _ _ _ c.from_residual-in_err-rights-in-52.ensures.1 (record {
-  wrong = at-leaf_wrong _ 0x34 c.in-52.is (λ r. pat_bundle-rights_wrong r c.in_err-rights-in-52.ensures.wrong) (omega arith);
-  refuses = at-tag _ 0x34 c.in-52.is (pat_bundle-rights _ c.in_err-rights-in-52.ensures.refuses);
-  begun = λ s. goes-here _ (at-tag_begun _ 0x34 c.in-52.is (pat_bundle-rights_begun _)) c.in_err-rights-in-52.ensures.place;
-})
+patterns::read_pat_form-returns-in_err-rights-in-52 t c = failed _ _ _ _ c.from_residual-in_err-rights-in-52.ensures.1 (tag-fails _ 0x34 c.in-52.is (pat_bundle-rights-fails c.args.room c.in_err-rights-in-52.ensures.wrong c.in_err-rights-in-52.ensures.refuses c.in_err-rights-in-52.ensures.place))
 
 pub patterns::read_pat_form-returns-in_err-body-in-52 : goal.patterns::read_pat_form-returns-in_err-body-in-52
-patterns::read_pat_form-returns-in_err-body-in-52 t c = failed _ _ _ _ c.from_residual-in_err-body-in-52.ensures.1 (record {
-  wrong = at-form_wrong _ 0x34 c.in-52.is (pat_bundle-body_wrong c.in_ok-rights-in-52.ensures.is c.in_err-body-in-52.ensures.wrong) (omega arith);
-  refuses = at-tag _ 0x34 c.in-52.is (pat_bundle-body c.in_ok-rights-in-52.ensures.is c.in_err-body-in-52.ensures.refuses);
-  begun = λ s. goes-on (c.in_err-body-in-52.ensures.begun s) (λ z g. at-tag_begun _ 0x34 c.in-52.is (pat_bundle-body_begun c.in_ok-rights-in-52.rights c.in_ok-rights-in-52.ensures.is g));
-})
+patterns::read_pat_form-returns-in_err-body-in-52 t c = failed _ _ _ _ c.from_residual-in_err-body-in-52.ensures.1 (tag-fails _ 0x34 c.in-52.is (pat_bundle-body-fails c.in_ok-rights-in-52.rights c.in_ok-rights-in-52.ensures.is c.in_err-body-in-52.ensures))
 
-pub patterns::read_pat_form-returns-in_err-read_term-in-83 : goal.patterns::read_pat_form-returns-in_err-read_term-in-83
-patterns::read_pat_form-returns-in_err-read_term-in-83 t c = failed _ _ _ _ c.from_residual-in_err-read_term-in-83.ensures.1 (record {
-  wrong = at-form_wrong _ 0x53 c.in-83.is (same-body_wrong c.in_err-read_term-in-83.ensures.wrong) (omega arith);
-  refuses = at-tag _ 0x53 c.in-83.is (same-body c.in_err-read_term-in-83.ensures.refuses);
-  begun = λ s. goes-on (c.in_err-read_term-in-83.ensures.begun s) (λ z g. at-tag_begun _ 0x53 c.in-83.is (same-body_begun g));
-})
+pub patterns::read_connective-returns-in_err-read_term-in-83 : goal.patterns::read_connective-returns-in_err-read_term-in-83
+patterns::read_connective-returns-in_err-read_term-in-83 t c = failed _ _ _ _ c.from_residual.ensures.1 (tag-fails _ 0x53 c.in-83.is (same-body-fails c.in_err-read_term-in-83.ensures))
 
-pub patterns::read_pat_form-returns-in_err-left-in-84 : goal.patterns::read_pat_form-returns-in_err-left-in-84
-patterns::read_pat_form-returns-in_err-left-in-84 t c = failed _ _ _ _ c.from_residual-in_err-left-in-84.ensures.1 (record {
-  wrong = at-form_wrong _ 0x54 c.in-84.is (both-left_wrong c.in_err-left-in-84.ensures.wrong) (omega arith);
-  refuses = at-tag _ 0x54 c.in-84.is (both-left c.in_err-left-in-84.ensures.refuses);
-  begun = λ s. goes-on (c.in_err-left-in-84.ensures.begun s) (λ z g. at-tag_begun _ 0x54 c.in-84.is (both-left_begun g));
-})
+pub patterns::read_connective-returns-in_err-left-in-84 : goal.patterns::read_connective-returns-in_err-left-in-84
+patterns::read_connective-returns-in_err-left-in-84 t c = failed _ _ _ _ c.from_residual-in_err-left-in-84.ensures.1 (tag-fails _ 0x54 c.in-84.is (both-left-fails c.in_err-left-in-84.ensures))
 
-pub patterns::read_pat_form-returns-in_err-right-in-84 : goal.patterns::read_pat_form-returns-in_err-right-in-84
-patterns::read_pat_form-returns-in_err-right-in-84 t c = failed _ _ _ _ c.from_residual-in_err-right-in-84.ensures.1 (record {
-  wrong = at-form_wrong _ 0x54 c.in-84.is (both-right_wrong c.in_ok-left-in-84.ensures.reads c.in_err-right-in-84.ensures.wrong) (omega arith);
-  refuses = at-tag _ 0x54 c.in-84.is (both-right c.in_ok-left-in-84.ensures.reads c.in_err-right-in-84.ensures.refuses);
-  begun = λ s. goes-on (c.in_err-right-in-84.ensures.begun s) (λ z g. at-tag_begun _ 0x54 c.in-84.is (both-right_begun c.in_ok-left-in-84.ensures.reads c.in_ok-left-in-84.ensures.free g));
-})
+pub patterns::read_connective-returns-in_err-right-in-84 : goal.patterns::read_connective-returns-in_err-right-in-84
+patterns::read_connective-returns-in_err-right-in-84 t c = failed _ _ _ _ c.from_residual-in_err-right-in-84.ensures.1 (tag-fails _ 0x54 c.in-84.is (both-right-fails c.in_ok-left-in-84.ensures.reads c.in_ok-left-in-84.ensures.free c.in_err-right-in-84.ensures))
 
-pub patterns::read_pat_form-returns-in_err-left-in-85 : goal.patterns::read_pat_form-returns-in_err-left-in-85
-patterns::read_pat_form-returns-in_err-left-in-85 t c = failed _ _ _ _ c.from_residual-in_err-left-in-85.ensures.1 (record {
-  wrong = at-form_wrong _ 0x55 c.in-85.is (either-left_wrong c.in_err-left-in-85.ensures.wrong) (omega arith);
-  refuses = at-tag _ 0x55 c.in-85.is (either-left c.in_err-left-in-85.ensures.refuses);
-  begun = λ s. goes-on (c.in_err-left-in-85.ensures.begun s) (λ z g. at-tag_begun _ 0x55 c.in-85.is (either-left_begun g));
-})
+pub patterns::read_connective-returns-in_err-left-in-85 : goal.patterns::read_connective-returns-in_err-left-in-85
+patterns::read_connective-returns-in_err-left-in-85 t c = failed _ _ _ _ c.from_residual-in_err-left-in-85.ensures.1 (tag-fails _ 0x55 c.in-85.is (either-left-fails c.in_err-left-in-85.ensures))
 
-pub patterns::read_pat_form-returns-in_err-right-in-85 : goal.patterns::read_pat_form-returns-in_err-right-in-85
-patterns::read_pat_form-returns-in_err-right-in-85 t c = failed _ _ _ _ c.from_residual-in_err-right-in-85.ensures.1 (record {
-  wrong = at-form_wrong _ 0x55 c.in-85.is (either-right_wrong c.in_ok-left-in-85.ensures.reads c.in_err-right-in-85.ensures.wrong) (omega arith);
-  refuses = at-tag _ 0x55 c.in-85.is (either-right c.in_ok-left-in-85.ensures.reads c.in_err-right-in-85.ensures.refuses);
-  begun = λ s. goes-on (c.in_err-right-in-85.ensures.begun s) (λ z g. at-tag_begun _ 0x55 c.in-85.is (either-right_begun c.in_ok-left-in-85.ensures.reads (c.in_ok-left-in-85.ensures.free refl) g));
-})
+pub patterns::read_connective-returns-in_err-right-in-85 : goal.patterns::read_connective-returns-in_err-right-in-85
+patterns::read_connective-returns-in_err-right-in-85 t c = failed _ _ _ _ c.from_residual-in_err-right-in-85.ensures.1 (tag-fails _ 0x55 c.in-85.is (either-right-fails c.in_ok-left-in-85.ensures.reads (c.in_ok-left-in-85.ensures.free refl) c.in_err-right-in-85.ensures))
 
-pub patterns::read_pat_form-returns-in_err-read_free_pat-in-86 : goal.patterns::read_pat_form-returns-in_err-read_free_pat-in-86
-patterns::read_pat_form-returns-in_err-read_free_pat-in-86 t c = failed _ _ _ _ c.from_residual-in_err-read_free_pat-in-86.ensures.1 (record {
-  wrong = at-form_wrong _ 0x56 c.in-86.is (not-body_wrong c.in_err-read_free_pat-in-86.ensures.wrong) (omega arith);
-  refuses = at-tag _ 0x56 c.in-86.is (not-body c.in_err-read_free_pat-in-86.ensures.refuses);
-  begun = λ s. goes-on (c.in_err-read_free_pat-in-86.ensures.begun s) (λ z g. at-tag_begun _ 0x56 c.in-86.is (not-body_begun g));
-})
+pub patterns::read_connective-returns-in_err-read_free_pat-in-86 : goal.patterns::read_connective-returns-in_err-read_free_pat-in-86
+patterns::read_connective-returns-in_err-read_free_pat-in-86 t c = failed _ _ _ _ c.from_residual-in_err-read_free_pat-in-86.ensures.1 (tag-fails _ 0x56 c.in-86.is (not-body-fails c.in_err-read_free_pat-in-86.ensures))
 
 pub terms::read_part-returns-in_err-digest-in-21 : goal.terms::read_part-returns-in_err-digest-in-21
 terms::read_part-returns-in_err-digest-in-21 t c = failed _ _ _ _ c.from_residual.ensures.1 (record {
@@ -798,19 +513,16 @@ patterns::read_pat_part-returns-in_err-simple-in-87 t c = failed _ _ _ _ c.from_
 pub terms::read_term-returns-then-lacks_room : goal.terms::read_term-returns-then-lacks_room
 terms::read_term-returns-then-lacks_room t c = record {
   wrong = let w = c.lacks_room.ensures.yes c.if-lacks_room.true in
-      term_blamed (bag-deep_blamed c.in_ok-count.count _ c.loop-i.invariant.read c.in_ok-count.ensures.is (omega arith) (omega (arith, c.loop-i.invariant.count)) (ap TooDeep (omega arith)) w.0 (tag-form c.in_ok-tag.ensures.is (sym c.is_form.ensures ∙ w.1)));
+      term_blamed (bag-deep_blamed c.in_ok-count.count _ c.loop-i.invariant.read c.in_ok-count.ensures.is (any-fits c.in_ok-count.ensures.most) (more-left c.loop-i.invariant.count c.loop-i-test.true) (ap TooDeep (omega arith)) w.0 (tag-form c.in_ok-tag.ensures.is (sym c.is_form.ensures ∙ w.1)));
   refuses = let w = c.lacks_room.ensures.yes c.if-lacks_room.true in
-      term-refused (bag-refused c.in_ok-count.count _ c.loop-i.invariant.read c.in_ok-count.ensures.is (omega arith) (omega (arith, c.loop-i.invariant.count)) (refuses-at c.in_ok-tag.ensures.is (deep-refused _ _ (sym c.is_form.ensures ∙ w.1) w.0)));
-  begun = λ s. record { after = c.loop-i.reader.input.now; place = omega arith; begun = term-begun (bag-none_begun c.in_ok-count.count (a_part _) c.loop-i.invariant.read c.in_ok-count.ensures.is (omega (arith, c.loop-i.invariant.count))) };
+      term-refused (bag-refused c.in_ok-count.count _ c.loop-i.invariant.read c.in_ok-count.ensures.is (any-fits c.in_ok-count.ensures.most) (more-left c.loop-i.invariant.count c.loop-i-test.true) (refuses-at c.in_ok-tag.ensures.is (deep-refused _ _ (sym c.is_form.ensures ∙ w.1) w.0)));
+  begun = λ s. record { after = c.loop-i.reader.input.now; place = omega arith; begun = term-begun (bag-none_begun c.in_ok-count.count (a_part _) c.loop-i.invariant.read c.in_ok-count.ensures.is (more-left c.loop-i.invariant.count c.loop-i-test.true)) };
 }
 
 pub terms::read_part-returns-then-is_form : goal.terms::read_part-returns-then-is_form
 terms::read_part-returns-then-is_form t c =
-    let bs = c.args.tag ∷ c.args.reader.now.input.now in
     let k = has-room c.requires (sym c.is_form.ensures ∙ c.if-is_form.true) in
-    passed _ _ _ _ c.read_form.result c.read_form.ensures
-    (λ p h. record { reads = reads-room (omega (arith, k)) h.reads; ordered = h.ordered })
-    (λ e h. record { wrong = room_wrong _ _ (omega (arith, k)) h.wrong; refuses = at-room _ _ (omega (arith, k)) h.refuses; begun = λ s. goes-on (h.begun s) (λ z g. begun-room _ _ (omega (arith, k)) g) })
+    part-at-room c.read_form.result part_tree _ _ _ _ _ _ (omega (arith, k)) c.read_form.ensures
 
 pub terms::read_part-returns-in_err-ground-in_default : goal.terms::read_part-returns-in_err-ground-in_default
 terms::read_part-returns-in_err-ground-in_default t c = failed _ _ _ _ c.from_residual-in_err-ground-in_default.ensures.1 (record {
@@ -819,31 +531,44 @@ terms::read_part-returns-in_err-ground-in_default t c = failed _ _ _ _ c.from_re
   begun = λ s. goes-on (c.in_err-ground-in_default.ensures.begun s) (λ z g. ground-begun g);
 })
 
+pub terms::read_form-returns-in-48-to-52 : goal.terms::read_form-returns-in-48-to-52
+terms::read_form-returns-in-48-to-52 t c = c.read_process.ensures
+
 pub terms::read_form-returns-in_default : goal.terms::read_form-returns-in_default
-terms::read_form-returns-in_default t c = absurd (form-tags c.args.tag c.requires
+terms::read_form-returns-in_default t c = c.read_operation.ensures
+
+pub terms::read_form-read_operation-requires : goal.terms::read_form-read_operation-requires
+terms::read_form-read_operation-requires t c = (omega arith, (c.requires, later-form c.args.tag c.requires (λ q. omega (arith, q)) (λ q. omega (arith, q)) (λ q. omega (arith, q)) (λ q. omega (arith, q)) (λ p q. omega (arith, p, q))))
+
+pub terms::read_operation-returns-in_default : goal.terms::read_operation-returns-in_default
+terms::read_operation-returns-in_default t c = absurd (form-tags c.args.tag c.requires.form
     (λ q. omega (arith, q)) (λ q. omega (arith, q)) (λ q. omega (arith, q)) (λ q. omega (arith, q)) (λ q. omega (arith, q)) (λ q. omega (arith, q))
     (λ q. omega (arith, q)) (λ q. omega (arith, q)) (λ q. omega (arith, q)) (λ q. omega (arith, q)) (λ q. omega (arith, q)) (λ q. omega (arith, q)))
 
 pub patterns::read_pat-returns-then-lacks_room : goal.patterns::read_pat-returns-then-lacks_room
 patterns::read_pat-returns-then-lacks_room t c = record {
   wrong = let w = c.lacks_room.ensures.yes c.if-lacks_room.true in
-      pat-deep_wrong _ c.in_ok-count.count c.loop-i.invariant.read c.in_ok-count.ensures.is (omega arith) (omega (arith, c.loop-i.invariant.count)) (ap TooDeep (omega arith)) w.0 (pat-tag_form c.in_ok-tag.ensures.is (sym c.is_pat_form.ensures ∙ w.1));
+      pat-deep_wrong _ c.in_ok-count.count c.loop-i.invariant.read c.in_ok-count.ensures.is (nine-fit c.in_ok-count.ensures.most) (more-left c.loop-i.invariant.count c.loop-i-test.true) (ap TooDeep (omega arith)) w.0 (pat-tag_form c.in_ok-tag.ensures.is (sym c.is_pat_form.ensures ∙ w.1));
   refuses = let w = c.lacks_room.ensures.yes c.if-lacks_room.true in
-      pat-refused _ c.in_ok-count.count c.loop-i.invariant.read c.in_ok-count.ensures.is (omega arith) (omega (arith, c.loop-i.invariant.count)) (refuses-at c.in_ok-tag.ensures.is (deep_pattern-refused _ _ (sym c.is_pat_form.ensures ∙ w.1) w.0));
-  begun = λ s. record { after = c.loop-i.reader.input.now; place = omega arith; begun = pat-tag_begun c.in_ok-count.count c.loop-i.wide c.loop-i.invariant.read c.loop-i.invariant.quiet c.in_ok-count.ensures.is (omega (arith, c.loop-i.invariant.count)) c.in_ok-count.ensures.most c.loop-i.invariant.wide c.loop-i.invariant.one };
+      pat-refused _ c.in_ok-count.count c.loop-i.invariant.read c.in_ok-count.ensures.is (nine-fit c.in_ok-count.ensures.most) (more-left c.loop-i.invariant.count c.loop-i-test.true) (refuses-at c.in_ok-tag.ensures.is (deep_pattern-refused _ _ (sym c.is_pat_form.ensures ∙ w.1) w.0));
+  begun = λ s. record { after = c.loop-i.reader.input.now; place = omega arith; begun = pat-tag_begun c.in_ok-count.count c.loop-i.wide c.loop-i.invariant.read c.loop-i.invariant.quiet c.in_ok-count.ensures.is (more-left c.loop-i.invariant.count c.loop-i-test.true) c.in_ok-count.ensures.most c.loop-i.invariant.wide c.loop-i.invariant.one };
 }
 
 pub patterns::read_pat_form-returns-in_default : goal.patterns::read_pat_form-returns-in_default
-patterns::read_pat_form-returns-in_default t c = absurd (pat_form-tags c.args.tag c.requires.form c.requires.not_closed
+patterns::read_pat_form-returns-in_default t c = c.read_connective.ensures
+
+pub patterns::read_pat_form-read_connective-requires : goal.patterns::read_pat_form-read_connective-requires
+patterns::read_pat_form-read_connective-requires t c = (omega arith, (c.requires.form, later-pat_form c.args.tag c.requires.form c.requires.not_closed (λ q. omega (arith, q)) (λ q. omega (arith, q)) (λ q. omega (arith, q)) (λ q. omega (arith, q)) (λ q. omega (arith, q)) (λ q. omega (arith, q))))
+
+pub patterns::read_connective-returns-in_default : goal.patterns::read_connective-returns-in_default
+patterns::read_connective-returns-in_default t c = absurd (pat_form-tags c.args.tag c.requires.form (λ p q. omega (arith, p, q))
     (λ q. omega (arith, q)) (λ q. omega (arith, q)) (λ q. omega (arith, q)) (λ q. omega (arith, q)) (λ q. omega (arith, q))
     (λ q. omega (arith, q)) (λ q. omega (arith, q)) (λ q. omega (arith, q)) (λ q. omega (arith, q)) (λ q. omega (arith, q)))
 
 pub patterns::read_pat_part-returns-then-is_pat_form : goal.patterns::read_pat_part-returns-then-is_pat_form
 patterns::read_pat_part-returns-then-is_pat_form t c =
     let k = has-room c.requires (sym c.is_pat_form.ensures ∙ c.if-is_pat_form.true) in
-    passed _ _ _ _ c.read_pat_form.result c.read_pat_form.ensures
-    (λ p h. record { reads = reads-room (omega (arith, k)) h.reads; ordered = h.ordered; found = h.found; free = h.free })
-    (λ e h. record { wrong = room_wrong _ _ (omega (arith, k)) h.wrong; refuses = at-room _ _ (omega (arith, k)) h.refuses; begun = λ s. goes-on (h.begun s) (λ z g. begun-room _ _ (omega (arith, k)) g) })
+    pat_part-at-room c.read_pat_form.result pat_part_tree _ _ _ _ _ _ _ _ _ (omega (arith, k)) c.read_pat_form.ensures
 
 pub patterns::read_pat_part-returns-in_err-ground-in_default : goal.patterns::read_pat_part-returns-in_err-ground-in_default
 patterns::read_pat_part-returns-in_err-ground-in_default t c = failed _ _ _ _ c.from_residual-in_err-ground-in_default.ensures.1 (record {
@@ -872,81 +597,37 @@ patterns::read_name_pat-returns-in-None t c = passed _ _ _ _ c.read_pat.result c
     (λ e h. record { wrong = name_wrong h.wrong c.in-None.ensures.none; refuses = name-refused h.refuses c.in-None.ensures.none; begun = λ s. goes-on (h.begun s) (λ z g. name-begun g) })
 
 pub terms::read_binds-returns-in_err-push : goal.terms::read_binds-returns-in_err-push
-terms::read_binds-returns-in_err-push t c = failed _ _ _ _ c.from_residual-in_err-push.ensures.1 (record {
-  wrong = no-memory;
-  refuses = memory-row;
-  begun = λ s. absurd s;
-})
+terms::read_binds-returns-in_err-push t c = failed _ _ _ _ c.from_residual-in_err-push.ensures.1 memory-row-fails
 
 pub terms::read_cases-returns-in_err-push : goal.terms::read_cases-returns-in_err-push
-terms::read_cases-returns-in_err-push t c = failed _ _ _ _ c.from_residual-in_err-push.ensures.1 (record {
-  wrong = no-memory;
-  refuses = memory-row;
-  begun = λ s. absurd s;
-})
+terms::read_cases-returns-in_err-push t c = failed _ _ _ _ c.from_residual-in_err-push.ensures.1 memory-row-fails
 
 pub patterns::read_name_pats-returns-in_err-push : goal.patterns::read_name_pats-returns-in_err-push
-patterns::read_name_pats-returns-in_err-push t c = failed _ _ _ _ c.from_residual-in_err-push.ensures.1 (record {
-  wrong = no-memory;
-  refuses = memory-row;
-  begun = λ s. absurd s;
-})
+patterns::read_name_pats-returns-in_err-push t c = failed _ _ _ _ c.from_residual-in_err-push.ensures.1 memory-row-fails
 
 pub patterns::read_pat_pairs-returns-in_err-push : goal.patterns::read_pat_pairs-returns-in_err-push
-patterns::read_pat_pairs-returns-in_err-push t c = failed _ _ _ _ c.from_residual-in_err-push.ensures.1 (record {
-  wrong = no-memory;
-  refuses = memory-row;
-  begun = λ s. absurd s;
-})
+patterns::read_pat_pairs-returns-in_err-push t c = failed _ _ _ _ c.from_residual-in_err-push.ensures.1 memory-row-fails
 
 pub patterns::read_pats-returns-in_err-push : goal.patterns::read_pats-returns-in_err-push
-patterns::read_pats-returns-in_err-push t c = failed _ _ _ _ c.from_residual-in_err-push.ensures.1 (record {
-  wrong = no-memory;
-  refuses = memory-row;
-  begun = λ s. absurd s;
-})
+patterns::read_pats-returns-in_err-push t c = failed _ _ _ _ c.from_residual-in_err-push.ensures.1 memory-row-fails
 
 pub terms::read_terms-returns-in_err-push : goal.terms::read_terms-returns-in_err-push
-terms::read_terms-returns-in_err-push t c = failed _ _ _ _ c.from_residual-in_err-push.ensures.1 (record {
-  wrong = no-memory;
-  refuses = memory-row;
-  begun = λ s. absurd s;
-})
+terms::read_terms-returns-in_err-push t c = failed _ _ _ _ c.from_residual-in_err-push.ensures.1 memory-row-fails
 
 pub terms::read_cases-returns-in_err-inner : goal.terms::read_cases-returns-in_err-inner
-terms::read_cases-returns-in_err-inner t c = failed _ _ _ _ c.from_residual-in_err-inner.ensures.1 (record {
-  wrong = no-memory;
-  refuses = memory-row;
-  begun = λ s. absurd s;
-})
+terms::read_cases-returns-in_err-inner t c = failed _ _ _ _ c.from_residual-in_err-inner.ensures.1 memory-row-fails
 
 pub terms::read_members-returns-in_err-push : goal.terms::read_members-returns-in_err-push
-terms::read_members-returns-in_err-push t c = failed _ _ _ _ c.from_residual-in_err-push.ensures.1 (record {
-  wrong = no-memory;
-  refuses = memory-bag;
-  begun = λ s. absurd s;
-})
+terms::read_members-returns-in_err-push t c = failed _ _ _ _ c.from_residual-in_err-push.ensures.1 memory-bag-fails
 
 pub terms::read_pairs-returns-in_err-push : goal.terms::read_pairs-returns-in_err-push
-terms::read_pairs-returns-in_err-push t c = failed _ _ _ _ c.from_residual-in_err-push.ensures.1 (record {
-  wrong = no-memory;
-  refuses = memory-bag;
-  begun = λ s. absurd s;
-})
+terms::read_pairs-returns-in_err-push t c = failed _ _ _ _ c.from_residual-in_err-push.ensures.1 memory-bag-fails
 
 pub patterns::read_pat-returns-in_err-push : goal.patterns::read_pat-returns-in_err-push
-patterns::read_pat-returns-in_err-push t c = failed _ _ _ _ c.from_residual-in_err-push.ensures.1 (record {
-  wrong = no-memory;
-  refuses = memory-refuses;
-  begun = λ s. absurd s;
-})
+patterns::read_pat-returns-in_err-push t c = failed _ _ _ _ c.from_residual-in_err-push.ensures.1 memory-fails
 
 pub terms::read_term-returns-in_err-push : goal.terms::read_term-returns-in_err-push
-terms::read_term-returns-in_err-push t c = failed _ _ _ _ c.from_residual-in_err-push.ensures.1 (record {
-  wrong = no-memory;
-  refuses = memory-refuses;
-  begun = λ s. absurd s;
-})
+terms::read_term-returns-in_err-push t c = failed _ _ _ _ c.from_residual-in_err-push.ensures.1 memory-fails
 
 pub patterns::read_name_pat-returns-in_ok-push-in-Some-2 : goal.patterns::read_name_pat-returns-in_ok-push-in-Some-2
 patterns::read_name_pat-returns-in_ok-push-in-Some-2 t c =
@@ -975,32 +656,32 @@ terms::read_form-returns-in_ok-read_pairs-in-35 t c = record {
   ordered = c.in_ok-read_pairs-in-35.ensures.up;
 }
 
-pub terms::read_form-returns-in_ok-args-in-48 : goal.terms::read_form-returns-in_ok-args-in-48
-terms::read_form-returns-in_ok-args-in-48 t c = record {
+pub terms::read_process-returns-in_ok-args-in-48 : goal.terms::read_process-returns-in_ok-args-in-48
+terms::read_process-returns-in_ok-args-in-48 t c = record {
   reads = send-form _ _ c.in-48.is c.in_ok-persistent-in-48.ensures.is c.in_ok-channel-in-48.ensures c.in_ok-args-in-48.ensures.reads;
   ordered = tt;
 }
 
-pub terms::read_form-returns-in_ok-body-in-52 : goal.terms::read_form-returns-in_ok-body-in-52
-terms::read_form-returns-in_ok-body-in-52 t c = record {
-  reads = bundle-form _ _ c.in-52.is c.in_ok-rights-in-52.ensures.is c.in_ok-body-in-52.ensures;
+pub terms::read_process-returns-in_ok-body-in_default : goal.terms::read_process-returns-in_ok-body-in_default
+terms::read_process-returns-in_ok-body-in_default t c = record {
+  reads = bundle-form _ _ (omega arith) c.in_ok-rights-in_default.ensures.is c.in_ok-body-in_default.ensures;
   ordered = tt;
 }
 
-pub terms::read_form-returns-in_ok-arg-in-64 : goal.terms::read_form-returns-in_ok-arg-in-64
-terms::read_form-returns-in_ok-arg-in-64 t c = record {
+pub terms::read_operation-returns-in_ok-arg-in-64 : goal.terms::read_operation-returns-in_ok-arg-in-64
+terms::read_operation-returns-in_ok-arg-in-64 t c = record {
   reads = unary-form _ _ c.in-64.is c.in_ok-op-in-64.ensures.is c.in_ok-arg-in-64.ensures;
   ordered = tt;
 }
 
-pub terms::read_form-returns-in_ok-right-in-65 : goal.terms::read_form-returns-in_ok-right-in-65
-terms::read_form-returns-in_ok-right-in-65 t c = record {
+pub terms::read_operation-returns-in_ok-right-in-65 : goal.terms::read_operation-returns-in_ok-right-in-65
+terms::read_operation-returns-in_ok-right-in-65 t c = record {
   reads = binary-form _ _ c.in-65.is c.in_ok-op-in-65.ensures.is c.in_ok-left-in-65.ensures c.in_ok-right-in-65.ensures;
   ordered = tt;
 }
 
-pub terms::read_form-returns-in_ok-args-in-66 : goal.terms::read_form-returns-in_ok-args-in-66
-terms::read_form-returns-in_ok-args-in-66 t c = record {
+pub terms::read_operation-returns-in_ok-args-in-66 : goal.terms::read_operation-returns-in_ok-args-in-66
+terms::read_operation-returns-in_ok-args-in-66 t c = record {
   reads = method-form _ _ c.in-66.is c.in_ok-name-in-66.ensures.is c.in_ok-name-in-66.ensures.form c.in_ok-target-in-66.ensures c.in_ok-args-in-66.ensures.reads;
   ordered = tt;
 }
@@ -1053,32 +734,32 @@ patterns::read_pat_form-returns-in_ok-body-in-52 t c = record {
   free = λ q. one-free (c.in_ok-body-in-52.ensures.free refl);
 }
 
-pub patterns::read_pat_form-returns-in_ok-read_term-in-83 : goal.patterns::read_pat_form-returns-in_ok-read_term-in-83
-patterns::read_pat_form-returns-in_ok-read_term-in-83 t c = record {
+pub patterns::read_connective-returns-in_ok-read_term-in-83 : goal.patterns::read_connective-returns-in_ok-read_term-in-83
+patterns::read_connective-returns-in_ok-read_term-in-83 t c = record {
   reads = same-form _ c.in-83.is c.in_ok-read_term-in-83.ensures;
   ordered = tt;
   found = bound-free _ [] refl;
   free = λ q. refl;
 }
 
-pub patterns::read_pat_form-returns-in_ok-right-in-84 : goal.patterns::read_pat_form-returns-in_ok-right-in-84
-patterns::read_pat_form-returns-in_ok-right-in-84 t c = record {
+pub patterns::read_connective-returns-in_ok-right-in-84 : goal.patterns::read_connective-returns-in_ok-right-in-84
+patterns::read_connective-returns-in_ok-right-in-84 t c = record {
   reads = both-form _ c.in-84.is c.in_ok-left-in-84.ensures.reads c.in_ok-right-in-84.ensures.reads;
   ordered = tt;
   found = bound-two _ _ _ c.in_ok-left-in-84.ensures.found c.in_ok-right-in-84.ensures.found;
   free = λ q. free-two c.in_ok-left-in-84.left c.in_ok-right-in-84.right (c.in_ok-left-in-84.ensures.free q) (c.in_ok-right-in-84.ensures.free q);
 }
 
-pub patterns::read_pat_form-returns-in_ok-right-in-85 : goal.patterns::read_pat_form-returns-in_ok-right-in-85
-patterns::read_pat_form-returns-in_ok-right-in-85 t c = record {
+pub patterns::read_connective-returns-in_ok-right-in-85 : goal.patterns::read_connective-returns-in_ok-right-in-85
+patterns::read_connective-returns-in_ok-right-in-85 t c = record {
   reads = either-form c.args.tag c.in-85.is c.in_ok-left-in-85.ensures.reads c.in_ok-right-in-85.ensures.reads (c.in_ok-left-in-85.ensures.free refl) (c.in_ok-right-in-85.ensures.free refl);
   ordered = tt;
   found = bound-free _ _ (free-two c.in_ok-left-in-85.left c.in_ok-right-in-85.right (c.in_ok-left-in-85.ensures.free refl) (c.in_ok-right-in-85.ensures.free refl));
   free = λ q. free-two c.in_ok-left-in-85.left c.in_ok-right-in-85.right (c.in_ok-left-in-85.ensures.free refl) (c.in_ok-right-in-85.ensures.free refl);
 }
 
-pub patterns::read_pat_form-returns-in_ok-read_free_pat-in-86 : goal.patterns::read_pat_form-returns-in_ok-read_free_pat-in-86
-patterns::read_pat_form-returns-in_ok-read_free_pat-in-86 t c = record {
+pub patterns::read_connective-returns-in_ok-read_free_pat-in-86 : goal.patterns::read_connective-returns-in_ok-read_free_pat-in-86
+patterns::read_connective-returns-in_ok-read_free_pat-in-86 t c = record {
   reads = not-form c.args.tag c.in-86.is c.in_ok-read_free_pat-in-86.ensures.reads (c.in_ok-read_free_pat-in-86.ensures.free refl);
   ordered = tt;
   found = bound-free _ _ (one-free (c.in_ok-read_free_pat-in-86.ensures.free refl));
@@ -1154,17 +835,17 @@ patterns::read_free_pat-returns t c = passed _ _ _ _ c.read_pat.result c.read_pa
     (λ t h. record { reads = h.reads; found = sym (h.free refl); free = h.free })
     (λ e h. h)
 
-pub terms::read_form-returns-in_err-inner-in-49 : goal.terms::read_form-returns-in_err-inner-in-49
-terms::read_form-returns-in_err-inner-in-49 t c = failed _ _ _ _ c.from_residual-in_err-inner-in-49.ensures.1 (record { wrong = no-memory; refuses = memory-refuses; begun = λ s. absurd s })
+pub terms::read_process-returns-in_err-inner-in-49 : goal.terms::read_process-returns-in_err-inner-in-49
+terms::read_process-returns-in_err-inner-in-49 t c = failed _ _ _ _ c.from_residual-in_err-inner-in-49.ensures.1 memory-fails
 
-pub terms::read_form-returns-in_err-inner-in-50 : goal.terms::read_form-returns-in_err-inner-in-50
-terms::read_form-returns-in_err-inner-in-50 t c = failed _ _ _ _ c.from_residual-in_err-inner-in-50.ensures.1 (record { wrong = no-memory; refuses = memory-refuses; begun = λ s. absurd s })
+pub terms::read_process-returns-in_err-inner-in-50 : goal.terms::read_process-returns-in_err-inner-in-50
+terms::read_process-returns-in_err-inner-in-50 t c = failed _ _ _ _ c.from_residual-in_err-inner-in-50.ensures.1 memory-fails
 
 pub patterns::read_pat_part-returns-in_err-push-in-80 : goal.patterns::read_pat_part-returns-in_err-push-in-80
-patterns::read_pat_part-returns-in_err-push-in-80 t c = failed _ _ _ _ c.from_residual.ensures.1 (record { wrong = no-memory; refuses = memory-refuses; begun = λ s. absurd s })
+patterns::read_pat_part-returns-in_err-push-in-80 t c = failed _ _ _ _ c.from_residual.ensures.1 memory-fails
 
 pub patterns::read_name_pat-returns-in_err-push-in-Some : goal.patterns::read_name_pat-returns-in_err-push-in-Some
-patterns::read_name_pat-returns-in_err-push-in-Some t c = failed _ _ _ _ c.from_residual.ensures.1 (record { wrong = no-memory; refuses = memory-refuses; begun = λ s. absurd s })
+patterns::read_name_pat-returns-in_err-push-in-Some t c = failed _ _ _ _ c.from_residual.ensures.1 memory-fails
 
 pub patterns::read_name_pat-returns-in_err-push-in-Some-2 : goal.patterns::read_name_pat-returns-in_err-push-in-Some-2
-patterns::read_name_pat-returns-in_err-push-in-Some-2 t c = failed _ _ _ _ c.from_residual-in_err-push-in-Some-2.ensures.1 (record { wrong = no-memory; refuses = memory-refuses; begun = λ s. absurd s })
+patterns::read_name_pat-returns-in_err-push-in-Some-2 t c = failed _ _ _ _ c.from_residual-in_err-push-in-Some-2.ensures.1 memory-fails

@@ -53,10 +53,19 @@ abbrev pub decreases-terms::read_binds : goal.decreases-terms::read_binds
 decreases-terms::read_binds l = 8 * l.room + 6
 
 abbrev pub decreases-terms::read_form : goal.decreases-terms::read_form
-decreases-terms::read_form l = 8 * l.room + 7
+decreases-terms::read_form l = 8 * l.room + 8
+
+abbrev pub decreases-terms::read_process : goal.decreases-terms::read_process
+decreases-terms::read_process l = 8 * l.room + 7
+
+abbrev pub decreases-terms::read_operation : goal.decreases-terms::read_operation
+decreases-terms::read_operation l = 8 * l.room + 7
 
 abbrev pub decreases-patterns::read_pat_form : goal.decreases-patterns::read_pat_form
-decreases-patterns::read_pat_form l = 8 * l.room + 7
+decreases-patterns::read_pat_form l = 8 * l.room + 8
+
+abbrev pub decreases-patterns::read_connective : goal.decreases-patterns::read_connective
+decreases-patterns::read_connective l = 8 * l.room + 7
 
 abbrev pub invariant-terms::read_terms-loop-i : goal.invariant-terms::read_terms-loop-i
 invariant-terms::read_terms-loop-i l = record {
@@ -110,7 +119,7 @@ invariant-patterns::read_pat-loop-i l = record {
 
 abbrev pub invariant-patterns::read_pats-loop-i : goal.invariant-patterns::read_pats-loop-i
 invariant-patterns::read_pats-loop-i l = record {
-  quiet : l.binds ≡ false → bound_all (trees (map (λ t. t) l.pats.items)) ≡ [];
+  quiet : l.row.binds ≡ false → bound_all (trees (map (λ t. t) l.pats.items)) ≡ [];
   read : Row (λ t. t) pat (scope_of l.scope.items) l.room l.pats.items l.initial.reader.input.now l.reader.input.now;
   count : length l.pats.items ≡ l._i;
   binding : senses_of l.found.items ≡ senses_of l.initial.found.items ++ bound_all (trees l.pats.items);

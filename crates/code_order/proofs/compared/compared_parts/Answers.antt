@@ -6,7 +6,7 @@ use Rattle.std.specs.List.Sorted.{IsSortedBy, IsStableBy}
 use Rattle.calculus.specs.Code.{code}
 use Rattle.calculus.specs.Normal.{ascending}
 use Rattle.rho_term.specs.Parts.{part_tree}
-use Rattle.code_order.proofs.Unique.{low, ascends-stably}
+use Rattle.keyed_order.proofs.Unique.{low, ascends-stably}
 use Rattle.code_order.proofs.compared.compared_parts.Goals as goal
 
 pub returns-clause-ascend : goal.returns-clause-ascend

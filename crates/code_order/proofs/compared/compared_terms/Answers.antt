@@ -5,7 +5,7 @@ use Rattle.std.proofs.lemmas.List.Sorted.{answers_always, ranks_by}
 use Rattle.std.specs.List.Sorted.{IsSortedBy, IsStableBy}
 use Rattle.calculus.specs.Code.{code}
 use Rattle.calculus.specs.Normal.{ascending}
-use Rattle.code_order.proofs.Unique.{low, ascends-stably}
+use Rattle.keyed_order.proofs.Unique.{low, ascends-stably}
 use Rattle.code_order.proofs.compared.compared_terms.Goals as goal
 
 pub returns : goal.returns

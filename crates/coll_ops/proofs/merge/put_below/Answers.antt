@@ -3,7 +3,7 @@ use Rattle.calculus.specs.Code.{code}
 use Rattle.value_ops.specs.Answers.{IsOperand}
 use Rattle.coll_ops.specs.Merging.{low, put_last as puts_last, put_all}
 use Rattle.coll_ops.proofs.Comparing.{not_less, read}
-use Rattle.coll_ops.proofs.Finding.{low-here, low-past, high-here, high-past}
+use Rattle.coll_ops.proofs.Finding.{low-here, low-none, low-past, high-here, high-none, high-past}
 use Rattle.coll_ops.proofs.merge.put_below.Goals as goal
 
 pub returns-then-is_ge-clause-items : goal.returns-then-is_ge-clause-items
@@ -35,3 +35,13 @@ loop-next-preserved g c =
       high-past k q xs i x c.loop-next-test.true c.index-items-next.is (sym b ∙ c.if-is_ge.false) ∙ c.loop-next.invariant.1,
       c.in_ok-put_last.ensures.keys,
     )
+
+pub returns-clause-items : goal.returns-clause-items
+returns-clause-items g c =
+    let k = λ (x : g.row.T.Denot). code (g.T.Keyed.key_tree x) in
+    low-none k (code c.args.key.now) c.args.items.now c.loop-next.all.items c.loop-next.next c.loop-next-test.false ∙ c.loop-next.invariant.0
+
+pub returns-clause-rest : goal.returns-clause-rest
+returns-clause-rest g c =
+    let k = λ (x : g.row.T.Denot). code (g.T.Keyed.key_tree x) in
+    high-none k (code c.args.key.now) c.args.items.now c.loop-next.next c.loop-next-test.false ∙ c.loop-next.invariant.1

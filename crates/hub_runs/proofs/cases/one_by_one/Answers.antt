@@ -9,13 +9,13 @@ pub work_and_stop-requires : goal.work_and_stop-requires
 work_and_stop-requires g c =
     let i = c.loop-seat.invariant in let s = c.in-Some.ensures.steps in
     let h = (all_tail (λ t. IsIdle c.args.hub.now.table.shared.table_id t.state) _ _ _ s.0 i.each).0 in
-    let e = c.may_go.ensures in
+    let e = c.may_go-may_go.ensures in
     ((e.hub ∙ h.0.0, e.held ∙ h.0.1), e.charged.1, ap hand e.works ∙ h.2)
 
 pub loop-seat-preserved : goal.loop-seat-preserved
 loop-seat-preserved g c =
     let i = c.loop-seat.invariant in let s = c.in-Some.ensures.steps in
-    let p = c.in_ok-push-2.ensures.items in
+    let p = c.in_ok-push.ensures.items in
     let seat = c.work_and_stop.result in
     record {
       count = let a = ap length p in let b = length-append c.loop-seat.done.items (seat ∷ []) in let d = ap length s.0 in let e = i.count in omega arith;

@@ -1,5 +1,5 @@
 use Rattle.std.proofs.Common.{ℕ, sym, subst}
-use Rattle.known_work.specs.Rooms.{is_known_in, IsLeast}
+use Rattle.known_work.specs.Rooms.{IsLeastRoom}
 use Rattle.known_work.proofs.Knowing.{least-room}
 use Rattle.known_work.proofs.known.known_work.Goals as goal
 
@@ -7,4 +7,4 @@ pub invariant_of-result : goal.invariant_of-result
 invariant_of-result c =
     let p = c.args.prices.now in
     let s = c.args.seed.now in
-    record { room = subst (λ t. (n : ℕ) × IsLeast (is_known_in p c.args.cap t s) n) (sym c.of.ensures) (least-room p c.args.cap c.args.term.now s c.requires.closed) }
+    record { room = subst (λ t. (n : ℕ) × IsLeastRoom p c.args.cap t s n) (sym c.of.ensures) (least-room p c.args.cap c.args.term.now s c.requires.closed) }

@@ -8,6 +8,7 @@ use Rattle.scope.specs.Binding.{variables, inside, uses_more, any_uses_more}
 use Rattle.open_processes.specs.Pairs.{pat_pair}
 use Rattle.scope_variables.proofs.Insides.{inside-two, bound-two-if}
 use Rattle.open_processes.proofs.Meanings.{proc-pairs, pat-pairs, rest-uses}
+use Rattle.open_processes.proofs.Leaving.{is-err, not-false}
 use Rattle.open_processes.proofs.open.+uses.Goals as goal
 
 pub bind_uses_more-returns-clause-bound : goal.bind_uses_more-returns-clause-bound
@@ -81,3 +82,363 @@ uses_more-returns-in-Map-clause-answer t c =
     let w : proc_written c.args.p.now ≡ form_of (in_process dict) (map pair_of (map (λ q. (proc_written q.0, proc_written q.1)) c.in-Map.ps.items)) = search (rules, the_lemmas) in
     let x = w ∙ ap (λ z. form_of (in_process dict) z) (proc-pairs c.in-Map.ps.items) in
     subst (λ z. IfOk c.any_pair_uses_more.result (λ y. y ≡ uses_more z c.args.scope.now)) (sym x) c.any_pair_uses_more.ensures.answer
+
+pub any_bind_uses_more-returns-in_err-bind_uses_more-clause-answer : goal.any_bind_uses_more-returns-in_err-bind_uses_more-clause-answer
+any_bind_uses_more-returns-in_err-bind_uses_more-clause-answer t c = rw (is-err _ _ c.from_residual.ensures.1) tt
+
+pub any_bind_uses_more-returns-in_err-bind_uses_more-clause-scope : goal.any_bind_uses_more-returns-in_err-bind_uses_more-clause-scope
+any_bind_uses_more-returns-in_err-bind_uses_more-clause-scope t c = rw (is-err _ _ c.from_residual.ensures.1) tt
+
+pub any_bind_uses_more-returns-in_err-bind_uses_more-clause-bound : goal.any_bind_uses_more-returns-in_err-bind_uses_more-clause-bound
+any_bind_uses_more-returns-in_err-bind_uses_more-clause-bound t c = rw (is-err _ _ c.from_residual.ensures.1) tt
+
+pub any_bind_uses_more-returns-then-branch-clause-scope : goal.any_bind_uses_more-returns-then-branch-clause-scope
+any_bind_uses_more-returns-then-branch-clause-scope t c = not-false
+
+pub any_bind_uses_more-returns-then-branch-clause-bound : goal.any_bind_uses_more-returns-then-branch-clause-bound
+any_bind_uses_more-returns-then-branch-clause-bound t c = not-false
+
+pub any_case_uses_more-returns-in_err-case_uses_more-clause-answer : goal.any_case_uses_more-returns-in_err-case_uses_more-clause-answer
+any_case_uses_more-returns-in_err-case_uses_more-clause-answer t c = rw (is-err _ _ c.from_residual.ensures.1) tt
+
+pub any_case_uses_more-returns-in_err-case_uses_more-clause-scope : goal.any_case_uses_more-returns-in_err-case_uses_more-clause-scope
+any_case_uses_more-returns-in_err-case_uses_more-clause-scope t c = rw (is-err _ _ c.from_residual.ensures.1) tt
+
+pub any_case_uses_more-returns-then-branch-clause-scope : goal.any_case_uses_more-returns-then-branch-clause-scope
+any_case_uses_more-returns-then-branch-clause-scope t c = not-false
+
+pub any_name_pattern_uses_more-returns-in_err-name_pattern_uses_more-clause-answer : goal.any_name_pattern_uses_more-returns-in_err-name_pattern_uses_more-clause-answer
+any_name_pattern_uses_more-returns-in_err-name_pattern_uses_more-clause-answer t c = rw (is-err _ _ c.from_residual.ensures.1) tt
+
+pub any_name_pattern_uses_more-returns-in_err-name_pattern_uses_more-clause-scope : goal.any_name_pattern_uses_more-returns-in_err-name_pattern_uses_more-clause-scope
+any_name_pattern_uses_more-returns-in_err-name_pattern_uses_more-clause-scope t c = rw (is-err _ _ c.from_residual.ensures.1) tt
+
+pub any_name_pattern_uses_more-returns-in_err-name_pattern_uses_more-clause-bound : goal.any_name_pattern_uses_more-returns-in_err-name_pattern_uses_more-clause-bound
+any_name_pattern_uses_more-returns-in_err-name_pattern_uses_more-clause-bound t c = rw (is-err _ _ c.from_residual.ensures.1) tt
+
+pub any_name_pattern_uses_more-returns-then-branch-clause-scope : goal.any_name_pattern_uses_more-returns-then-branch-clause-scope
+any_name_pattern_uses_more-returns-then-branch-clause-scope t c = not-false
+
+pub any_name_pattern_uses_more-returns-then-branch-clause-bound : goal.any_name_pattern_uses_more-returns-then-branch-clause-bound
+any_name_pattern_uses_more-returns-then-branch-clause-bound t c = not-false
+
+pub any_pair_uses_more-returns-in_err-uses_more-clause-answer : goal.any_pair_uses_more-returns-in_err-uses_more-clause-answer
+any_pair_uses_more-returns-in_err-uses_more-clause-answer t c = rw (is-err _ _ c.from_residual.ensures.1) tt
+
+pub any_pair_uses_more-returns-in_err-uses_more-clause-scope : goal.any_pair_uses_more-returns-in_err-uses_more-clause-scope
+any_pair_uses_more-returns-in_err-uses_more-clause-scope t c = rw (is-err _ _ c.from_residual.ensures.1) tt
+
+pub any_pair_uses_more-returns-then-branch-clause-scope : goal.any_pair_uses_more-returns-then-branch-clause-scope
+any_pair_uses_more-returns-then-branch-clause-scope t c = not-false
+
+pub any_pair_uses_more-returns-in_err-uses_more-2-clause-answer : goal.any_pair_uses_more-returns-in_err-uses_more-2-clause-answer
+any_pair_uses_more-returns-in_err-uses_more-2-clause-answer t c = rw (is-err _ _ c.from_residual-in_err-uses_more-2.ensures.1) tt
+
+pub any_pair_uses_more-returns-in_err-uses_more-2-clause-scope : goal.any_pair_uses_more-returns-in_err-uses_more-2-clause-scope
+any_pair_uses_more-returns-in_err-uses_more-2-clause-scope t c = rw (is-err _ _ c.from_residual-in_err-uses_more-2.ensures.1) tt
+
+pub any_pair_uses_more-returns-then-branch-2-clause-scope : goal.any_pair_uses_more-returns-then-branch-2-clause-scope
+any_pair_uses_more-returns-then-branch-2-clause-scope t c = not-false
+
+pub any_pattern_pair_uses_more-returns-in_err-pattern_uses_more-clause-answer : goal.any_pattern_pair_uses_more-returns-in_err-pattern_uses_more-clause-answer
+any_pattern_pair_uses_more-returns-in_err-pattern_uses_more-clause-answer t c = rw (is-err _ _ c.from_residual.ensures.1) tt
+
+pub any_pattern_pair_uses_more-returns-in_err-pattern_uses_more-clause-scope : goal.any_pattern_pair_uses_more-returns-in_err-pattern_uses_more-clause-scope
+any_pattern_pair_uses_more-returns-in_err-pattern_uses_more-clause-scope t c = rw (is-err _ _ c.from_residual.ensures.1) tt
+
+pub any_pattern_pair_uses_more-returns-in_err-pattern_uses_more-clause-bound : goal.any_pattern_pair_uses_more-returns-in_err-pattern_uses_more-clause-bound
+any_pattern_pair_uses_more-returns-in_err-pattern_uses_more-clause-bound t c = rw (is-err _ _ c.from_residual.ensures.1) tt
+
+pub any_pattern_pair_uses_more-returns-then-branch-clause-scope : goal.any_pattern_pair_uses_more-returns-then-branch-clause-scope
+any_pattern_pair_uses_more-returns-then-branch-clause-scope t c = not-false
+
+pub any_pattern_pair_uses_more-returns-then-branch-clause-bound : goal.any_pattern_pair_uses_more-returns-then-branch-clause-bound
+any_pattern_pair_uses_more-returns-then-branch-clause-bound t c = not-false
+
+pub any_pattern_pair_uses_more-returns-in_err-pattern_uses_more-2-clause-answer : goal.any_pattern_pair_uses_more-returns-in_err-pattern_uses_more-2-clause-answer
+any_pattern_pair_uses_more-returns-in_err-pattern_uses_more-2-clause-answer t c = rw (is-err _ _ c.from_residual-in_err-pattern_uses_more-2.ensures.1) tt
+
+pub any_pattern_pair_uses_more-returns-in_err-pattern_uses_more-2-clause-scope : goal.any_pattern_pair_uses_more-returns-in_err-pattern_uses_more-2-clause-scope
+any_pattern_pair_uses_more-returns-in_err-pattern_uses_more-2-clause-scope t c = rw (is-err _ _ c.from_residual-in_err-pattern_uses_more-2.ensures.1) tt
+
+pub any_pattern_pair_uses_more-returns-in_err-pattern_uses_more-2-clause-bound : goal.any_pattern_pair_uses_more-returns-in_err-pattern_uses_more-2-clause-bound
+any_pattern_pair_uses_more-returns-in_err-pattern_uses_more-2-clause-bound t c = rw (is-err _ _ c.from_residual-in_err-pattern_uses_more-2.ensures.1) tt
+
+pub any_pattern_pair_uses_more-returns-then-branch-2-clause-scope : goal.any_pattern_pair_uses_more-returns-then-branch-2-clause-scope
+any_pattern_pair_uses_more-returns-then-branch-2-clause-scope t c = not-false
+
+pub any_pattern_pair_uses_more-returns-then-branch-2-clause-bound : goal.any_pattern_pair_uses_more-returns-then-branch-2-clause-bound
+any_pattern_pair_uses_more-returns-then-branch-2-clause-bound t c = not-false
+
+pub any_pattern_uses_more-returns-in_err-pattern_uses_more-clause-answer : goal.any_pattern_uses_more-returns-in_err-pattern_uses_more-clause-answer
+any_pattern_uses_more-returns-in_err-pattern_uses_more-clause-answer t c = rw (is-err _ _ c.from_residual.ensures.1) tt
+
+pub any_pattern_uses_more-returns-in_err-pattern_uses_more-clause-scope : goal.any_pattern_uses_more-returns-in_err-pattern_uses_more-clause-scope
+any_pattern_uses_more-returns-in_err-pattern_uses_more-clause-scope t c = rw (is-err _ _ c.from_residual.ensures.1) tt
+
+pub any_pattern_uses_more-returns-in_err-pattern_uses_more-clause-bound : goal.any_pattern_uses_more-returns-in_err-pattern_uses_more-clause-bound
+any_pattern_uses_more-returns-in_err-pattern_uses_more-clause-bound t c = rw (is-err _ _ c.from_residual.ensures.1) tt
+
+pub any_pattern_uses_more-returns-then-branch-clause-scope : goal.any_pattern_uses_more-returns-then-branch-clause-scope
+any_pattern_uses_more-returns-then-branch-clause-scope t c = not-false
+
+pub any_pattern_uses_more-returns-then-branch-clause-bound : goal.any_pattern_uses_more-returns-then-branch-clause-bound
+any_pattern_uses_more-returns-then-branch-clause-bound t c = not-false
+
+pub any_uses_more-returns-in_err-uses_more-clause-answer : goal.any_uses_more-returns-in_err-uses_more-clause-answer
+any_uses_more-returns-in_err-uses_more-clause-answer t c = rw (is-err _ _ c.from_residual.ensures.1) tt
+
+pub any_uses_more-returns-in_err-uses_more-clause-scope : goal.any_uses_more-returns-in_err-uses_more-clause-scope
+any_uses_more-returns-in_err-uses_more-clause-scope t c = rw (is-err _ _ c.from_residual.ensures.1) tt
+
+pub any_uses_more-returns-then-branch-clause-scope : goal.any_uses_more-returns-then-branch-clause-scope
+any_uses_more-returns-then-branch-clause-scope t c = not-false
+
+pub bind_uses_more-returns-in_err-name_uses_more-clause-answer : goal.bind_uses_more-returns-in_err-name_uses_more-clause-answer
+bind_uses_more-returns-in_err-name_uses_more-clause-answer t c = rw (is-err _ _ c.from_residual.ensures.1) tt
+
+pub bind_uses_more-returns-in_err-name_uses_more-clause-scope : goal.bind_uses_more-returns-in_err-name_uses_more-clause-scope
+bind_uses_more-returns-in_err-name_uses_more-clause-scope t c = rw (is-err _ _ c.from_residual.ensures.1) tt
+
+pub bind_uses_more-returns-in_err-name_uses_more-clause-bound : goal.bind_uses_more-returns-in_err-name_uses_more-clause-bound
+bind_uses_more-returns-in_err-name_uses_more-clause-bound t c = rw (is-err _ _ c.from_residual.ensures.1) tt
+
+pub bind_uses_more-returns-then-branch-clause-scope : goal.bind_uses_more-returns-then-branch-clause-scope
+bind_uses_more-returns-then-branch-clause-scope t c = not-false
+
+pub bind_uses_more-returns-then-branch-clause-bound : goal.bind_uses_more-returns-then-branch-clause-bound
+bind_uses_more-returns-then-branch-clause-bound t c = not-false
+
+pub bind_uses_more-returns-in_err-any_name_pattern_uses_more-clause-answer : goal.bind_uses_more-returns-in_err-any_name_pattern_uses_more-clause-answer
+bind_uses_more-returns-in_err-any_name_pattern_uses_more-clause-answer t c = rw (is-err _ _ c.from_residual-in_err-any_name_pattern_uses_more.ensures.1) tt
+
+pub bind_uses_more-returns-in_err-any_name_pattern_uses_more-clause-scope : goal.bind_uses_more-returns-in_err-any_name_pattern_uses_more-clause-scope
+bind_uses_more-returns-in_err-any_name_pattern_uses_more-clause-scope t c = rw (is-err _ _ c.from_residual-in_err-any_name_pattern_uses_more.ensures.1) tt
+
+pub bind_uses_more-returns-in_err-any_name_pattern_uses_more-clause-bound : goal.bind_uses_more-returns-in_err-any_name_pattern_uses_more-clause-bound
+bind_uses_more-returns-in_err-any_name_pattern_uses_more-clause-bound t c = rw (is-err _ _ c.from_residual-in_err-any_name_pattern_uses_more.ensures.1) tt
+
+pub bind_uses_more-returns-then-branch-2-clause-scope : goal.bind_uses_more-returns-then-branch-2-clause-scope
+bind_uses_more-returns-then-branch-2-clause-scope t c = not-false
+
+pub bind_uses_more-returns-then-branch-2-clause-bound : goal.bind_uses_more-returns-then-branch-2-clause-bound
+bind_uses_more-returns-then-branch-2-clause-bound t c = not-false
+
+pub bind_uses_more-returns-in_err-bind_rest-clause-answer : goal.bind_uses_more-returns-in_err-bind_rest-clause-answer
+bind_uses_more-returns-in_err-bind_rest-clause-answer t c = rw (is-err _ _ c.from_residual-in_err-bind_rest.ensures.1) tt
+
+pub bind_uses_more-returns-in_err-bind_rest-clause-scope : goal.bind_uses_more-returns-in_err-bind_rest-clause-scope
+bind_uses_more-returns-in_err-bind_rest-clause-scope t c = rw (is-err _ _ c.from_residual-in_err-bind_rest.ensures.1) tt
+
+pub bind_uses_more-returns-in_err-bind_rest-clause-bound : goal.bind_uses_more-returns-in_err-bind_rest-clause-bound
+bind_uses_more-returns-in_err-bind_rest-clause-bound t c = rw (is-err _ _ c.from_residual-in_err-bind_rest.ensures.1) tt
+
+pub case_uses_more-returns-in_err-pattern_uses_more-clause-answer : goal.case_uses_more-returns-in_err-pattern_uses_more-clause-answer
+case_uses_more-returns-in_err-pattern_uses_more-clause-answer t c = rw (is-err _ _ c.from_residual.ensures.1) tt
+
+pub case_uses_more-returns-in_err-pattern_uses_more-clause-scope : goal.case_uses_more-returns-in_err-pattern_uses_more-clause-scope
+case_uses_more-returns-in_err-pattern_uses_more-clause-scope t c = rw (is-err _ _ c.from_residual.ensures.1) tt
+
+pub case_uses_more-returns-then-branch-clause-scope : goal.case_uses_more-returns-then-branch-clause-scope
+case_uses_more-returns-then-branch-clause-scope t c = not-false
+
+pub name_pattern_uses_more-returns-in_err-bind-in-Var-clause-answer : goal.name_pattern_uses_more-returns-in_err-bind-in-Var-clause-answer
+name_pattern_uses_more-returns-in_err-bind-in-Var-clause-answer t c = rw (is-err _ _ c.from_residual.ensures.1) tt
+
+pub name_pattern_uses_more-returns-in_err-bind-in-Var-clause-scope : goal.name_pattern_uses_more-returns-in_err-bind-in-Var-clause-scope
+name_pattern_uses_more-returns-in_err-bind-in-Var-clause-scope t c = rw (is-err _ _ c.from_residual.ensures.1) tt
+
+pub name_pattern_uses_more-returns-in_err-bind-in-Var-clause-bound : goal.name_pattern_uses_more-returns-in_err-bind-in-Var-clause-bound
+name_pattern_uses_more-returns-in_err-bind-in-Var-clause-bound t c = rw (is-err _ _ c.from_residual.ensures.1) tt
+
+pub pattern_uses_more-returns-in_err-bind-in-Var-clause-answer : goal.pattern_uses_more-returns-in_err-bind-in-Var-clause-answer
+pattern_uses_more-returns-in_err-bind-in-Var-clause-answer t c = rw (is-err _ _ c.from_residual.ensures.1) tt
+
+pub pattern_uses_more-returns-in_err-bind-in-Var-clause-scope : goal.pattern_uses_more-returns-in_err-bind-in-Var-clause-scope
+pattern_uses_more-returns-in_err-bind-in-Var-clause-scope t c = rw (is-err _ _ c.from_residual.ensures.1) tt
+
+pub pattern_uses_more-returns-in_err-bind-in-Var-clause-bound : goal.pattern_uses_more-returns-in_err-bind-in-Var-clause-bound
+pattern_uses_more-returns-in_err-bind-in-Var-clause-bound t c = rw (is-err _ _ c.from_residual.ensures.1) tt
+
+pub pattern_uses_more-returns-in_err-pattern_uses_more-in-Both-clause-answer : goal.pattern_uses_more-returns-in_err-pattern_uses_more-in-Both-clause-answer
+pattern_uses_more-returns-in_err-pattern_uses_more-in-Both-clause-answer t c = rw (is-err _ _ c.from_residual-in_err-pattern_uses_more-in-Both.ensures.1) tt
+
+pub pattern_uses_more-returns-in_err-pattern_uses_more-in-Both-clause-scope : goal.pattern_uses_more-returns-in_err-pattern_uses_more-in-Both-clause-scope
+pattern_uses_more-returns-in_err-pattern_uses_more-in-Both-clause-scope t c = rw (is-err _ _ c.from_residual-in_err-pattern_uses_more-in-Both.ensures.1) tt
+
+pub pattern_uses_more-returns-in_err-pattern_uses_more-in-Both-clause-bound : goal.pattern_uses_more-returns-in_err-pattern_uses_more-in-Both-clause-bound
+pattern_uses_more-returns-in_err-pattern_uses_more-in-Both-clause-bound t c = rw (is-err _ _ c.from_residual-in_err-pattern_uses_more-in-Both.ensures.1) tt
+
+pub pattern_uses_more-returns-then-branch-clause-scope : goal.pattern_uses_more-returns-then-branch-clause-scope
+pattern_uses_more-returns-then-branch-clause-scope t c = not-false
+
+pub pattern_uses_more-returns-then-branch-clause-bound : goal.pattern_uses_more-returns-then-branch-clause-bound
+pattern_uses_more-returns-then-branch-clause-bound t c = not-false
+
+pub pattern_uses_more-returns-in_err-pattern_uses_more-in-Either-clause-answer : goal.pattern_uses_more-returns-in_err-pattern_uses_more-in-Either-clause-answer
+pattern_uses_more-returns-in_err-pattern_uses_more-in-Either-clause-answer t c = rw (is-err _ _ c.from_residual-in_err-pattern_uses_more-in-Either.ensures.1) tt
+
+pub pattern_uses_more-returns-in_err-pattern_uses_more-in-Either-clause-scope : goal.pattern_uses_more-returns-in_err-pattern_uses_more-in-Either-clause-scope
+pattern_uses_more-returns-in_err-pattern_uses_more-in-Either-clause-scope t c = rw (is-err _ _ c.from_residual-in_err-pattern_uses_more-in-Either.ensures.1) tt
+
+pub pattern_uses_more-returns-in_err-pattern_uses_more-in-Either-clause-bound : goal.pattern_uses_more-returns-in_err-pattern_uses_more-in-Either-clause-bound
+pattern_uses_more-returns-in_err-pattern_uses_more-in-Either-clause-bound t c = rw (is-err _ _ c.from_residual-in_err-pattern_uses_more-in-Either.ensures.1) tt
+
+pub pattern_uses_more-returns-then-branch-2-clause-scope : goal.pattern_uses_more-returns-then-branch-2-clause-scope
+pattern_uses_more-returns-then-branch-2-clause-scope t c = not-false
+
+pub pattern_uses_more-returns-then-branch-2-clause-bound : goal.pattern_uses_more-returns-then-branch-2-clause-bound
+pattern_uses_more-returns-then-branch-2-clause-bound t c = not-false
+
+pub pattern_uses_more-returns-in_err-any_pattern_uses_more-in-List-clause-answer : goal.pattern_uses_more-returns-in_err-any_pattern_uses_more-in-List-clause-answer
+pattern_uses_more-returns-in_err-any_pattern_uses_more-in-List-clause-answer t c = rw (is-err _ _ c.from_residual-in_err-any_pattern_uses_more-in-List.ensures.1) tt
+
+pub pattern_uses_more-returns-in_err-any_pattern_uses_more-in-List-clause-scope : goal.pattern_uses_more-returns-in_err-any_pattern_uses_more-in-List-clause-scope
+pattern_uses_more-returns-in_err-any_pattern_uses_more-in-List-clause-scope t c = rw (is-err _ _ c.from_residual-in_err-any_pattern_uses_more-in-List.ensures.1) tt
+
+pub pattern_uses_more-returns-in_err-any_pattern_uses_more-in-List-clause-bound : goal.pattern_uses_more-returns-in_err-any_pattern_uses_more-in-List-clause-bound
+pattern_uses_more-returns-in_err-any_pattern_uses_more-in-List-clause-bound t c = rw (is-err _ _ c.from_residual-in_err-any_pattern_uses_more-in-List.ensures.1) tt
+
+pub pattern_uses_more-returns-then-branch-3-clause-scope : goal.pattern_uses_more-returns-then-branch-3-clause-scope
+pattern_uses_more-returns-then-branch-3-clause-scope t c = not-false
+
+pub pattern_uses_more-returns-then-branch-3-clause-bound : goal.pattern_uses_more-returns-then-branch-3-clause-bound
+pattern_uses_more-returns-then-branch-3-clause-bound t c = not-false
+
+pub pattern_uses_more-returns-in_err-bind_rest-in-List-clause-answer : goal.pattern_uses_more-returns-in_err-bind_rest-in-List-clause-answer
+pattern_uses_more-returns-in_err-bind_rest-in-List-clause-answer t c = rw (is-err _ _ c.from_residual-in_err-bind_rest-in-List.ensures.1) tt
+
+pub pattern_uses_more-returns-in_err-bind_rest-in-List-clause-scope : goal.pattern_uses_more-returns-in_err-bind_rest-in-List-clause-scope
+pattern_uses_more-returns-in_err-bind_rest-in-List-clause-scope t c = rw (is-err _ _ c.from_residual-in_err-bind_rest-in-List.ensures.1) tt
+
+pub pattern_uses_more-returns-in_err-bind_rest-in-List-clause-bound : goal.pattern_uses_more-returns-in_err-bind_rest-in-List-clause-bound
+pattern_uses_more-returns-in_err-bind_rest-in-List-clause-bound t c = rw (is-err _ _ c.from_residual-in_err-bind_rest-in-List.ensures.1) tt
+
+pub pattern_uses_more-returns-in_err-any_pattern_uses_more-in-Set-clause-answer : goal.pattern_uses_more-returns-in_err-any_pattern_uses_more-in-Set-clause-answer
+pattern_uses_more-returns-in_err-any_pattern_uses_more-in-Set-clause-answer t c = rw (is-err _ _ c.from_residual-in_err-any_pattern_uses_more-in-Set.ensures.1) tt
+
+pub pattern_uses_more-returns-in_err-any_pattern_uses_more-in-Set-clause-scope : goal.pattern_uses_more-returns-in_err-any_pattern_uses_more-in-Set-clause-scope
+pattern_uses_more-returns-in_err-any_pattern_uses_more-in-Set-clause-scope t c = rw (is-err _ _ c.from_residual-in_err-any_pattern_uses_more-in-Set.ensures.1) tt
+
+pub pattern_uses_more-returns-in_err-any_pattern_uses_more-in-Set-clause-bound : goal.pattern_uses_more-returns-in_err-any_pattern_uses_more-in-Set-clause-bound
+pattern_uses_more-returns-in_err-any_pattern_uses_more-in-Set-clause-bound t c = rw (is-err _ _ c.from_residual-in_err-any_pattern_uses_more-in-Set.ensures.1) tt
+
+pub pattern_uses_more-returns-then-branch-4-clause-scope : goal.pattern_uses_more-returns-then-branch-4-clause-scope
+pattern_uses_more-returns-then-branch-4-clause-scope t c = not-false
+
+pub pattern_uses_more-returns-then-branch-4-clause-bound : goal.pattern_uses_more-returns-then-branch-4-clause-bound
+pattern_uses_more-returns-then-branch-4-clause-bound t c = not-false
+
+pub pattern_uses_more-returns-in_err-bind_rest-in-Set-clause-answer : goal.pattern_uses_more-returns-in_err-bind_rest-in-Set-clause-answer
+pattern_uses_more-returns-in_err-bind_rest-in-Set-clause-answer t c = rw (is-err _ _ c.from_residual-in_err-bind_rest-in-Set.ensures.1) tt
+
+pub pattern_uses_more-returns-in_err-bind_rest-in-Set-clause-scope : goal.pattern_uses_more-returns-in_err-bind_rest-in-Set-clause-scope
+pattern_uses_more-returns-in_err-bind_rest-in-Set-clause-scope t c = rw (is-err _ _ c.from_residual-in_err-bind_rest-in-Set.ensures.1) tt
+
+pub pattern_uses_more-returns-in_err-bind_rest-in-Set-clause-bound : goal.pattern_uses_more-returns-in_err-bind_rest-in-Set-clause-bound
+pattern_uses_more-returns-in_err-bind_rest-in-Set-clause-bound t c = rw (is-err _ _ c.from_residual-in_err-bind_rest-in-Set.ensures.1) tt
+
+pub pattern_uses_more-returns-in_err-any_pattern_pair_uses_more-in-Map-clause-answer : goal.pattern_uses_more-returns-in_err-any_pattern_pair_uses_more-in-Map-clause-answer
+pattern_uses_more-returns-in_err-any_pattern_pair_uses_more-in-Map-clause-answer t c = rw (is-err _ _ c.from_residual-in_err-any_pattern_pair_uses_more-in-Map.ensures.1) tt
+
+pub pattern_uses_more-returns-in_err-any_pattern_pair_uses_more-in-Map-clause-scope : goal.pattern_uses_more-returns-in_err-any_pattern_pair_uses_more-in-Map-clause-scope
+pattern_uses_more-returns-in_err-any_pattern_pair_uses_more-in-Map-clause-scope t c = rw (is-err _ _ c.from_residual-in_err-any_pattern_pair_uses_more-in-Map.ensures.1) tt
+
+pub pattern_uses_more-returns-in_err-any_pattern_pair_uses_more-in-Map-clause-bound : goal.pattern_uses_more-returns-in_err-any_pattern_pair_uses_more-in-Map-clause-bound
+pattern_uses_more-returns-in_err-any_pattern_pair_uses_more-in-Map-clause-bound t c = rw (is-err _ _ c.from_residual-in_err-any_pattern_pair_uses_more-in-Map.ensures.1) tt
+
+pub pattern_uses_more-returns-then-branch-5-clause-scope : goal.pattern_uses_more-returns-then-branch-5-clause-scope
+pattern_uses_more-returns-then-branch-5-clause-scope t c = not-false
+
+pub pattern_uses_more-returns-then-branch-5-clause-bound : goal.pattern_uses_more-returns-then-branch-5-clause-bound
+pattern_uses_more-returns-then-branch-5-clause-bound t c = not-false
+
+pub pattern_uses_more-returns-in_err-bind_rest-in-Map-clause-answer : goal.pattern_uses_more-returns-in_err-bind_rest-in-Map-clause-answer
+pattern_uses_more-returns-in_err-bind_rest-in-Map-clause-answer t c = rw (is-err _ _ c.from_residual-in_err-bind_rest-in-Map.ensures.1) tt
+
+pub pattern_uses_more-returns-in_err-bind_rest-in-Map-clause-scope : goal.pattern_uses_more-returns-in_err-bind_rest-in-Map-clause-scope
+pattern_uses_more-returns-in_err-bind_rest-in-Map-clause-scope t c = rw (is-err _ _ c.from_residual-in_err-bind_rest-in-Map.ensures.1) tt
+
+pub pattern_uses_more-returns-in_err-bind_rest-in-Map-clause-bound : goal.pattern_uses_more-returns-in_err-bind_rest-in-Map-clause-bound
+pattern_uses_more-returns-in_err-bind_rest-in-Map-clause-bound t c = rw (is-err _ _ c.from_residual-in_err-bind_rest-in-Map.ensures.1) tt
+
+pub pattern_uses_more-returns-in_err-name_pattern_uses_more-in-Send-clause-answer : goal.pattern_uses_more-returns-in_err-name_pattern_uses_more-in-Send-clause-answer
+pattern_uses_more-returns-in_err-name_pattern_uses_more-in-Send-clause-answer t c = rw (is-err _ _ c.from_residual-in_err-name_pattern_uses_more-in-Send.ensures.1) tt
+
+pub pattern_uses_more-returns-in_err-name_pattern_uses_more-in-Send-clause-scope : goal.pattern_uses_more-returns-in_err-name_pattern_uses_more-in-Send-clause-scope
+pattern_uses_more-returns-in_err-name_pattern_uses_more-in-Send-clause-scope t c = rw (is-err _ _ c.from_residual-in_err-name_pattern_uses_more-in-Send.ensures.1) tt
+
+pub pattern_uses_more-returns-in_err-name_pattern_uses_more-in-Send-clause-bound : goal.pattern_uses_more-returns-in_err-name_pattern_uses_more-in-Send-clause-bound
+pattern_uses_more-returns-in_err-name_pattern_uses_more-in-Send-clause-bound t c = rw (is-err _ _ c.from_residual-in_err-name_pattern_uses_more-in-Send.ensures.1) tt
+
+pub pattern_uses_more-returns-then-branch-6-clause-scope : goal.pattern_uses_more-returns-then-branch-6-clause-scope
+pattern_uses_more-returns-then-branch-6-clause-scope t c = not-false
+
+pub pattern_uses_more-returns-then-branch-6-clause-bound : goal.pattern_uses_more-returns-then-branch-6-clause-bound
+pattern_uses_more-returns-then-branch-6-clause-bound t c = not-false
+
+pub uses_more-returns-in_err-name_uses_more-in-Send-clause-answer : goal.uses_more-returns-in_err-name_uses_more-in-Send-clause-answer
+uses_more-returns-in_err-name_uses_more-in-Send-clause-answer t c = rw (is-err _ _ c.from_residual.ensures.1) tt
+
+pub uses_more-returns-in_err-name_uses_more-in-Send-clause-scope : goal.uses_more-returns-in_err-name_uses_more-in-Send-clause-scope
+uses_more-returns-in_err-name_uses_more-in-Send-clause-scope t c = rw (is-err _ _ c.from_residual.ensures.1) tt
+
+pub uses_more-returns-then-branch-clause-scope : goal.uses_more-returns-then-branch-clause-scope
+uses_more-returns-then-branch-clause-scope t c = not-false
+
+pub uses_more-returns-in_err-any_bind_uses_more-in-Receive-clause-answer : goal.uses_more-returns-in_err-any_bind_uses_more-in-Receive-clause-answer
+uses_more-returns-in_err-any_bind_uses_more-in-Receive-clause-answer t c = rw (is-err _ _ c.from_residual-in_err-any_bind_uses_more-in-Receive.ensures.1) tt
+
+pub uses_more-returns-in_err-any_bind_uses_more-in-Receive-clause-scope : goal.uses_more-returns-in_err-any_bind_uses_more-in-Receive-clause-scope
+uses_more-returns-in_err-any_bind_uses_more-in-Receive-clause-scope t c = rw (is-err _ _ c.from_residual-in_err-any_bind_uses_more-in-Receive.ensures.1) tt
+
+pub uses_more-returns-then-branch-2-clause-scope : goal.uses_more-returns-then-branch-2-clause-scope
+uses_more-returns-then-branch-2-clause-scope t c = not-false
+
+pub uses_more-returns-in_err-bound-in-New-clause-answer : goal.uses_more-returns-in_err-bound-in-New-clause-answer
+uses_more-returns-in_err-bound-in-New-clause-answer t c = rw (is-err _ _ c.from_residual-in_err-bound-in-New.ensures.1) tt
+
+pub uses_more-returns-in_err-bound-in-New-clause-scope : goal.uses_more-returns-in_err-bound-in-New-clause-scope
+uses_more-returns-in_err-bound-in-New-clause-scope t c = rw (is-err _ _ c.from_residual-in_err-bound-in-New.ensures.1) tt
+
+pub uses_more-returns-in_err-uses_more-in-Match-clause-answer : goal.uses_more-returns-in_err-uses_more-in-Match-clause-answer
+uses_more-returns-in_err-uses_more-in-Match-clause-answer t c = rw (is-err _ _ c.from_residual-in_err-uses_more-in-Match.ensures.1) tt
+
+pub uses_more-returns-in_err-uses_more-in-Match-clause-scope : goal.uses_more-returns-in_err-uses_more-in-Match-clause-scope
+uses_more-returns-in_err-uses_more-in-Match-clause-scope t c = rw (is-err _ _ c.from_residual-in_err-uses_more-in-Match.ensures.1) tt
+
+pub uses_more-returns-then-branch-3-clause-scope : goal.uses_more-returns-then-branch-3-clause-scope
+uses_more-returns-then-branch-3-clause-scope t c = not-false
+
+pub uses_more-returns-in_err-uses_more-in-Binary-clause-answer : goal.uses_more-returns-in_err-uses_more-in-Binary-clause-answer
+uses_more-returns-in_err-uses_more-in-Binary-clause-answer t c = rw (is-err _ _ c.from_residual-in_err-uses_more-in-Binary.ensures.1) tt
+
+pub uses_more-returns-in_err-uses_more-in-Binary-clause-scope : goal.uses_more-returns-in_err-uses_more-in-Binary-clause-scope
+uses_more-returns-in_err-uses_more-in-Binary-clause-scope t c = rw (is-err _ _ c.from_residual-in_err-uses_more-in-Binary.ensures.1) tt
+
+pub uses_more-returns-then-branch-4-clause-scope : goal.uses_more-returns-then-branch-4-clause-scope
+uses_more-returns-then-branch-4-clause-scope t c = not-false
+
+pub uses_more-returns-in_err-uses_more-in-Method-clause-answer : goal.uses_more-returns-in_err-uses_more-in-Method-clause-answer
+uses_more-returns-in_err-uses_more-in-Method-clause-answer t c = rw (is-err _ _ c.from_residual-in_err-uses_more-in-Method.ensures.1) tt
+
+pub uses_more-returns-in_err-uses_more-in-Method-clause-scope : goal.uses_more-returns-in_err-uses_more-in-Method-clause-scope
+uses_more-returns-in_err-uses_more-in-Method-clause-scope t c = rw (is-err _ _ c.from_residual-in_err-uses_more-in-Method.ensures.1) tt
+
+pub uses_more-returns-then-branch-5-clause-scope : goal.uses_more-returns-then-branch-5-clause-scope
+uses_more-returns-then-branch-5-clause-scope t c = not-false
+
+pub uses_more_within-returns-in_err-enter-clause-answer : goal.uses_more_within-returns-in_err-enter-clause-answer
+uses_more_within-returns-in_err-enter-clause-answer t c = rw (is-err _ _ c.from_residual.ensures.1) tt
+
+pub uses_more_within-returns-in_err-enter-clause-scope : goal.uses_more_within-returns-in_err-enter-clause-scope
+uses_more_within-returns-in_err-enter-clause-scope t c = rw (is-err _ _ c.from_residual.ensures.1) tt
+
+pub uses_more_within-returns-in_err-uses_more-clause-answer : goal.uses_more_within-returns-in_err-uses_more-clause-answer
+uses_more_within-returns-in_err-uses_more-clause-answer t c = rw (is-err _ _ c.from_residual-in_err-uses_more.ensures.1) tt
+
+pub uses_more_within-returns-in_err-uses_more-clause-scope : goal.uses_more_within-returns-in_err-uses_more-clause-scope
+uses_more_within-returns-in_err-uses_more-clause-scope t c = rw (is-err _ _ c.from_residual-in_err-uses_more.ensures.1) tt
+
+pub uses_more_within-returns-then-branch-clause-scope : goal.uses_more_within-returns-then-branch-clause-scope
+uses_more_within-returns-then-branch-clause-scope t c = not-false

@@ -5,7 +5,7 @@ use Rattle.replay_shards.specs.Hands.{all_shown, parts_of}
 use Rattle.replay_shards.specs.Ready.{LacksOne}
 use Rattle.replay_shards.specs.Taken.{bytes_of}
 use Rattle.replay_shards.proofs.Lacking.{lacks-at}
-use Rattle.replay_shards.proofs.Filing.{same-id}
+use Rattle.replay_rows.proofs.Filing.{same-id}
 use Rattle.replay_shards.proofs.early.is_early.Goals as goal
 
 pub returns-else-not-is_receiver : goal.returns-else-not-is_receiver

@@ -1,7 +1,7 @@
 use Rattle.std.proofs.Common.{◌≡◌, ◌-◌, List, sym, ap, ◌∙◌, take, drop, length}
 use Rattle.std.specs.Prelude.{Some, None, option_map, option_copied}
 use Rattle.replay_space.proofs.Turned.{first-of}
-use Rattle.replay_shards.specs.Rows.{find_seen, part_of, seen_row}
+use Rattle.replay_rows.specs.Rows.{find_seen, part_of, seen_row}
 use Rattle.replay_shards.specs.Hands.{Slot, all_shown, parts_of, shown_at}
 use Rattle.replay_shards.proofs.Placing.{found-first-of, found-second-of}
 use Rattle.replay_shards.proofs.finding.+find_in.Goals as goal

@@ -2,7 +2,7 @@ use Rattle.std.proofs.Common.{◌≡◌, List, sym, ap, subst, ◌∙◌, map as
 use Rattle.std.specs.Prelude.{Some, None, option_map, option_copied}
 use Rattle.calculus.specs.Rows.{Row}
 use Rattle.replay_space.specs.declared.seen.Seen.{Seen}
-use Rattle.replay_shards.specs.Rows.{filed_rows, find_seen, part_of, seen_row}
+use Rattle.replay_rows.specs.Rows.{filed_rows, find_seen, part_of, seen_row}
 use Rattle.replay_shards.specs.Hands.{Slot, IsSlotFiled, shown_at}
 use Rattle.replay_shards.proofs.Placing.{found-first-of, found-second-of}
 use Rattle.replay_shards.proofs.finding.find_at.Goals as goal

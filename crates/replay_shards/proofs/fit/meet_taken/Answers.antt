@@ -15,7 +15,7 @@ use Rattle.replay_shards.proofs.fit.meet_taken.Goals as goal
 
 pub returns : goal.returns
 returns c ss r ds rig steps h same are =
-    let shown = all_shown (parts_of c.args.slots.now) in
+    let shown = all_shown (parts_of c.args.attempt.now.slots.now) in
     let o = c.in_ok-found.field-0 in
     let f = c.in-Some.found in
     let told = subst (λ (z : Option Found). MatchOption z (met (c.args.receiver.now ∷ c.args.sends.now) ≡ None) (IsMeeting c.args.receiver.now c.args.sends.now)) c.in-Some.is c.in_ok-found.ensures in
@@ -26,5 +26,5 @@ returns c ss r ds rig steps h same are =
       all = c.in_ok-all.all.items;
       but = subst (λ (x : List ℕ). AreBut ss shown x c.in_ok-all.all.items c.but_early-next.result.items) (found-id c.args.wanted.now.cont.0 shown r h.0)
           (subst (λ (us : List Step). AreBut us shown c.args.wanted.now.cont.0 c.in_ok-all.all.items c.but_early-next.result.items) (sym steps) c.but_early-next.ensures);
-      next = subst (λ (ids : List Digest). AreNext ss (bytes_of ids) (r ∷ ds) c.in_ok-all.all.items) c.as_slice.ensures.value (c.in_ok-all.ensures ss r ds rig (h.0, subst (λ (ids : List Digest). AreFound (all_shown (parts_of c.args.slots.now)) (bytes_of ids) ds) (sym c.as_slice-2.ensures.value) h.1));
+      next = subst (λ (ids : List Digest). AreNext ss (bytes_of ids) (r ∷ ds) c.in_ok-all.all.items) c.as_slice.ensures.value (c.in_ok-all.ensures ss r ds rig (h.0, subst (λ (ids : List Digest). AreFound (all_shown (parts_of c.args.attempt.now.slots.now)) (bytes_of ids) ds) (sym c.as_slice-2.ensures.value) h.1));
     }

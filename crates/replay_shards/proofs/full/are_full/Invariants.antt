@@ -2,7 +2,7 @@ use Rattle.std.proofs.Common.{◌≡◌, drop, map as each}
 use Rattle.std.specs.List.{list_any}
 use Rattle.calculus.specs.declared.ids.Digest.{Digest}
 use Rattle.replay_shards.specs.Hands.{all_shown, parts_of}
-use Rattle.replay_shards.specs.Rows.{is_full}
+use Rattle.replay_rows.specs.Rows.{is_full}
 use Rattle.replay_shards.proofs.full.are_full.Given as goal
 
 abbrev pub invariant-loop-id : goal.invariant-loop-id

@@ -1,6 +1,6 @@
 use Rattle.std.proofs.Common.{◌≡◌, drop, map as each}
 use Rattle.std.specs.List.{list_any}
-use Rattle.replay_shards.specs.Rows.{is_full, seen_row}
+use Rattle.replay_rows.specs.Rows.{is_full, seen_row}
 use Rattle.replay_shards.proofs.full.is_full_list.Given as goal
 
 abbrev pub invariant-loop-seen : goal.invariant-loop-seen

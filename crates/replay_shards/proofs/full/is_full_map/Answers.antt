@@ -2,7 +2,7 @@ use Rattle.std.proofs.Common.{List, sym, ap, ◌∙◌, map as each}
 use Rattle.std.specs.List.{list_any}
 use Rattle.calculus.specs.Rows.{Row}
 use Rattle.replay_space.specs.declared.seen.Seen.{Seen}
-use Rattle.replay_shards.specs.Rows.{is_full, seen_row}
+use Rattle.replay_rows.specs.Rows.{is_full, seen_row}
 use Rattle.replay_shards.proofs.Fullness.{full-absent, full-found}
 use Rattle.replay_shards.proofs.full.is_full_map.Goals as goal
 

@@ -6,20 +6,20 @@ use Rattle.replay_scene.specs.Spaces.{SeenRow}
 use Rattle.replay_shards.specs.Hands.{all_shown, parts_of}
 use Rattle.replay_shards.specs.Ready.{if_any, AreNext, IsUseTry}
 use Rattle.replay_shards.specs.declared.ready.Try.{Try}
-use Rattle.replay_shards.specs.Rows.{seen_row}
+use Rattle.replay_rows.specs.Rows.{seen_row}
 use Rattle.replay_shards.specs.Taken.{bytes_of}
 use Rattle.replay_shards.proofs.Trying.{found-id, stays-out, one-next}
 use Rattle.replay_shards.proofs.next.add_next.Goals as goal
 
 pub returns-then-is_among : goal.returns-then-is_among
 returns-then-is_among c ss q rig found =
-    let x = found-id c.args.id.now.0 (all_shown (parts_of c.args.slots.now)) q found in
+    let x = found-id c.args.id.now.0 (all_shown (parts_of c.args.attempt.now.slots.now)) q found in
     let gone = bytes_of c.args.gone.now in
     record { more = []; are = sym (append-nil c.args.next.now.items); next = stays-out ss gone q (ap (λ y. is_one_of y gone) (sym x) ∙ sym c.is_among.ensures ∙ c.if-is_among.true) }
 
 pub returns-in_ok-push-in-Some-use_try : goal.returns-in_ok-push-in-Some-use_try
 returns-in_ok-push-in-Some-use_try c ss q rig found =
-    let x = found-id c.args.id.now.0 (all_shown (parts_of c.args.slots.now)) q found in
+    let x = found-id c.args.id.now.0 (all_shown (parts_of c.args.attempt.now.slots.now)) q found in
     let gone = bytes_of c.args.gone.now in
     let seen = c.in-Some.seen.now in
     let one : Some (seen_row seen) ≡ Some q = sym (ap (λ o. option_map seen_row (option_copied o)) c.in-Some.is) ∙ c.find_in.ensures ∙ found in

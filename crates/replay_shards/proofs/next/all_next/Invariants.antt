@@ -9,4 +9,4 @@ use Rattle.replay_shards.proofs.next.all_next.Given as goal
 
 abbrev pub invariant-loop-id : goal.invariant-loop-id
 invariant-loop-id l =
-    (ss : List Step) (r : SeenRow) (ds : List SeenRow) → IsRigOf ss l.rig → AreFound (all_shown (parts_of l.slots)) (l.first.0 ∷ bytes_of l.others) (r ∷ ds) → AreNext ss (bytes_of l.gone) (r ∷ take l.id-index ds) l.next.items
+    (ss : List Step) (r : SeenRow) (ds : List SeenRow) → IsRigOf ss l.attempt.rig.now → AreFound (all_shown (parts_of l.attempt.slots.now)) (l.first.0 ∷ bytes_of l.others) (r ∷ ds) → AreNext ss (bytes_of l.gone) (r ∷ take l.id-index ds) l.next.items

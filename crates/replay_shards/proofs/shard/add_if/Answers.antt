@@ -2,7 +2,7 @@ use Rattle.std.proofs.Common.{◌∷◌, ◌++◌, [], sym, ap, ◌∙◌, map a
 use Rattle.std.proofs.lemmas.List.{map-append}
 use Rattle.calculus.specs.Rows.{Row}
 use Rattle.replay_scene.specs.Spaces.{standing_row}
-use Rattle.replay_shards.specs.Rows.{seen_row}
+use Rattle.replay_rows.specs.Rows.{seen_row}
 use Rattle.replay_shards.proofs.Receiving.{not-added, is-added}
 use Rattle.replay_shards.proofs.shard.add_if.Goals as goal
 

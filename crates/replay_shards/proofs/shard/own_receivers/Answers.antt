@@ -6,7 +6,7 @@ use Rattle.calculus.specs.Storing.{IsStorable}
 use Rattle.storable_row_laws.proofs.Staying.{built_in_receivers_are_storable}
 use Rattle.replay_scene.specs.Spaces.{seen_in, standing_row}
 use Rattle.replay_space.specs.declared.seen.Seen.{Seen}
-use Rattle.replay_shards.specs.Rows.{seen_row}
+use Rattle.replay_rows.specs.Rows.{seen_row}
 use Rattle.replay_shards.proofs.Receiving.{all-storable, built-more}
 use Rattle.replay_shards.proofs.shard.own_receivers.Goals as goal
 

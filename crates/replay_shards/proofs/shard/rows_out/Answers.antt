@@ -2,8 +2,8 @@ use Rattle.std.proofs.Common.{◌++◌, List, ap, ◌∙◌, map as each}
 use Rattle.calculus.specs.Rows.{Row}
 use Rattle.replay_scene.specs.Spaces.{bare}
 use Rattle.replay_space.specs.declared.seen.Seen.{Seen}
-use Rattle.replay_shards.specs.Filing.{Filed}
-use Rattle.replay_shards.specs.Rows.{filed_rows, seen_row}
+use Rattle.replay_rows.specs.Filing.{Filed}
+use Rattle.replay_rows.specs.Rows.{filed_rows, seen_row}
 use Rattle.replay_shards.proofs.Moving.{all-came, bare-more}
 use Rattle.replay_shards.proofs.shard.rows_out.Goals as goal
 

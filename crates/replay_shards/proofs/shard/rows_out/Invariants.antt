@@ -1,6 +1,6 @@
 use Rattle.std.proofs.Common.{◌≡◌}
 use Rattle.replay_scene.specs.Spaces.{bare}
-use Rattle.replay_shards.specs.Rows.{filed_rows}
+use Rattle.replay_rows.specs.Rows.{filed_rows}
 use Rattle.replay_shards.proofs.shard.rows_out.Given as goal
 
 abbrev pub invariant-loop-list : goal.invariant-loop-list

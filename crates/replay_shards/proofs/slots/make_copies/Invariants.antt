@@ -1,7 +1,7 @@
 use Rattle.std.proofs.Common.{◌≡◌, ◌<◌, ℕ, length, cond, get_or}
 use Rattle.std.specs.Prelude.{Some, None}
-use Rattle.replay_shards.specs.Bits.{has_bit}
-use Rattle.replay_shards.specs.Rows.{arrived_seen}
+use Rattle.replay_rows.specs.Bits.{has_bit}
+use Rattle.replay_rows.specs.Rows.{arrived_seen}
 use Rattle.replay_shards.proofs.slots.make_copies.Given as goal
 
 abbrev pub invariant-loop-number : goal.invariant-loop-number

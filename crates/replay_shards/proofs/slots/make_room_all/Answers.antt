@@ -1,5 +1,5 @@
 use Rattle.std.proofs.Common.{◌<◌, ◌+◌, arith, length}
-use Rattle.replay_shards.specs.Bits.{has_bit}
+use Rattle.replay_rows.specs.Bits.{has_bit}
 use Rattle.replay_shards.proofs.Placing.{only-same, same-further, same-all, filed-all}
 use Rattle.replay_shards.proofs.slots.make_room_all.Goals as goal
 

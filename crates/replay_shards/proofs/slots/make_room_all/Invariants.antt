@@ -1,5 +1,5 @@
 use Rattle.std.specs.Prelude.{None}
-use Rattle.replay_shards.specs.Bits.{has_bit}
+use Rattle.replay_rows.specs.Bits.{has_bit}
 use Rattle.replay_shards.proofs.Stepping.{UpTo}
 use Rattle.replay_shards.proofs.Placing.{Roomed}
 use Rattle.replay_shards.proofs.slots.make_room_all.Given as goal

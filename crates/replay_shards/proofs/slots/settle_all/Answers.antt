@@ -4,9 +4,9 @@ use Rattle.calculus.specs.declared.ids.Digest.{Digest}
 use Rattle.event_log.specs.View.{step_of}
 use Rattle.replay_scene.specs.Spaces.{Part, IsIn}
 use Rattle.replay_scene.proofs.Basics.{has, hold}
-use Rattle.replay_shards.specs.Rows.{part_of, settled_part}
+use Rattle.replay_rows.specs.Rows.{part_of, settled_part}
 use Rattle.replay_shards.specs.Hands.{IsSlotFiled, parts_of, all_shown, shown_at}
-use Rattle.replay_shards.proofs.Settling.{same-at}
+use Rattle.replay_rows.proofs.Settling.{same-at}
 use Rattle.replay_shards.proofs.Placing.{filed-at, part-at, shown-in, mapped-parts, all-settled-filed}
 use Rattle.replay_shards.proofs.slots.settle_all.Goals as goal
 

@@ -3,7 +3,7 @@ use Rattle.std.specs.Prelude.{None, option_map}
 use Rattle.calculus.specs.declared.ids.Digest.{Digest}
 use Rattle.event_log.specs.View.{step_of}
 use Rattle.replay_shards.specs.Hands.{IsSlotFiled}
-use Rattle.replay_shards.specs.Rows.{part_of, settled_part}
+use Rattle.replay_rows.specs.Rows.{part_of, settled_part}
 use Rattle.replay_shards.proofs.Stepping.{UpTo}
 use Rattle.replay_shards.proofs.slots.settle_all.Given as goal
 

@@ -8,7 +8,8 @@ use Rattle.rho_eval.proofs.operation.operate_two.Goals as goal
 
 pub returns : goal.returns
 returns c =
+    let b = c.args.budget in
     let l = c.args.left.now in let r = c.args.right.now in
     let a = binary_answer c.args.op l r in
     let e = c.in_ok-price.ensures (bytes_in l + bytes_in r) (omega (arith, c.saturating_add-bytes.ensures, c.code_len.ensures, c.code_len-2.ensures)) in
-    told (λ q. q.price) (λ q. q.value) c.args.prices.now c.args.cap c.args.price c.in_ok-price.price (l ∷ r ∷ []) a c.answered.result (omega (arith, e.0)) (c.answered.ensures a c.on_two-answer.ensures)
+    told (λ q. q.price) (λ q. q.value) b.prices.now b.cap b.price c.in_ok-price.price (l ∷ r ∷ []) a c.answered.result (omega (arith, e.0)) (c.answered.ensures a c.on_two-answer.ensures)

@@ -5,7 +5,7 @@ use Rattle.grammar.specs.declared.dialect.Dialect.TheVariants.{Tutorial}
 use Rattle.grammar.specs.Descent.{Descends, fault, runs_last}
 use Rattle.token_cursor.specs.Meaning.{most_height, plain_tokens, view}
 use Rattle.token_cursor.specs.Reading.{of_proc}
-use Rattle.rho_parser.proofs.Wholes.{at_most, whole, unfinished, stuck, deep, not_deep, same}
+use Rattle.rho_parser.proofs.Wholes.{at_most, none_found, refused_as, whole, unfinished, stuck, deep, not_deep, same}
 use Rattle.rho_parser.proofs.whole.parse.Goals as goal
 
 pub returns-then-ended-clause-found : goal.returns-then-ended-clause-found
@@ -20,7 +20,10 @@ returns-then-ended-clause-only c =
     λ p h l s. same c.args.tokens.now (proc_written part.value) p part.height h f s
 
 pub returns-else-ended-clause-refused : goal.returns-else-ended-clause-refused
-returns-else-ended-clause-refused c = unfinished c.args.tokens.now c.par.new.self.cursor.rest.now (of_proc c.in-Ok.part) (at_most c.most_height.ensures (runs_last c.in-Ok.ensures.reads)) (sym c.ended.ensures ∙ c.if-ended.false) c.place-at.result c.place-at.ensures
+returns-else-ended-clause-refused c = refused_as c.args.tokens.now _ _ c.refuse.ensures (unfinished c.args.tokens.now c.par.new.self.cursor.rest.now (of_proc c.in-Ok.part) (at_most c.most_height.ensures (runs_last c.in-Ok.ensures.reads)) (sym c.ended.ensures ∙ c.if-ended.false) c.place-at.result c.place-at.ensures)
+
+pub returns-else-ended-clause-found : goal.returns-else-ended-clause-found
+returns-else-ended-clause-found c = none_found _ _ _ c.refuse.ensures
 
 pub returns-else-ended-clause-only : goal.returns-else-ended-clause-only
 returns-else-ended-clause-only c =

@@ -1,6 +1,6 @@
 use Rattle.std.proofs.Common.{◌≡◌, ◌≤◌, ◌++◌, ◌+◌, length, drop, codes}
 use Rattle.calculus.specs.Printed.{separated, declared_texts}
-use Rattle.rho_printer.specs.Texts.{separated_from, HasRoom}
+use Rattle.rho_printer.specs.Texts.{separated_from}
 use Rattle.rho_printer.proofs.parts.put_declared.Given as goal
 
 abbrev pub invariant-loop-i : goal.invariant-loop-i

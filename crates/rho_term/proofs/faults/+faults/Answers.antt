@@ -1,8 +1,10 @@
-use Rattle.std.proofs.Common.{arith, ap, map, ◌≤◌}
+use Rattle.std.proofs.Common.{◌≡◌, ◌<◌, arith, ap, map, ◌≤◌, length, get_or, rules}
+use Rattle.calculus.specs.Form.{pat, name_pat, pat_part, name_part}
 use Rattle.calculus.specs.Tree.{weight, weights, trees}
 use Rattle.rho_term.specs.Parts.{pat_part_tree, pair_tree, bind_tree, case_tree}
 use Rattle.rho_term.proofs.Trees.{weight-at, tree-at}
-use Rattle.rho_term.proofs.Faulting.{count-trees}
+use Rattle.rho_term.proofs.Measuring.{normal-step}
+use Rattle.rho_term.proofs.Faulting.{count-trees, faults-step}
 use Rattle.rho_term.proofs.faults.+faults.Goals as goal
 
 pub pat_faults-pat_part_faults-requires : goal.pat_faults-pat_part_faults-requires
@@ -50,3 +52,23 @@ part_faults-returns-in-Tuple-clause-faults t c = rw c.in-Tuple.is (omega (arith,
 
 pub pat_part_faults-returns-in-Tuple-clause-faults : goal.pat_part_faults-returns-in-Tuple-clause-faults
 pat_part_faults-returns-in-Tuple-clause-faults t c = rw c.in-Tuple.is (omega (arith, count-trees c.in-Tuple.members.items))
+
+pub pats_faults-loop-pat-preserved : goal.pats_faults-loop-pat-preserved
+pats_faults-loop-pat-preserved t c =
+    let g : c.pat-item.result ≡ get_or c.args.pats.now.items c.loop-pat.pat-index c.pat-item.result = search rules in
+    let i : c.loop-pat.pat-index < length c.args.pats.now.items = search rules in
+    (faults-step pat (λ t. t) _ _ _ _ _ _ i g c.pat_faults.ensures.faults c.plus-total.ensures c.loop-pat.invariant.0, normal-step (λ t. t) _ _ _ i g c.pat_faults.ensures.normal c.loop-pat.invariant.1)
+
+pub name_pats_faults-loop-pat-preserved : goal.name_pats_faults-loop-pat-preserved
+name_pats_faults-loop-pat-preserved t c =
+    let g : c.pat-item.result ≡ get_or c.args.pats.now.items c.loop-pat.pat-index c.pat-item.result = search rules in
+    let i : c.loop-pat.pat-index < length c.args.pats.now.items = search rules in
+    (faults-step name_pat (λ t. t) _ _ _ _ _ _ i g c.name_pat_faults.ensures.faults c.plus-total.ensures c.loop-pat.invariant.0, normal-step (λ t. t) _ _ _ i g c.name_pat_faults.ensures.normal c.loop-pat.invariant.1)
+
+pub pat_faults-loop-part-preserved : goal.pat_faults-loop-part-preserved
+pat_faults-loop-part-preserved t c =
+    faults-step pat_part pat_part_tree _ _ _ _ _ _ c.loop-part-test.true c.part-item.is c.pat_part_faults.ensures.faults c.plus-total.ensures c.loop-part.invariant
+
+pub name_pat_faults-loop-part-preserved : goal.name_pat_faults-loop-part-preserved
+name_pat_faults-loop-part-preserved t c =
+    faults-step name_part pat_part_tree _ _ _ _ _ _ c.loop-part-test.true c.part-item.is c.name_part_faults.ensures.faults c.plus-total.ensures c.loop-part.invariant

@@ -1,6 +1,7 @@
-use Rattle.std.proofs.Common.{arith, ap, map, ◌≤◌}
+use Rattle.std.proofs.Common.{◌≡◌, ◌<◌, arith, ap, map, ◌≤◌, length, get_or, rules}
 use Rattle.calculus.specs.Tree.{weight, weights, trees}
 use Rattle.rho_term.specs.Parts.{pat_part_tree, pair_tree, bind_tree, case_tree}
+use Rattle.rho_term.proofs.Measuring.{height-step, normal-step, parts-step}
 use Rattle.rho_term.proofs.Trees.{weight-at, tree-at}
 use Rattle.rho_term.proofs.measure.+measure.Goals as goal
 
@@ -33,3 +34,15 @@ pub pat_pairs_height-pat_height-requires-in-loop-pair : goal.pat_pairs_height-pa
 pat_pairs_height-pat_height-requires-in-loop-pair t c =
     let w : weight (pair_tree c.pair-item.result) ≤ weights (trees (map pair_tree c.deref-pair-items.result.now)) = rw c.pair-item.is (weight-at pair_tree _ _ _ c.loop-pair-test.true) in
     (omega (arith, w, ap (λ xs. weights (trees (map pair_tree xs))) c.deref-pair-items.ensures.value), tt)
+
+pub pat_parts_height-loop-part-preserved : goal.pat_parts_height-loop-part-preserved
+pat_parts_height-loop-part-preserved t c =
+    let g : c.part-item.result ≡ get_or c.args.parts.now.items c.loop-part.part-index c.part-item.result = search rules in
+    let i : c.loop-part.part-index < length c.args.parts.now.items = search rules in
+    (height-step pat_part_tree _ _ _ _ _ _ i g c.pat_part_height.ensures.height c.greater-greatest.ensures c.loop-part.invariant.0, parts-step pat_part_tree _ _ _ i g c.pat_part_height.ensures.normal c.loop-part.invariant.1)
+
+pub pats_height-loop-pat-preserved : goal.pats_height-loop-pat-preserved
+pats_height-loop-pat-preserved t c =
+    let g : c.pat-item.result ≡ get_or c.args.pats.now.items c.loop-pat.pat-index c.pat-item.result = search rules in
+    let i : c.loop-pat.pat-index < length c.args.pats.now.items = search rules in
+    (height-step (λ t. t) _ _ _ _ _ _ i g c.pat_height.ensures.height c.greater-greatest.ensures c.loop-pat.invariant.0, normal-step (λ t. t) _ _ _ i g c.pat_height.ensures.normal c.loop-pat.invariant.1)

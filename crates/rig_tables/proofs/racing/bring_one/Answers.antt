@@ -1,6 +1,6 @@
 use Rattle.replay_scene.specs.Spaces.{new_row}
 use Rattle.replay_scene.specs.Entries.{arrives}
-use Rattle.replay_shards.specs.Bits.{has_bit}
+use Rattle.replay_rows.specs.Bits.{has_bit}
 use Rattle.std.proofs.Common.{[]}
 use Rattle.rig_tables.proofs.Staying.{after-arrival}
 use Rattle.rig_tables.proofs.racing.bring_one.Goals as goal

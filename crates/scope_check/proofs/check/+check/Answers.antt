@@ -12,12 +12,14 @@ use Rattle.scope_variables.proofs.Insides.{bound-two, inside-two}
 use Rattle.scope_check.proofs.Refusals.{refusal-left, refusal-right, judges-right, judges-end, loop-refusal, many-members, on-ok}
 use Rattle.open_processes.specs.Pairs.{proc_pair, pat_pair}
 use Rattle.open_processes.proofs.Meanings.{proc-pairs, pat-pairs, rest-breaks}
+use Rattle.open_processes.proofs.Forms.{bind-form, case-form, list-form, set-form, map-form}
+use Rattle.open_processes.proofs.Leaving.{is-err}
 use Rattle.scope_check.proofs.Narrow.{breaks-narrow}
 use Rattle.scope_check.proofs.check.+check.Goals as goal
 
 pub check_bind-returns-clause-bound : goal.check_bind-returns-clause-bound
 check_bind-returns-clause-bound t c =
-    let w : bind_written c.args.b.now ≡ form_of_three (around bind) (name_written c.args.b.now.channel) (row_of (map name_pat_written c.args.b.now.pats.items)) (rest_written c.args.b.now.rest) = search (rules, the_lemmas) in
+    let w = bind-form c.args.b.now in
     let e : c.check_name_patterns.new.bound ≡ inside (variables (row_of (map name_pat_written c.args.b.now.pats.items))) c.args.bound.now = search rules in
     let h : c.check_rest.new.bound ≡ inside (variables (rest_written c.args.b.now.rest)) c.check_name_patterns.new.bound = search rules in
     let k = h ∙ ap (inside (variables (rest_written c.args.b.now.rest))) e ∙ sym (inside-two (variables (row_of (map name_pat_written c.args.b.now.pats.items))) (variables (rest_written c.args.b.now.rest)) c.args.bound.now) ∙ ap (λ z. inside (z ++ (variables (row_of (map name_pat_written c.args.b.now.pats.items)) ++ (variables (rest_written c.args.b.now.rest) ++ []))) c.args.bound.now) (sym c.check_name.ensures.binds) in
@@ -25,26 +27,26 @@ check_bind-returns-clause-bound t c =
 
 pub check_bind-returns-in_err-check_name_patterns-clause-rules : goal.check_bind-returns-in_err-check_name_patterns-clause-rules
 check_bind-returns-in_err-check_name_patterns-clause-rules t c =
-    let q : c.from_residual.result ≡ Err c.in_err-check_name_patterns.field-0.0 = search rules in
-    let w : bind_written c.args.b.now ≡ form_of_three (around bind) (name_written c.args.b.now.channel) (row_of (map name_pat_written c.args.b.now.pats.items)) (rest_written c.args.b.now.rest) = search (rules, the_lemmas) in
+    let q : c.from_residual.result ≡ Err c.in_err-check_name_patterns.field-0.0 = is-err _ _ c.from_residual.ensures.1 in
+    let w = bind-form c.args.b.now in
     subst (λ z. Judges z (breaks (bind_written c.args.b.now) c.args.scope.now (after c.args.bound.now false))) (sym q) (subst (λ x. IsRefusal c.in_err-check_name_patterns.field-0.0 (breaks x c.args.scope.now (after c.args.bound.now false))) (sym w) (refusal-left _ _ _ (refusal-left _ _ _ c.in_err-check_name_patterns.ensures.rules)))
 
 pub check_binds-returns-in_err-check_bind-clause-rules : goal.check_binds-returns-in_err-check_bind-clause-rules
 check_binds-returns-in_err-check_bind-clause-rules t c =
-    let q : c.from_residual.result ≡ Err c.in_err-check_bind.field-0.0 = search rules in
+    let q : c.from_residual.result ≡ Err c.in_err-check_bind.field-0.0 = is-err _ _ c.from_residual.ensures.1 in
     let g : c.b-item.result ≡ get_or c.args.binds.now.items c.loop-b.b-index c.b-item.result = search rules in
     let i : c.loop-b.b-index < length c.args.binds.now.items = search rules in
     subst (λ z. Judges z (all_breaks (writtens (map bind_written c.args.binds.now.items)) c.args.scope.now (after c.args.bound.now false))) (sym q) (subst (λ s. IsRefusal c.in_err-check_bind.field-0.0 (all_breaks (writtens (map bind_written c.args.binds.now.items)) s (after c.args.bound.now false))) c.loop-b.invariant.scope (loop-refusal bind_written c.args.binds.now.items c.loop-b.b-index c.b-item.result _ _ _ _ i g c.loop-b.invariant.rules c.in_err-check_bind.ensures.rules))
 
 pub check_case-returns-in_err-check_pattern-clause-rules : goal.check_case-returns-in_err-check_pattern-clause-rules
 check_case-returns-in_err-check_pattern-clause-rules t c =
-    let q : c.from_residual.result ≡ Err c.in_err-check_pattern.field-0.0 = search rules in
-    let w : case_written c.args.case.now ≡ form_of_two (around case) (pat_written c.args.case.now.pat) (proc_written c.args.case.now.body) = search (rules, the_lemmas) in
+    let q : c.from_residual.result ≡ Err c.in_err-check_pattern.field-0.0 = is-err _ _ c.from_residual.ensures.1 in
+    let w = case-form c.args.case.now in
     subst (λ z. Judges z (breaks (case_written c.args.case.now) c.args.scope.now outside)) (sym q) (subst (λ x. IsRefusal c.in_err-check_pattern.field-0.0 (breaks x c.args.scope.now outside)) (sym w) (refusal-left _ _ _ (subst (λ b. IsRefusal c.in_err-check_pattern.field-0.0 (breaks (pat_written c.args.case.now.pat) c.args.scope.now (after b false))) c.new-bound.ensures c.in_err-check_pattern.ensures.rules)))
 
 pub check_cases-returns-in_err-check_case-clause-rules : goal.check_cases-returns-in_err-check_case-clause-rules
 check_cases-returns-in_err-check_case-clause-rules t c =
-    let q : c.from_residual.result ≡ Err c.in_err-check_case.field-0.0 = search rules in
+    let q : c.from_residual.result ≡ Err c.in_err-check_case.field-0.0 = is-err _ _ c.from_residual.ensures.1 in
     let g : c.case-item.result ≡ get_or c.args.cases.now.items c.loop-case.case-index c.case-item.result = search rules in
     let i : c.loop-case.case-index < length c.args.cases.now.items = search rules in
     subst (λ z. Judges z (all_breaks (writtens (map case_written c.args.cases.now.items)) c.args.scope.now outside)) (sym q) (subst (λ s. IsRefusal c.in_err-check_case.field-0.0 (all_breaks (writtens (map case_written c.args.cases.now.items)) s outside)) c.loop-case.invariant.scope (loop-refusal case_written c.args.cases.now.items c.loop-case.case-index c.case-item.result _ _ _ _ i g c.loop-case.invariant.rules c.in_err-check_case.ensures.rules))
@@ -58,14 +60,14 @@ check_closed-returns-clause-rules t c =
 
 pub check_name_patterns-returns-in_err-check_name_pattern-clause-rules : goal.check_name_patterns-returns-in_err-check_name_pattern-clause-rules
 check_name_patterns-returns-in_err-check_name_pattern-clause-rules t c =
-    let q : c.from_residual.result ≡ Err c.in_err-check_name_pattern.field-0.0 = search rules in
+    let q : c.from_residual.result ≡ Err c.in_err-check_name_pattern.field-0.0 = is-err _ _ c.from_residual.ensures.1 in
     let g : c.p-item.result ≡ get_or c.args.ps.now.items c.loop-p.p-index c.p-item.result = search rules in
     let i : c.loop-p.p-index < length c.args.ps.now.items = search rules in
     subst (λ z. Judges z (all_breaks (writtens (map name_pat_written c.args.ps.now.items)) c.args.scope.now (after c.args.bound.now c.args.negated))) (sym q) (subst (λ s. IsRefusal c.in_err-check_name_pattern.field-0.0 (all_breaks (writtens (map name_pat_written c.args.ps.now.items)) s (after c.args.bound.now c.args.negated))) c.loop-p.invariant.scope (loop-refusal name_pat_written c.args.ps.now.items c.loop-p.p-index c.p-item.result _ _ _ _ i g c.loop-p.invariant.rules c.in_err-check_name_pattern.ensures.rules))
 
 pub check_pairs-returns-in_err-check_process-2-clause-rules : goal.check_pairs-returns-in_err-check_process-2-clause-rules
 check_pairs-returns-in_err-check_process-2-clause-rules t c =
-    let q : c.from_residual-in_err-check_process-2.result ≡ Err c.in_err-check_process-2.field-0.0 = search rules in
+    let q : c.from_residual-in_err-check_process-2.result ≡ Err c.in_err-check_process-2.field-0.0 = is-err _ _ c.from_residual-in_err-check_process-2.ensures.1 in
     let g : c.p-item.result ≡ get_or c.args.ps.now.items c.loop-p.p-index c.p-item.result = search rules in
     let i : c.loop-p.p-index < length c.args.ps.now.items = search rules in
     let n : IsRefusal c.in_err-check_process-2.field-0.0 (breaks (proc_pair c.p-item.result) c.loop-p.scope outside) = (refusal-right _ _ _ c.in_ok-check_process.ensures.rules (refusal-left _ _ _ (subst (λ s. IsRefusal c.in_err-check_process-2.field-0.0 (breaks (proc_written c.p-item.result.1) s outside)) c.in_ok-check_process.ensures.scope c.in_err-check_process-2.ensures.rules))) in
@@ -73,7 +75,7 @@ check_pairs-returns-in_err-check_process-2-clause-rules t c =
 
 pub check_pairs-returns-in_err-check_process-clause-rules : goal.check_pairs-returns-in_err-check_process-clause-rules
 check_pairs-returns-in_err-check_process-clause-rules t c =
-    let q : c.from_residual.result ≡ Err c.in_err-check_process.field-0.0 = search rules in
+    let q : c.from_residual.result ≡ Err c.in_err-check_process.field-0.0 = is-err _ _ c.from_residual.ensures.1 in
     let g : c.p-item.result ≡ get_or c.args.ps.now.items c.loop-p.p-index c.p-item.result = search rules in
     let i : c.loop-p.p-index < length c.args.ps.now.items = search rules in
     let n : IsRefusal c.in_err-check_process.field-0.0 (breaks (proc_pair c.p-item.result) c.loop-p.scope outside) = (refusal-left _ _ _ c.in_err-check_process.ensures.rules) in
@@ -81,27 +83,26 @@ check_pairs-returns-in_err-check_process-clause-rules t c =
 
 pub check_pattern-returns-in_err-check_name_pattern-in-Send-clause-rules : goal.check_pattern-returns-in_err-check_name_pattern-in-Send-clause-rules
 check_pattern-returns-in_err-check_name_pattern-in-Send-clause-rules t c =
-    let q : c.from_residual-in_err-check_name_pattern-in-Send.result ≡ Err c.in_err-check_name_pattern-in-Send.field-0.0 = search rules in
+    let q : c.from_residual-in_err-check_name_pattern-in-Send.result ≡ Err c.in_err-check_name_pattern-in-Send.field-0.0 = is-err _ _ c.from_residual-in_err-check_name_pattern-in-Send.ensures.1 in
     let w : pat_written c.args.p.now ≡ form_of_two (in_pattern (send c.in-Send.persistent)) (name_pat_written c.in-Send.channel) (row_of (map pat_written c.in-Send.args.items)) = search (rules, the_lemmas) in
     subst (λ z. Judges z (breaks (pat_written c.args.p.now) c.args.scope.now (after c.args.bound.now c.args.negated))) (sym q) (subst (λ x. IsRefusal c.in_err-check_name_pattern-in-Send.field-0.0 (breaks x c.args.scope.now (after c.args.bound.now c.args.negated))) (sym w) (refusal-left _ _ _ c.in_err-check_name_pattern-in-Send.ensures.rules))
 
 pub check_pattern-returns-in_err-check_pattern-in-Both-clause-rules : goal.check_pattern-returns-in_err-check_pattern-in-Both-clause-rules
 check_pattern-returns-in_err-check_pattern-in-Both-clause-rules t c =
-    let q : c.from_residual.result ≡ Err c.in_err-check_pattern-in-Both.field-0.0 = search rules in
+    let q : c.from_residual.result ≡ Err c.in_err-check_pattern-in-Both.field-0.0 = is-err _ _ c.from_residual.ensures.1 in
     let w : pat_written c.args.p.now ≡ form_of_two (in_pattern both) (pat_written c.deref-in-Both.result.now) (pat_written c.in-Both.b.value) = search (rules, the_lemmas) in
     subst (λ z. Judges z (breaks (pat_written c.args.p.now) c.args.scope.now (after c.args.bound.now c.args.negated))) (sym q) (subst (λ x. IsRefusal c.in_err-check_pattern-in-Both.field-0.0 (breaks x c.args.scope.now (after c.args.bound.now c.args.negated))) (sym w) (refusal-left _ _ _ c.in_err-check_pattern-in-Both.ensures.rules))
 
 pub check_pattern-returns-in_err-check_pattern-in-Either-clause-rules : goal.check_pattern-returns-in_err-check_pattern-in-Either-clause-rules
 check_pattern-returns-in_err-check_pattern-in-Either-clause-rules t c =
-    let q : c.from_residual-in_err-check_pattern-in-Either.result ≡ Err c.in_err-check_pattern-in-Either.field-0.0 = search rules in
+    let q : c.from_residual-in_err-check_pattern-in-Either.result ≡ Err c.in_err-check_pattern-in-Either.field-0.0 = is-err _ _ c.from_residual-in_err-check_pattern-in-Either.ensures.1 in
     let w : pat_written c.args.p.now ≡ form_of_two (in_pattern either) (pat_written c.deref-in-Either.result.now) (pat_written c.in-Either.b.value) = search (rules, the_lemmas) in
     subst (λ z. Judges z (breaks (pat_written c.args.p.now) c.args.scope.now (after c.args.bound.now c.args.negated))) (sym q) (subst (λ x. IsRefusal c.in_err-check_pattern-in-Either.field-0.0 (breaks x c.args.scope.now (after c.args.bound.now c.args.negated))) (sym w) (refusal-left _ _ _ c.in_err-check_pattern-in-Either.ensures.rules))
 
 pub check_pattern-returns-in_err-check_pattern_pairs-in-Map-clause-rules : goal.check_pattern-returns-in_err-check_pattern_pairs-in-Map-clause-rules
 check_pattern-returns-in_err-check_pattern_pairs-in-Map-clause-rules t c =
-    let q : c.from_residual-in_err-check_pattern_pairs-in-Map.result ≡ Err c.in_err-check_pattern_pairs-in-Map.field-0.0 = search rules in
-    let w0 : pat_written c.args.p.now ≡ form_of_two (in_pattern map_pattern) (row_of (map pair_of (map (λ q. (pat_written q.0, pat_written q.1)) c.in-Map.ps.items))) (rest_written c.in-Map.rest) = search (rules, the_lemmas) in
-    let w = w0 ∙ ap (λ z. form_of_two (in_pattern map_pattern) (row_of z) (rest_written c.in-Map.rest)) (pat-pairs c.in-Map.ps.items) in
+    let q : c.from_residual-in_err-check_pattern_pairs-in-Map.result ≡ Err c.in_err-check_pattern_pairs-in-Map.field-0.0 = is-err _ _ c.from_residual-in_err-check_pattern_pairs-in-Map.ensures.1 in
+    let w = map-form c.args.p.now c.in-Map.ps c.in-Map.rest c.in-Map.is in
     let l : vec_len c.in-Map.ps ≡ length c.in-Map.ps.items = search rules in
     let n : vec_len c.in-Map.ps ≡ how_many (writtens (map pat_pair c.in-Map.ps.items)) = l ∙ sym (many-members pat_pair c.in-Map.ps.items) in
     let f : where_so (leb 9 (how_many (writtens (map pat_pair c.in-Map.ps.items)))) pattern_wide ≡ [] = subst (λ k. where_so (leb 9 k) pattern_wide ≡ []) (c.len-in-Map.ensures ∙ n) c.in_ok-members_fit-in-Map.ensures in
@@ -109,14 +110,14 @@ check_pattern-returns-in_err-check_pattern_pairs-in-Map-clause-rules t c =
 
 pub check_pattern-returns-in_err-check_patterns-in-List-clause-rules : goal.check_pattern-returns-in_err-check_patterns-in-List-clause-rules
 check_pattern-returns-in_err-check_patterns-in-List-clause-rules t c =
-    let q : c.from_residual-in_err-check_patterns-in-List.result ≡ Err c.in_err-check_patterns-in-List.field-0.0 = search rules in
-    let w : pat_written c.args.p.now ≡ form_of_two (in_pattern list_pattern) (row_of (map pat_written c.in-List.ps.items)) (rest_written c.in-List.rest) = search (rules, the_lemmas) in
+    let q : c.from_residual-in_err-check_patterns-in-List.result ≡ Err c.in_err-check_patterns-in-List.field-0.0 = is-err _ _ c.from_residual-in_err-check_patterns-in-List.ensures.1 in
+    let w = list-form c.args.p.now c.in-List.ps c.in-List.rest c.in-List.is in
     subst (λ z. Judges z (breaks (pat_written c.args.p.now) c.args.scope.now (after c.args.bound.now c.args.negated))) (sym q) (subst (λ x. IsRefusal c.in_err-check_patterns-in-List.field-0.0 (breaks x c.args.scope.now (after c.args.bound.now c.args.negated))) (sym w) (refusal-left _ _ _ c.in_err-check_patterns-in-List.ensures.rules))
 
 pub check_pattern-returns-in_err-check_patterns-in-Set-clause-rules : goal.check_pattern-returns-in_err-check_patterns-in-Set-clause-rules
 check_pattern-returns-in_err-check_patterns-in-Set-clause-rules t c =
-    let q : c.from_residual-in_err-check_patterns-in-Set.result ≡ Err c.in_err-check_patterns-in-Set.field-0.0 = search rules in
-    let w : pat_written c.args.p.now ≡ form_of_two (in_pattern set_pattern) (row_of (map pat_written c.in-Set.ps.items)) (rest_written c.in-Set.rest) = search (rules, the_lemmas) in
+    let q : c.from_residual-in_err-check_patterns-in-Set.result ≡ Err c.in_err-check_patterns-in-Set.field-0.0 = is-err _ _ c.from_residual-in_err-check_patterns-in-Set.ensures.1 in
+    let w = set-form c.args.p.now c.in-Set.ps c.in-Set.rest c.in-Set.is in
     let l : vec_len c.in-Set.ps ≡ length c.in-Set.ps.items = search rules in
     let n : vec_len c.in-Set.ps ≡ how_many (writtens (map pat_written c.in-Set.ps.items)) = l ∙ sym (many-members pat_written c.in-Set.ps.items) in
     let f : where_so (leb 9 (how_many (writtens (map pat_written c.in-Set.ps.items)))) pattern_wide ≡ [] = subst (λ k. where_so (leb 9 k) pattern_wide ≡ []) (c.len.ensures ∙ n) c.in_ok-members_fit-in-Set.ensures in
@@ -124,9 +125,8 @@ check_pattern-returns-in_err-check_patterns-in-Set-clause-rules t c =
 
 pub check_pattern-returns-in_err-members_fit-in-Map-clause-rules : goal.check_pattern-returns-in_err-members_fit-in-Map-clause-rules
 check_pattern-returns-in_err-members_fit-in-Map-clause-rules t c =
-    let q : c.from_residual-in_err-members_fit-in-Map.result ≡ Err c.in_err-members_fit-in-Map.field-0.0 = search rules in
-    let w0 : pat_written c.args.p.now ≡ form_of_two (in_pattern map_pattern) (row_of (map pair_of (map (λ q. (pat_written q.0, pat_written q.1)) c.in-Map.ps.items))) (rest_written c.in-Map.rest) = search (rules, the_lemmas) in
-    let w = w0 ∙ ap (λ z. form_of_two (in_pattern map_pattern) (row_of z) (rest_written c.in-Map.rest)) (pat-pairs c.in-Map.ps.items) in
+    let q : c.from_residual-in_err-members_fit-in-Map.result ≡ Err c.in_err-members_fit-in-Map.field-0.0 = is-err _ _ c.from_residual-in_err-members_fit-in-Map.ensures.1 in
+    let w = map-form c.args.p.now c.in-Map.ps c.in-Map.rest c.in-Map.is in
     let l : vec_len c.in-Map.ps ≡ length c.in-Map.ps.items = search rules in
     let n : vec_len c.in-Map.ps ≡ how_many (writtens (map pat_pair c.in-Map.ps.items)) = l ∙ sym (many-members pat_pair c.in-Map.ps.items) in
     let f : IsRefusal c.in_err-members_fit-in-Map.field-0.0 (where_so (leb 9 (how_many (writtens (map pat_pair c.in-Map.ps.items)))) pattern_wide) = subst (λ k. IsRefusal c.in_err-members_fit-in-Map.field-0.0 (where_so (leb 9 k) pattern_wide)) (c.len-in-Map.ensures ∙ n) c.in_err-members_fit-in-Map.ensures in
@@ -134,8 +134,8 @@ check_pattern-returns-in_err-members_fit-in-Map-clause-rules t c =
 
 pub check_pattern-returns-in_err-members_fit-in-Set-clause-rules : goal.check_pattern-returns-in_err-members_fit-in-Set-clause-rules
 check_pattern-returns-in_err-members_fit-in-Set-clause-rules t c =
-    let q : c.from_residual-in_err-members_fit-in-Set.result ≡ Err c.in_err-members_fit-in-Set.field-0.0 = search rules in
-    let w : pat_written c.args.p.now ≡ form_of_two (in_pattern set_pattern) (row_of (map pat_written c.in-Set.ps.items)) (rest_written c.in-Set.rest) = search (rules, the_lemmas) in
+    let q : c.from_residual-in_err-members_fit-in-Set.result ≡ Err c.in_err-members_fit-in-Set.field-0.0 = is-err _ _ c.from_residual-in_err-members_fit-in-Set.ensures.1 in
+    let w = set-form c.args.p.now c.in-Set.ps c.in-Set.rest c.in-Set.is in
     let l : vec_len c.in-Set.ps ≡ length c.in-Set.ps.items = search rules in
     let n : vec_len c.in-Set.ps ≡ how_many (writtens (map pat_written c.in-Set.ps.items)) = l ∙ sym (many-members pat_written c.in-Set.ps.items) in
     let f : IsRefusal c.in_err-members_fit-in-Set.field-0.0 (where_so (leb 9 (how_many (writtens (map pat_written c.in-Set.ps.items)))) pattern_wide) = subst (λ k. IsRefusal c.in_err-members_fit-in-Set.field-0.0 (where_so (leb 9 k) pattern_wide)) (c.len.ensures ∙ n) c.in_err-members_fit-in-Set.ensures in
@@ -164,16 +164,14 @@ check_pattern-returns-in_ok-check_pattern-in-Either-clause-bound t c =
 
 pub check_pattern-returns-in_ok-check_pattern_pairs-in-Map-clause-bound : goal.check_pattern-returns-in_ok-check_pattern_pairs-in-Map-clause-bound
 check_pattern-returns-in_ok-check_pattern_pairs-in-Map-clause-bound t c =
-    let w0 : pat_written c.args.p.now ≡ form_of_two (in_pattern map_pattern) (row_of (map pair_of (map (λ q. (pat_written q.0, pat_written q.1)) c.in-Map.ps.items))) (rest_written c.in-Map.rest) = search (rules, the_lemmas) in
-    let w = w0 ∙ ap (λ z. form_of_two (in_pattern map_pattern) (row_of z) (rest_written c.in-Map.rest)) (pat-pairs c.in-Map.ps.items) in
+    let w = map-form c.args.p.now c.in-Map.ps c.in-Map.rest c.in-Map.is in
     let e : c.check_pattern_pairs.new.bound ≡ inside (variables (row_of (map pat_pair c.in-Map.ps.items))) c.args.bound.now = search rules in
     let h : OnOk c.check_rest-in-Map.result (c.check_rest-in-Map.new.bound ≡ inside (variables (rest_written c.in-Map.rest)) c.check_pattern_pairs.new.bound) = search rules in
     subst (λ x. OnOk c.check_rest-in-Map.result (c.check_rest-in-Map.new.bound ≡ inside (variables x) c.args.bound.now)) (sym w) (bound-two c.check_rest-in-Map.result c.check_rest-in-Map.new.bound (variables (row_of (map pat_pair c.in-Map.ps.items))) (variables (rest_written c.in-Map.rest)) c.args.bound.now c.check_pattern_pairs.new.bound e h)
 
 pub check_pattern-returns-in_ok-check_pattern_pairs-in-Map-clause-rules : goal.check_pattern-returns-in_ok-check_pattern_pairs-in-Map-clause-rules
 check_pattern-returns-in_ok-check_pattern_pairs-in-Map-clause-rules t c =
-    let w0 : pat_written c.args.p.now ≡ form_of_two (in_pattern map_pattern) (row_of (map pair_of (map (λ q. (pat_written q.0, pat_written q.1)) c.in-Map.ps.items))) (rest_written c.in-Map.rest) = search (rules, the_lemmas) in
-    let w = w0 ∙ ap (λ z. form_of_two (in_pattern map_pattern) (row_of z) (rest_written c.in-Map.rest)) (pat-pairs c.in-Map.ps.items) in
+    let w = map-form c.args.p.now c.in-Map.ps c.in-Map.rest c.in-Map.is in
     let l : vec_len c.in-Map.ps ≡ length c.in-Map.ps.items = search rules in
     let n : vec_len c.in-Map.ps ≡ how_many (writtens (map pat_pair c.in-Map.ps.items)) = l ∙ sym (many-members pat_pair c.in-Map.ps.items) in
     let f : where_so (leb 9 (how_many (writtens (map pat_pair c.in-Map.ps.items)))) pattern_wide ≡ [] = subst (λ k. where_so (leb 9 k) pattern_wide ≡ []) (c.len-in-Map.ensures ∙ n) c.in_ok-members_fit-in-Map.ensures in
@@ -184,21 +182,21 @@ check_pattern-returns-in_ok-check_pattern_pairs-in-Map-clause-rules t c =
 
 pub check_pattern-returns-in_ok-check_patterns-in-List-clause-bound : goal.check_pattern-returns-in_ok-check_patterns-in-List-clause-bound
 check_pattern-returns-in_ok-check_patterns-in-List-clause-bound t c =
-    let w : pat_written c.args.p.now ≡ form_of_two (in_pattern list_pattern) (row_of (map pat_written c.in-List.ps.items)) (rest_written c.in-List.rest) = search (rules, the_lemmas) in
+    let w = list-form c.args.p.now c.in-List.ps c.in-List.rest c.in-List.is in
     let e : c.check_patterns-in-List.new.bound ≡ inside (variables (row_of (map pat_written c.in-List.ps.items))) c.args.bound.now = search rules in
     let h : OnOk c.check_rest.result (c.check_rest.new.bound ≡ inside (variables (rest_written c.in-List.rest)) (c.check_patterns-in-List.new.bound)) = search rules in
     subst (λ x. OnOk c.check_rest.result (c.check_rest.new.bound ≡ inside (variables x) c.args.bound.now)) (sym w) (bound-two c.check_rest.result c.check_rest.new.bound (variables (row_of (map pat_written c.in-List.ps.items))) (variables (rest_written c.in-List.rest)) c.args.bound.now (c.check_patterns-in-List.new.bound) e h)
 
 pub check_pattern-returns-in_ok-check_patterns-in-Set-clause-bound : goal.check_pattern-returns-in_ok-check_patterns-in-Set-clause-bound
 check_pattern-returns-in_ok-check_patterns-in-Set-clause-bound t c =
-    let w : pat_written c.args.p.now ≡ form_of_two (in_pattern set_pattern) (row_of (map pat_written c.in-Set.ps.items)) (rest_written c.in-Set.rest) = search (rules, the_lemmas) in
+    let w = set-form c.args.p.now c.in-Set.ps c.in-Set.rest c.in-Set.is in
     let e : c.check_patterns-in-Set.new.bound ≡ inside (variables (row_of (map pat_written c.in-Set.ps.items))) c.args.bound.now = search rules in
     let h : OnOk c.check_rest-in-Set.result (c.check_rest-in-Set.new.bound ≡ inside (variables (rest_written c.in-Set.rest)) (c.check_patterns-in-Set.new.bound)) = search rules in
     subst (λ x. OnOk c.check_rest-in-Set.result (c.check_rest-in-Set.new.bound ≡ inside (variables x) c.args.bound.now)) (sym w) (bound-two c.check_rest-in-Set.result c.check_rest-in-Set.new.bound (variables (row_of (map pat_written c.in-Set.ps.items))) (variables (rest_written c.in-Set.rest)) c.args.bound.now (c.check_patterns-in-Set.new.bound) e h)
 
 pub check_pattern-returns-in_ok-check_patterns-in-Set-clause-rules : goal.check_pattern-returns-in_ok-check_patterns-in-Set-clause-rules
 check_pattern-returns-in_ok-check_patterns-in-Set-clause-rules t c =
-    let w : pat_written c.args.p.now ≡ form_of_two (in_pattern set_pattern) (row_of (map pat_written c.in-Set.ps.items)) (rest_written c.in-Set.rest) = search (rules, the_lemmas) in
+    let w = set-form c.args.p.now c.in-Set.ps c.in-Set.rest c.in-Set.is in
     let l : vec_len c.in-Set.ps ≡ length c.in-Set.ps.items = search rules in
     let n : vec_len c.in-Set.ps ≡ how_many (writtens (map pat_written c.in-Set.ps.items)) = l ∙ sym (many-members pat_written c.in-Set.ps.items) in
     let f : where_so (leb 9 (how_many (writtens (map pat_written c.in-Set.ps.items)))) pattern_wide ≡ [] = subst (λ k. where_so (leb 9 k) pattern_wide ≡ []) (c.len.ensures ∙ n) c.in_ok-members_fit-in-Set.ensures in
@@ -209,7 +207,7 @@ check_pattern-returns-in_ok-check_patterns-in-Set-clause-rules t c =
 
 pub check_pattern_pairs-returns-in_err-check_pattern-2-clause-rules : goal.check_pattern_pairs-returns-in_err-check_pattern-2-clause-rules
 check_pattern_pairs-returns-in_err-check_pattern-2-clause-rules t c =
-    let q : c.from_residual-in_err-check_pattern-2.result ≡ Err c.in_err-check_pattern-2.field-0.0 = search rules in
+    let q : c.from_residual-in_err-check_pattern-2.result ≡ Err c.in_err-check_pattern-2.field-0.0 = is-err _ _ c.from_residual-in_err-check_pattern-2.ensures.1 in
     let g : c.p-item.result ≡ get_or c.args.ps.now.items c.loop-p.p-index c.p-item.result = search rules in
     let i : c.loop-p.p-index < length c.args.ps.now.items = search rules in
     let n : IsRefusal c.in_err-check_pattern-2.field-0.0 (breaks (pat_pair c.p-item.result) c.loop-p.scope (after c.loop-p.bound c.args.negated)) = (refusal-right _ _ _ c.in_ok-check_pattern.ensures.rules (refusal-left _ _ _ (subst (λ o. IsRefusal c.in_err-check_pattern-2.field-0.0 (breaks (pat_written c.p-item.result.1) c.loop-p.scope (after o c.args.negated))) c.in_ok-check_pattern.ensures.bound (subst (λ s. IsRefusal c.in_err-check_pattern-2.field-0.0 (breaks (pat_written c.p-item.result.1) s (after c.check_pattern.new.bound c.args.negated))) c.in_ok-check_pattern.ensures.scope c.in_err-check_pattern-2.ensures.rules)))) in
@@ -217,7 +215,7 @@ check_pattern_pairs-returns-in_err-check_pattern-2-clause-rules t c =
 
 pub check_pattern_pairs-returns-in_err-check_pattern-clause-rules : goal.check_pattern_pairs-returns-in_err-check_pattern-clause-rules
 check_pattern_pairs-returns-in_err-check_pattern-clause-rules t c =
-    let q : c.from_residual.result ≡ Err c.in_err-check_pattern.field-0.0 = search rules in
+    let q : c.from_residual.result ≡ Err c.in_err-check_pattern.field-0.0 = is-err _ _ c.from_residual.ensures.1 in
     let g : c.p-item.result ≡ get_or c.args.ps.now.items c.loop-p.p-index c.p-item.result = search rules in
     let i : c.loop-p.p-index < length c.args.ps.now.items = search rules in
     let n : IsRefusal c.in_err-check_pattern.field-0.0 (breaks (pat_pair c.p-item.result) c.loop-p.scope (after c.loop-p.bound c.args.negated)) = (refusal-left _ _ _ c.in_err-check_pattern.ensures.rules) in
@@ -225,7 +223,7 @@ check_pattern_pairs-returns-in_err-check_pattern-clause-rules t c =
 
 pub check_patterns-returns-in_err-check_pattern-clause-rules : goal.check_patterns-returns-in_err-check_pattern-clause-rules
 check_patterns-returns-in_err-check_pattern-clause-rules t c =
-    let q : c.from_residual.result ≡ Err c.in_err-check_pattern.field-0.0 = search rules in
+    let q : c.from_residual.result ≡ Err c.in_err-check_pattern.field-0.0 = is-err _ _ c.from_residual.ensures.1 in
     let g : c.p-item.result ≡ get_or c.args.ps.now.items c.loop-p.p-index c.p-item.result = search rules in
     let i : c.loop-p.p-index < length c.args.ps.now.items = search rules in
     subst (λ z. Judges z (all_breaks (writtens (map pat_written c.args.ps.now.items)) c.args.scope.now (after c.args.bound.now c.args.negated))) (sym q) (subst (λ s. IsRefusal c.in_err-check_pattern.field-0.0 (all_breaks (writtens (map pat_written c.args.ps.now.items)) s (after c.args.bound.now c.args.negated))) c.loop-p.invariant.scope (loop-refusal pat_written c.args.ps.now.items c.loop-p.p-index c.p-item.result _ _ _ _ i g c.loop-p.invariant.rules c.in_err-check_pattern.ensures.rules))
@@ -238,37 +236,160 @@ check_process-returns-in-Map-clause-rules t c =
 
 pub check_process-returns-in_err-check_binds-in-Receive-clause-rules : goal.check_process-returns-in_err-check_binds-in-Receive-clause-rules
 check_process-returns-in_err-check_binds-in-Receive-clause-rules t c =
-    let q : c.from_residual-in_err-check_binds-in-Receive.result ≡ Err c.in_err-check_binds-in-Receive.field-0.0 = search rules in
+    let q : c.from_residual-in_err-check_binds-in-Receive.result ≡ Err c.in_err-check_binds-in-Receive.field-0.0 = is-err _ _ c.from_residual-in_err-check_binds-in-Receive.ensures.1 in
     let w : proc_written c.args.p.now ≡ form_of_two (in_process (receive c.in-Receive.kind)) (row_of (map bind_written c.in-Receive.binds.items)) (proc_written c.in-Receive.body.value) = search (rules, the_lemmas) in
     subst (λ z. Judges z (breaks (proc_written c.args.p.now) c.args.scope.now outside)) (sym q) (subst (λ x. IsRefusal c.in_err-check_binds-in-Receive.field-0.0 (breaks x c.args.scope.now outside)) (sym w) (refusal-left _ _ _ (subst (λ b. IsRefusal c.in_err-check_binds-in-Receive.field-0.0 (all_breaks (writtens (map bind_written c.in-Receive.binds.items)) c.args.scope.now (after b false))) c.new-bound.ensures c.in_err-check_binds-in-Receive.ensures.rules)))
 
 pub check_process-returns-in_err-check_name-in-Send-clause-rules : goal.check_process-returns-in_err-check_name-in-Send-clause-rules
 check_process-returns-in_err-check_name-in-Send-clause-rules t c =
-    let q : c.from_residual.result ≡ Err c.in_err-check_name-in-Send.field-0.0 = search rules in
+    let q : c.from_residual.result ≡ Err c.in_err-check_name-in-Send.field-0.0 = is-err _ _ c.from_residual.ensures.1 in
     let w : proc_written c.args.p.now ≡ form_of_two (in_process (send c.in-Send.persistent)) (name_written c.in-Send.channel) (row_of (map proc_written c.in-Send.args.items)) = search (rules, the_lemmas) in
     subst (λ z. Judges z (breaks (proc_written c.args.p.now) c.args.scope.now outside)) (sym q) (subst (λ x. IsRefusal c.in_err-check_name-in-Send.field-0.0 (breaks x c.args.scope.now outside)) (sym w) (refusal-left _ _ _ c.in_err-check_name-in-Send.ensures.rules))
 
 pub check_process-returns-in_err-check_process-in-Binary-clause-rules : goal.check_process-returns-in_err-check_process-in-Binary-clause-rules
 check_process-returns-in_err-check_process-in-Binary-clause-rules t c =
-    let q : c.from_residual-in_err-check_process-in-Binary.result ≡ Err c.in_err-check_process-in-Binary.field-0.0 = search rules in
+    let q : c.from_residual-in_err-check_process-in-Binary.result ≡ Err c.in_err-check_process-in-Binary.field-0.0 = is-err _ _ c.from_residual-in_err-check_process-in-Binary.ensures.1 in
     let w : proc_written c.args.p.now ≡ form_of_two (in_process (binary c.in-Binary.op)) (proc_written c.deref-in-Binary.result.now) (proc_written c.in-Binary.right.value) = search (rules, the_lemmas) in
     subst (λ z. Judges z (breaks (proc_written c.args.p.now) c.args.scope.now outside)) (sym q) (subst (λ x. IsRefusal c.in_err-check_process-in-Binary.field-0.0 (breaks x c.args.scope.now outside)) (sym w) (refusal-left _ _ _ c.in_err-check_process-in-Binary.ensures.rules))
 
 pub check_process-returns-in_err-check_process-in-Match-clause-rules : goal.check_process-returns-in_err-check_process-in-Match-clause-rules
 check_process-returns-in_err-check_process-in-Match-clause-rules t c =
-    let q : c.from_residual-in_err-check_process-in-Match.result ≡ Err c.in_err-check_process-in-Match.field-0.0 = search rules in
+    let q : c.from_residual-in_err-check_process-in-Match.result ≡ Err c.in_err-check_process-in-Match.field-0.0 = is-err _ _ c.from_residual-in_err-check_process-in-Match.ensures.1 in
     let w : proc_written c.args.p.now ≡ form_of_two (in_process match) (proc_written c.deref-in-Match.result.now) (row_of (map case_written c.in-Match.cases.items)) = search (rules, the_lemmas) in
     subst (λ z. Judges z (breaks (proc_written c.args.p.now) c.args.scope.now outside)) (sym q) (subst (λ x. IsRefusal c.in_err-check_process-in-Match.field-0.0 (breaks x c.args.scope.now outside)) (sym w) (refusal-left _ _ _ c.in_err-check_process-in-Match.ensures.rules))
 
 pub check_process-returns-in_err-check_process-in-Method-clause-rules : goal.check_process-returns-in_err-check_process-in-Method-clause-rules
 check_process-returns-in_err-check_process-in-Method-clause-rules t c =
-    let q : c.from_residual-in_err-check_process-in-Method.result ≡ Err c.in_err-check_process-in-Method.field-0.0 = search rules in
+    let q : c.from_residual-in_err-check_process-in-Method.result ≡ Err c.in_err-check_process-in-Method.field-0.0 = is-err _ _ c.from_residual-in_err-check_process-in-Method.ensures.1 in
     let w : proc_written c.args.p.now ≡ form_of_two (in_process (method (string_bytes c.in-Method.name))) (proc_written c.deref-in-Method.result.now) (row_of (map proc_written c.in-Method.args.items)) = search (rules, the_lemmas) in
     subst (λ z. Judges z (breaks (proc_written c.args.p.now) c.args.scope.now outside)) (sym q) (subst (λ x. IsRefusal c.in_err-check_process-in-Method.field-0.0 (breaks x c.args.scope.now outside)) (sym w) (refusal-left _ _ _ c.in_err-check_process-in-Method.ensures.rules))
 
 pub check_processes-returns-in_err-check_process-clause-rules : goal.check_processes-returns-in_err-check_process-clause-rules
 check_processes-returns-in_err-check_process-clause-rules t c =
-    let q : c.from_residual.result ≡ Err c.in_err-check_process.field-0.0 = search rules in
+    let q : c.from_residual.result ≡ Err c.in_err-check_process.field-0.0 = is-err _ _ c.from_residual.ensures.1 in
     let g : c.p-item.result ≡ get_or c.args.ps.now.items c.loop-p.p-index c.p-item.result = search rules in
     let i : c.loop-p.p-index < length c.args.ps.now.items = search rules in
     subst (λ z. Judges z (all_breaks (writtens (map proc_written c.args.ps.now.items)) c.args.scope.now outside)) (sym q) (subst (λ s. IsRefusal c.in_err-check_process.field-0.0 (all_breaks (writtens (map proc_written c.args.ps.now.items)) s outside)) c.loop-p.invariant.scope (loop-refusal proc_written c.args.ps.now.items c.loop-p.p-index c.p-item.result _ _ _ _ i g c.loop-p.invariant.rules c.in_err-check_process.ensures.rules))
+
+pub check_bind-returns-in_err-check_name_patterns-clause-scope : goal.check_bind-returns-in_err-check_name_patterns-clause-scope
+check_bind-returns-in_err-check_name_patterns-clause-scope t c = rw (is-err _ _ c.from_residual.ensures.1) tt
+
+pub check_bind-returns-in_err-check_name_patterns-clause-bound : goal.check_bind-returns-in_err-check_name_patterns-clause-bound
+check_bind-returns-in_err-check_name_patterns-clause-bound t c = rw (is-err _ _ c.from_residual.ensures.1) tt
+
+pub check_binds-returns-in_err-check_bind-clause-scope : goal.check_binds-returns-in_err-check_bind-clause-scope
+check_binds-returns-in_err-check_bind-clause-scope t c = rw (is-err _ _ c.from_residual.ensures.1) tt
+
+pub check_binds-returns-in_err-check_bind-clause-bound : goal.check_binds-returns-in_err-check_bind-clause-bound
+check_binds-returns-in_err-check_bind-clause-bound t c = rw (is-err _ _ c.from_residual.ensures.1) tt
+
+pub check_case-returns-in_err-check_pattern-clause-scope : goal.check_case-returns-in_err-check_pattern-clause-scope
+check_case-returns-in_err-check_pattern-clause-scope t c = rw (is-err _ _ c.from_residual.ensures.1) tt
+
+pub check_cases-returns-in_err-check_case-clause-scope : goal.check_cases-returns-in_err-check_case-clause-scope
+check_cases-returns-in_err-check_case-clause-scope t c = rw (is-err _ _ c.from_residual.ensures.1) tt
+
+pub check_name_patterns-returns-in_err-check_name_pattern-clause-scope : goal.check_name_patterns-returns-in_err-check_name_pattern-clause-scope
+check_name_patterns-returns-in_err-check_name_pattern-clause-scope t c = rw (is-err _ _ c.from_residual.ensures.1) tt
+
+pub check_name_patterns-returns-in_err-check_name_pattern-clause-bound : goal.check_name_patterns-returns-in_err-check_name_pattern-clause-bound
+check_name_patterns-returns-in_err-check_name_pattern-clause-bound t c = rw (is-err _ _ c.from_residual.ensures.1) tt
+
+pub check_pairs-returns-in_err-check_process-2-clause-scope : goal.check_pairs-returns-in_err-check_process-2-clause-scope
+check_pairs-returns-in_err-check_process-2-clause-scope t c = rw (is-err _ _ c.from_residual-in_err-check_process-2.ensures.1) tt
+
+pub check_pairs-returns-in_err-check_process-clause-scope : goal.check_pairs-returns-in_err-check_process-clause-scope
+check_pairs-returns-in_err-check_process-clause-scope t c = rw (is-err _ _ c.from_residual.ensures.1) tt
+
+pub check_pattern-returns-in_err-check_name_pattern-in-Send-clause-scope : goal.check_pattern-returns-in_err-check_name_pattern-in-Send-clause-scope
+check_pattern-returns-in_err-check_name_pattern-in-Send-clause-scope t c = rw (is-err _ _ c.from_residual-in_err-check_name_pattern-in-Send.ensures.1) tt
+
+pub check_pattern-returns-in_err-check_name_pattern-in-Send-clause-bound : goal.check_pattern-returns-in_err-check_name_pattern-in-Send-clause-bound
+check_pattern-returns-in_err-check_name_pattern-in-Send-clause-bound t c = rw (is-err _ _ c.from_residual-in_err-check_name_pattern-in-Send.ensures.1) tt
+
+pub check_pattern-returns-in_err-check_pattern-in-Both-clause-scope : goal.check_pattern-returns-in_err-check_pattern-in-Both-clause-scope
+check_pattern-returns-in_err-check_pattern-in-Both-clause-scope t c = rw (is-err _ _ c.from_residual.ensures.1) tt
+
+pub check_pattern-returns-in_err-check_pattern-in-Both-clause-bound : goal.check_pattern-returns-in_err-check_pattern-in-Both-clause-bound
+check_pattern-returns-in_err-check_pattern-in-Both-clause-bound t c = rw (is-err _ _ c.from_residual.ensures.1) tt
+
+pub check_pattern-returns-in_err-check_pattern-in-Either-clause-scope : goal.check_pattern-returns-in_err-check_pattern-in-Either-clause-scope
+check_pattern-returns-in_err-check_pattern-in-Either-clause-scope t c = rw (is-err _ _ c.from_residual-in_err-check_pattern-in-Either.ensures.1) tt
+
+pub check_pattern-returns-in_err-check_pattern-in-Either-clause-bound : goal.check_pattern-returns-in_err-check_pattern-in-Either-clause-bound
+check_pattern-returns-in_err-check_pattern-in-Either-clause-bound t c = rw (is-err _ _ c.from_residual-in_err-check_pattern-in-Either.ensures.1) tt
+
+pub check_pattern-returns-in_err-check_pattern_pairs-in-Map-clause-scope : goal.check_pattern-returns-in_err-check_pattern_pairs-in-Map-clause-scope
+check_pattern-returns-in_err-check_pattern_pairs-in-Map-clause-scope t c = rw (is-err _ _ c.from_residual-in_err-check_pattern_pairs-in-Map.ensures.1) tt
+
+pub check_pattern-returns-in_err-check_pattern_pairs-in-Map-clause-bound : goal.check_pattern-returns-in_err-check_pattern_pairs-in-Map-clause-bound
+check_pattern-returns-in_err-check_pattern_pairs-in-Map-clause-bound t c = rw (is-err _ _ c.from_residual-in_err-check_pattern_pairs-in-Map.ensures.1) tt
+
+pub check_pattern-returns-in_err-check_patterns-in-List-clause-scope : goal.check_pattern-returns-in_err-check_patterns-in-List-clause-scope
+check_pattern-returns-in_err-check_patterns-in-List-clause-scope t c = rw (is-err _ _ c.from_residual-in_err-check_patterns-in-List.ensures.1) tt
+
+pub check_pattern-returns-in_err-check_patterns-in-List-clause-bound : goal.check_pattern-returns-in_err-check_patterns-in-List-clause-bound
+check_pattern-returns-in_err-check_patterns-in-List-clause-bound t c = rw (is-err _ _ c.from_residual-in_err-check_patterns-in-List.ensures.1) tt
+
+pub check_pattern-returns-in_err-check_patterns-in-Set-clause-scope : goal.check_pattern-returns-in_err-check_patterns-in-Set-clause-scope
+check_pattern-returns-in_err-check_patterns-in-Set-clause-scope t c = rw (is-err _ _ c.from_residual-in_err-check_patterns-in-Set.ensures.1) tt
+
+pub check_pattern-returns-in_err-check_patterns-in-Set-clause-bound : goal.check_pattern-returns-in_err-check_patterns-in-Set-clause-bound
+check_pattern-returns-in_err-check_patterns-in-Set-clause-bound t c = rw (is-err _ _ c.from_residual-in_err-check_patterns-in-Set.ensures.1) tt
+
+pub check_pattern-returns-in_err-members_fit-in-Map-clause-scope : goal.check_pattern-returns-in_err-members_fit-in-Map-clause-scope
+check_pattern-returns-in_err-members_fit-in-Map-clause-scope t c = rw (is-err _ _ c.from_residual-in_err-members_fit-in-Map.ensures.1) tt
+
+pub check_pattern-returns-in_err-members_fit-in-Map-clause-bound : goal.check_pattern-returns-in_err-members_fit-in-Map-clause-bound
+check_pattern-returns-in_err-members_fit-in-Map-clause-bound t c = rw (is-err _ _ c.from_residual-in_err-members_fit-in-Map.ensures.1) tt
+
+pub check_pattern-returns-in_err-members_fit-in-Set-clause-scope : goal.check_pattern-returns-in_err-members_fit-in-Set-clause-scope
+check_pattern-returns-in_err-members_fit-in-Set-clause-scope t c = rw (is-err _ _ c.from_residual-in_err-members_fit-in-Set.ensures.1) tt
+
+pub check_pattern-returns-in_err-members_fit-in-Set-clause-bound : goal.check_pattern-returns-in_err-members_fit-in-Set-clause-bound
+check_pattern-returns-in_err-members_fit-in-Set-clause-bound t c = rw (is-err _ _ c.from_residual-in_err-members_fit-in-Set.ensures.1) tt
+
+pub check_pattern_pairs-returns-in_err-check_pattern-2-clause-scope : goal.check_pattern_pairs-returns-in_err-check_pattern-2-clause-scope
+check_pattern_pairs-returns-in_err-check_pattern-2-clause-scope t c = rw (is-err _ _ c.from_residual-in_err-check_pattern-2.ensures.1) tt
+
+pub check_pattern_pairs-returns-in_err-check_pattern-2-clause-bound : goal.check_pattern_pairs-returns-in_err-check_pattern-2-clause-bound
+check_pattern_pairs-returns-in_err-check_pattern-2-clause-bound t c = rw (is-err _ _ c.from_residual-in_err-check_pattern-2.ensures.1) tt
+
+pub check_pattern_pairs-returns-in_err-check_pattern-clause-scope : goal.check_pattern_pairs-returns-in_err-check_pattern-clause-scope
+check_pattern_pairs-returns-in_err-check_pattern-clause-scope t c = rw (is-err _ _ c.from_residual.ensures.1) tt
+
+pub check_pattern_pairs-returns-in_err-check_pattern-clause-bound : goal.check_pattern_pairs-returns-in_err-check_pattern-clause-bound
+check_pattern_pairs-returns-in_err-check_pattern-clause-bound t c = rw (is-err _ _ c.from_residual.ensures.1) tt
+
+pub check_patterns-returns-in_err-check_pattern-clause-scope : goal.check_patterns-returns-in_err-check_pattern-clause-scope
+check_patterns-returns-in_err-check_pattern-clause-scope t c = rw (is-err _ _ c.from_residual.ensures.1) tt
+
+pub check_patterns-returns-in_err-check_pattern-clause-bound : goal.check_patterns-returns-in_err-check_pattern-clause-bound
+check_patterns-returns-in_err-check_pattern-clause-bound t c = rw (is-err _ _ c.from_residual.ensures.1) tt
+
+pub check_process-returns-in_err-check_binds-in-Receive-clause-scope : goal.check_process-returns-in_err-check_binds-in-Receive-clause-scope
+check_process-returns-in_err-check_binds-in-Receive-clause-scope t c = rw (is-err _ _ c.from_residual-in_err-check_binds-in-Receive.ensures.1) tt
+
+pub check_process-returns-in_err-check_name-in-Send-clause-scope : goal.check_process-returns-in_err-check_name-in-Send-clause-scope
+check_process-returns-in_err-check_name-in-Send-clause-scope t c = rw (is-err _ _ c.from_residual.ensures.1) tt
+
+pub check_process-returns-in_err-check_process-in-Binary-clause-scope : goal.check_process-returns-in_err-check_process-in-Binary-clause-scope
+check_process-returns-in_err-check_process-in-Binary-clause-scope t c = rw (is-err _ _ c.from_residual-in_err-check_process-in-Binary.ensures.1) tt
+
+pub check_process-returns-in_err-check_process-in-Match-clause-scope : goal.check_process-returns-in_err-check_process-in-Match-clause-scope
+check_process-returns-in_err-check_process-in-Match-clause-scope t c = rw (is-err _ _ c.from_residual-in_err-check_process-in-Match.ensures.1) tt
+
+pub check_process-returns-in_err-check_process-in-Method-clause-scope : goal.check_process-returns-in_err-check_process-in-Method-clause-scope
+check_process-returns-in_err-check_process-in-Method-clause-scope t c = rw (is-err _ _ c.from_residual-in_err-check_process-in-Method.ensures.1) tt
+
+pub check_processes-returns-in_err-check_process-clause-scope : goal.check_processes-returns-in_err-check_process-clause-scope
+check_processes-returns-in_err-check_process-clause-scope t c = rw (is-err _ _ c.from_residual.ensures.1) tt
+
+pub check_within-returns-in_err-check_process-clause-scope : goal.check_within-returns-in_err-check_process-clause-scope
+check_within-returns-in_err-check_process-clause-scope t c = rw (is-err _ _ c.from_residual-in_err-check_process.ensures.1) tt
+
+pub check_bind-returns-in_err-check_rest-clause-scope : goal.check_bind-returns-in_err-check_rest-clause-scope
+check_bind-returns-in_err-check_rest-clause-scope t c = rw (is-err _ _ c.from_residual-in_err-check_rest.ensures.1) tt
+
+pub check_bind-returns-in_err-check_rest-clause-bound : goal.check_bind-returns-in_err-check_rest-clause-bound
+check_bind-returns-in_err-check_rest-clause-bound t c = rw (is-err _ _ c.from_residual-in_err-check_rest.ensures.1) tt

@@ -3,7 +3,7 @@ use Rattle.std.specs.Prelude.{IsSome}
 use Rattle.std.proofs.lemmas.Result.{on_ok_weaker}
 use Rattle.replay_scene.specs.Spaces.{new_row}
 use Rattle.replay_scene.specs.Entries.{arrives}
-use Rattle.replay_shards.specs.Bits.{has_bit}
+use Rattle.replay_rows.specs.Bits.{has_bit}
 use Rattle.replay_shards.specs.Hands.{InHand, parts_of, shard_at, TouchedBecome}
 use Rattle.replay_shards.proofs.Arriving.{one-arrived, is-there}
 use Rattle.replay_shards.proofs.Placing.{part-at}

@@ -1,6 +1,6 @@
 use Rattle.std.proofs.Common.{List, get_or, sym, ap, subst, ◌∙◌, arith}
 use Rattle.std.specs.Prelude.{None, option_map, set}
-use Rattle.replay_shards.specs.Rows.{part_of}
+use Rattle.replay_rows.specs.Rows.{part_of}
 use Rattle.replay_shards.specs.Hands.{InHand, Slot, IsSlotFiled, shard_at}
 use Rattle.replay_shards.proofs.Stepping.{one-length}
 use Rattle.replay_shards.proofs.Placing.{filed-set, set-here, set-others, there-filed}

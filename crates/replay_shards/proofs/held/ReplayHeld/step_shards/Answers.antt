@@ -4,7 +4,7 @@ use Rattle.calculus.specs.Log.{Step}
 use Rattle.event_log.specs.View.{step_of}
 use Rattle.replay_scene.specs.Spaces.{SeenRow}
 use Rattle.replay_shards.specs.Hands.{all_shown, parts_of}
-use Rattle.replay_shards.specs.Rows.{find_seen, seen_row}
+use Rattle.replay_rows.specs.Rows.{find_seen, seen_row}
 use Rattle.replay_shards.proofs.Calling.{its-step}
 use Rattle.replay_shards.proofs.held.ReplayHeld.step_shards.Goals as goal
 

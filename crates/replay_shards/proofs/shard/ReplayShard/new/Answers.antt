@@ -2,8 +2,8 @@ use Rattle.std.proofs.Common.{List, [], sym, subst, IsPermutation, refl}
 use Rattle.list_laws.proofs.Permutations.{unmoved}
 use Rattle.calculus.specs.Rows.{Row}
 use Rattle.replay_space.specs.declared.seen.Seen.{Seen}
-use Rattle.replay_shards.specs.Filing.{Filed}
-use Rattle.replay_shards.specs.Rows.{filed_rows, AreFiled}
+use Rattle.replay_rows.specs.Filing.{Filed}
+use Rattle.replay_rows.specs.Rows.{filed_rows, AreFiled}
 use Rattle.replay_shards.proofs.shard.ReplayShard.new.Goals as goal
 
 pub invariant_of-result : goal.invariant_of-result

@@ -12,8 +12,11 @@ use Rattle.token_cursor.specs.Reading.{bracket_of, of_pat, of_proc, pairs_writte
 use Rattle.std.proofs.Common.{length, map, ◌*◌, ◌+◌, ◌<◌, ◌≤◌}
 use Rattle.rho_parser.proofs.parser.Parser.+parse.Given as goal
 
+abbrev pub decreases-bind : goal.decreases-bind
+decreases-bind l = 128 * length l.self.now.cursor.rest.now + 100
+
 abbrev pub decreases-binds_tail : goal.decreases-binds_tail
-decreases-binds_tail l = 128 * length l.self.now.cursor.rest.now + 3
+decreases-binds_tail l = 128 * length l.self.now.cursor.rest.now + 39
 
 abbrev pub decreases-block : goal.decreases-block
 decreases-block l = 128 * length l.self.now.cursor.rest.now + 2
@@ -72,6 +75,9 @@ decreases-new_form l = 128 * length l.self.now.cursor.rest.now + 34
 abbrev pub decreases-one : goal.decreases-one
 decreases-one l = 128 * length l.self.now.cursor.rest.now + 37
 
+abbrev pub decreases-pair : goal.decreases-pair
+decreases-pair l = 128 * length l.self.now.cursor.rest.now + 39
+
 abbrev pub decreases-par : goal.decreases-par
 decreases-par l = 128 * length l.self.now.cursor.rest.now + 38
 
@@ -104,6 +110,9 @@ decreases-pattern_not l = 128 * length l.self.now.cursor.rest.now + 66
 
 abbrev pub decreases-pattern_one : goal.decreases-pattern_one
 decreases-pattern_one l = 128 * length l.self.now.cursor.rest.now + 75
+
+abbrev pub decreases-pattern_pair : goal.decreases-pattern_pair
+decreases-pattern_pair l = 128 * length l.self.now.cursor.rest.now + 81
 
 abbrev pub decreases-pattern_par : goal.decreases-pattern_par
 decreases-pattern_par l = 128 * length l.self.now.cursor.rest.now + 80
@@ -144,7 +153,7 @@ invariant-block-each l = record {
 
 abbrev pub invariant-left-each : goal.invariant-left-each
 invariant-left-each l = record {
-  turns : (out : Outcome) → Runs Tutorial l.free (last (Sort.LeftTail (map name_pat_written l.pats.value.items) l.pats.height)) (view l.self.cursor.rest.now) out → Runs Tutorial l.free (rule Tutorial Prod.left_some) (view l.fn.self.cursor.rest.now) out;
+  turns : (out : Outcome) → Runs Tutorial l.free (last (Sort.LeftTail (map name_pat_written l.pats.value.items) l.pats.height)) (view l.self.cursor.rest.now) out → Runs Tutorial l.free (rule Tutorial (choose Sort.Left (view l.fn.self.cursor.rest.now))) (view l.fn.self.cursor.rest.now) out;
   room : l.pats.height ≤ l.free;
   shorter : length l.self.cursor.rest.now ≤ length l.fn.self.cursor.rest.now;
 }
@@ -207,21 +216,21 @@ invariant-pattern_par-each l = record {
 
 abbrev pub invariant-pattern_row-each : goal.invariant-pattern_row-each
 invariant-pattern_row-each l = record {
-  turns : (out : Outcome) → Runs Tutorial l.free (last (Sort.RowTail patterns (bracket_of l.bracket) (map pat_written l.members.value.items) l.members.height)) (view l.self.cursor.rest.now) out → Runs Tutorial l.free (rule Tutorial (Prod.row_some patterns (bracket_of l.bracket))) (view l.fn.self.cursor.rest.now) out;
+  turns : (out : Outcome) → Runs Tutorial l.free (last (Sort.RowTail patterns (bracket_of l.bracket) (map pat_written l.members.value.items) l.members.height)) (view l.self.cursor.rest.now) out → Runs Tutorial l.free (rule Tutorial (choose (Sort.Row patterns (bracket_of l.bracket)) (view l.fn.self.cursor.rest.now))) (view l.fn.self.cursor.rest.now) out;
   room : l.members.height ≤ l.free;
   shorter : length l.self.cursor.rest.now ≤ length l.fn.self.cursor.rest.now;
 }
 
 abbrev pub invariant-pattern_sequence-each : goal.invariant-pattern_sequence-each
 invariant-pattern_sequence-each l = record {
-  turns : (out : Outcome) → Runs Tutorial l.free (last (Sort.SeqTail (bracket_of l.bracket) (map pat_written l.pats.value.items) l.pats.height)) (view l.self.cursor.rest.now) out → Runs Tutorial l.free (rule Tutorial (Prod.seq_some (bracket_of l.bracket))) (view l.fn.self.cursor.rest.now) out;
+  turns : (out : Outcome) → Runs Tutorial l.free (last (Sort.SeqTail (bracket_of l.bracket) (map pat_written l.pats.value.items) l.pats.height)) (view l.self.cursor.rest.now) out → Runs Tutorial l.free (rule Tutorial (choose (Sort.Seq (bracket_of l.bracket)) (view l.fn.self.cursor.rest.now))) (view l.fn.self.cursor.rest.now) out;
   room : l.pats.height ≤ l.free;
   shorter : length l.self.cursor.rest.now ≤ length l.fn.self.cursor.rest.now;
 }
 
 abbrev pub invariant-row-each : goal.invariant-row-each
 invariant-row-each l = record {
-  turns : (out : Outcome) → Runs Tutorial l.free (last (Sort.RowTail processes (bracket_of l.bracket) (map proc_written l.members.value.items) l.members.height)) (view l.self.cursor.rest.now) out → Runs Tutorial l.free (rule Tutorial (Prod.row_some processes (bracket_of l.bracket))) (view l.fn.self.cursor.rest.now) out;
+  turns : (out : Outcome) → Runs Tutorial l.free (last (Sort.RowTail processes (bracket_of l.bracket) (map proc_written l.members.value.items) l.members.height)) (view l.self.cursor.rest.now) out → Runs Tutorial l.free (rule Tutorial (choose (Sort.Row processes (bracket_of l.bracket)) (view l.fn.self.cursor.rest.now))) (view l.fn.self.cursor.rest.now) out;
   room : l.members.height ≤ l.free;
   shorter : length l.self.cursor.rest.now ≤ length l.fn.self.cursor.rest.now;
 }

@@ -1,4 +1,0 @@
-use Rattle.hub_runs.proofs.cases.a_stop_ends_the_other_seat.Goals as goal
-
-pub start-requires-clause-opens : goal.start-requires-clause-opens
-start-requires-clause-opens g c κs = ((λ k. 0), c.in_ok-shards.ensures.zero, tt)

@@ -1,4 +1,0 @@
-use Rattle.replay_shards.proofs.kept.count_if.Goals as goal
-
-pub settle-requires-clause-low : goal.settle-requires-clause-low
-settle-requires-clause-low c e = c.requires.low c.if-not-wanted.false
