@@ -34,16 +34,6 @@ pub mod Runs
 pub mod Candidates
 pub mod Laws
 pub mod Examples
-pub mod ExamplesValues
-pub mod ExamplesMatches
-pub mod ExamplesUnfoldings
-pub mod ExamplesRuns
-pub mod ExamplesPrinted
-pub mod ExamplesSteps
-pub mod ExamplesStoring
-pub mod ExamplesBare
-pub mod ExamplesCongruence
-pub mod ExamplesForm
 pub mod CodeLaws
 pub mod CongruenceLaws
 pub mod SubstitutionLaws

@@ -7,7 +7,6 @@
 pub mod code_laws;
 pub mod congruence_laws;
 pub mod count;
-pub mod examples;
 pub mod fault;
 pub mod ids;
 pub mod laws;

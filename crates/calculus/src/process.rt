@@ -3,7 +3,6 @@ use crate::plain::{BinaryOp, Decl, Ground, Kind, Rest, Rights, Simple, UnaryOp};
 
 /// A process as it is written, with names. Blocks and parentheses have no node.
 #[cycle(process)]
-#[derive(Drop)]
 pub enum Proc {
     /// Parts in parallel; `Nil` has none.
     Par(Vec<Proc>),
@@ -58,18 +57,76 @@ pub enum Proc {
     },
 }
 
+impl Drop for Proc {
+    #[cycle(let_go)]
+    fn drop(self) {
+        match self {
+            Proc::Par(_parts) => {}
+            Proc::Ground(_ground) => {}
+            Proc::Var(_name) => {}
+            Proc::Drop(_name) => {}
+            Proc::List(_members) => {}
+            Proc::Tuple(_members) => {}
+            Proc::Set(_members) => {}
+            Proc::Map(_pairs) => {}
+            Proc::Send {
+                channel: _channel,
+                args: _args,
+                persistent: _,
+            } => {}
+            Proc::Receive {
+                kind: _,
+                binds: _binds,
+                body: _body,
+            } => {}
+            Proc::New {
+                names: _names,
+                body: _body,
+            } => {}
+            Proc::Match {
+                target: _target,
+                cases: _cases,
+            } => {}
+            Proc::Bundle {
+                rights: _,
+                body: _body,
+            } => {}
+            Proc::Unary { op: _, arg: _arg } => {}
+            Proc::Binary {
+                op: _,
+                left: _left,
+                right: _right,
+            } => {}
+            Proc::Method {
+                name: _name,
+                target: _target,
+                args: _args,
+            } => {}
+        }
+    }
+}
+
 /// A name: a variable, a fresh name that a run made, or a quoted process.
 #[cycle(process)]
-#[derive(Drop)]
 pub enum Name {
     Var(String),
     Fresh(Digest),
     Quote(Box<Proc>),
 }
 
+impl Drop for Name {
+    #[cycle(let_go)]
+    fn drop(self) {
+        match self {
+            Name::Var(_name) => {}
+            Name::Fresh(_digest) => {}
+            Name::Quote(_quoted) => {}
+        }
+    }
+}
+
 /// A pattern of processes.
 #[cycle(process)]
-#[derive(Drop)]
 pub enum Pat {
     Par(Vec<Pat>),
     /// `_`, which takes any process.
@@ -99,28 +156,88 @@ pub enum Pat {
     Closed(Box<Proc>),
 }
 
+impl Drop for Pat {
+    #[cycle(let_go)]
+    fn drop(self) {
+        match self {
+            Pat::Par(_parts) => {}
+            Pat::Wild => {}
+            Pat::Var(_name) => {}
+            Pat::Simple(_) => {}
+            Pat::Same(_body) => {}
+            Pat::Ground(_ground) => {}
+            Pat::Both(_left, _right) => {}
+            Pat::Either(_left, _right) => {}
+            Pat::Not(_arg) => {}
+            Pat::List(_members, _rest) => {}
+            Pat::Tuple(_members) => {}
+            Pat::Set(_members, _rest) => {}
+            Pat::Map(_pairs, _rest) => {}
+            Pat::Send {
+                channel: _channel,
+                args: _args,
+                persistent: _,
+            } => {}
+            Pat::Bundle {
+                rights: _,
+                body: _body,
+            } => {}
+            Pat::Closed(_form) => {}
+        }
+    }
+}
+
 /// A pattern of names.
 #[cycle(process)]
-#[derive(Drop)]
 pub enum NamePat {
     Wild,
     Var(String),
     Quote(Box<Pat>),
 }
 
+impl Drop for NamePat {
+    #[cycle(let_go)]
+    fn drop(self) {
+        match self {
+            NamePat::Wild => {}
+            NamePat::Var(_name) => {}
+            NamePat::Quote(_quoted) => {}
+        }
+    }
+}
+
 /// A bind of a receive: the patterns of a datum's arguments, a remainder and a channel.
 #[cycle(process)]
-#[derive(Drop)]
 pub struct Bind {
     pub pats: Vec<NamePat>,
     pub rest: Rest,
     pub channel: Name,
 }
 
+impl Drop for Bind {
+    #[cycle(let_go)]
+    fn drop(self) {
+        let Bind {
+            pats: _pats,
+            rest: _rest,
+            channel: _channel,
+        } = self;
+    }
+}
+
 /// A case of a `match`.
 #[cycle(process)]
-#[derive(Drop)]
 pub struct Case {
     pub pat: Pat,
     pub body: Proc,
+}
+
+impl Drop for Case {
+    #[cycle(let_go)]
+    fn drop(self) {
+        let Case {
+            pat: _pat,
+            body: _body,
+        } = self;
+    }
 }

@@ -1,9 +1,8 @@
 -- Examples of rows that are closed, and of some that are not.
 use Rattle.std.specs.Prelude.{[], ◌∷◌}
 use Rattle.calculus.specs.Rows.{stdout, stdout_ack}
-use Rattle.calculus.specs.Examples.{num, the_var, sent, heard, on, a_var}
+use Rattle.calculus.specs.Examples.{num, the_var, sent, heard, on, a_var, row_of}
 use Rattle.calculus.specs.Shape.{only}
-use Rattle.calculus.specs.ExamplesSteps.{row_of}
 use Rattle.closed_row_laws.specs.Laws.{AreClosedRows}
 
 -- rows that are closed, and rows that are not

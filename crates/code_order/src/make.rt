@@ -36,9 +36,12 @@ fn with_orders(alloc: Global, parts: Vec<Part>) -> Result<Vec<Part>, AllocError>
 pub fn with_order(alloc: Global, part: Part) -> Result<Part, AllocError>
     ensures { IfOk result (λ p. part_tree p ≡ reordered (part_tree part)) }
 {
-    match part {
-        Part::Set(members) => Ok(Part::Set(sorted_terms(alloc, members)?)),
-        Part::Map(pairs) => Ok(Part::Map(sorted_pairs(alloc, pairs)?)),
-        other => Ok(other),
+    let part = match part.into_members() {
+        Ok(members) => return Ok(Part::Set(sorted_terms(alloc, members)?)),
+        Err(part) => part,
+    };
+    match part.into_pairs() {
+        Ok(pairs) => Ok(Part::Map(sorted_pairs(alloc, pairs)?)),
+        Err(part) => Ok(part),
     }
 }

@@ -16,8 +16,9 @@ pub fn set_of(alloc: Global, members: Vec<Term>) -> Result<Term, AllocError>
     ensures { IfOk result (λ t. t ≡ of_set members.items) }
 {
     let part = with_order(alloc, Part::Set(members))?;
-    let Part::Set(sorted) = part else {
-        unreachable!()
+    let sorted = match part.into_members() {
+        Ok(sorted) => sorted,
+        Err(_other) => unreachable!(),
     };
     let kept = last_of_each(alloc, sorted)?;
     Term::from_part(alloc, Part::Set(kept))
@@ -30,8 +31,9 @@ pub fn map_of(alloc: Global, pairs: Vec<(Term, Term)>) -> Result<Term, AllocErro
     ensures { IfOk result (λ t. t ≡ of_map (ascending (map pair_tree pairs.items))) }
 {
     let part = with_order(alloc, Part::Map(pairs))?;
-    let Part::Map(sorted) = part else {
-        unreachable!()
+    let sorted = match part.into_pairs() {
+        Ok(sorted) => sorted,
+        Err(_other) => unreachable!(),
     };
     let kept = last_of_each(alloc, sorted)?;
     Term::from_part(alloc, Part::Map(kept))

@@ -3,8 +3,7 @@ use Rattle.std.specs.Prelude.{◌≡◌, List, [], ◌∷◌}
 use Rattle.calculus.specs.declared.plain.TermRest.TheVariants as rests
 use Rattle.calculus.specs.Tree.{row, rest, same, list_pattern, Tree}
 use Rattle.calculus.specs.Shape.{leaf, one, two, many}
-use Rattle.calculus.specs.Examples.{num, list_of, set_of, thin, a_var}
-use Rattle.calculus.specs.ExamplesCongruence.{one_two, two_one}
+use Rattle.calculus.specs.Examples.{num, list_of, set_of, thin, a_var, one_two, two_one}
 use Rattle.calculus.specs.Matching.{Bindings, all_matches}
 use Rattle.congruent_matches.specs.Laws.{AreAlike}
 

@@ -3,8 +3,7 @@ use Rattle.std.specs.Prelude.{[], ◌∷◌, codes}
 use Rattle.calculus.specs.declared.plain.BinaryOp.TheVariants as op
 use Rattle.calculus.specs.Tree.{binary, Tree}
 use Rattle.calculus.specs.Shape.{two, process}
-use Rattle.calculus.specs.Examples.{num, word, set_of, map_of, entry, op_on, call}
-use Rattle.calculus.specs.ExamplesValues.{op_prices}
+use Rattle.calculus.specs.Examples.{num, word, set_of, map_of, entry, op_on, call, op_prices}
 use Rattle.calculus.specs.Values.{value}
 use Rattle.congruent_values.specs.Laws.{AreSame}
 

@@ -2,7 +2,7 @@
 use Rattle.std.specs.Prelude.{◌≡◌, true, List, [], ◌∷◌, ◌++◌, None, refl}
 use Rattle.std.proofs.Common.{ap, sym, subst, inl, inr}
 use Rattle.calculus.specs.declared.plain.Kind.TheVariants as kinds
-use Rattle.calculus.specs.ExamplesSteps.{datum, receiver}
+use Rattle.calculus.specs.Examples.{datum, receiver}
 use Rattle.calculus.proofs.Opened.{hashing}
 use Rattle.calculus.proofs.Candidates.{candidates_suffice}
 use Rattle.calculus.specs.Log.{Step}

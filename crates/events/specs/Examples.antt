@@ -8,8 +8,7 @@ use Rattle.calculus.specs.Log.{Step}
 use Rattle.calculus.specs.Rows.{Row}
 use Rattle.calculus.specs.Steps.{meeting}
 use Rattle.calculus.specs.Runs.{Work}
-use Rattle.calculus.specs.Examples.{num, step}
-use Rattle.calculus.specs.ExamplesSteps.{row_of, datum, receiver, bag}
+use Rattle.calculus.specs.Examples.{num, step, row_of, datum, receiver, bag}
 use Rattle.events.specs.Events.{Core, Event}
 use Rattle.events.specs.Spending.{spent_ids}
 

@@ -6,8 +6,7 @@ use Rattle.std.proofs.lemmas.Bool.{ltb-true}
 use Rattle.std.proofs.lemmas.List.Elements.{All-nil}
 use Rattle.calculus.specs.Bytes.{be32, joined}
 use Rattle.calculus.specs.Form.{IsBytes, IsDigest}
-use Rattle.calculus.specs.Examples.{prices}
-use Rattle.calculus.specs.ExamplesRuns.{first_path_source, first_path_digest, first_path_step}
+use Rattle.calculus.specs.Examples.{prices, first_path_source, first_path_digest, first_path_step}
 use Rattle.calculus.specs.Log.{Step}
 use Rattle.calculus.specs.Seeds.{digest_of, System}
 use Rattle.calculus.specs.Steps.{differ}

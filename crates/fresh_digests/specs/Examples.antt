@@ -3,8 +3,7 @@ use Rattle.std.specs.Prelude.{◌≡◌, ◌≢◌, ℕ, ◌+◌, ◌^◌, true,
 use Rattle.calculus.specs.declared.plain.BinaryOp.TheVariants as op
 use Rattle.calculus.specs.declared.plain.Origin.TheVariants as origins
 use Rattle.calculus.specs.Tree.{new, Tree, weight}
-use Rattle.calculus.specs.Examples.{prices, num, op_on}
-use Rattle.calculus.specs.ExamplesRuns.{first_path_source, first_path_digest, first_path_step}
+use Rattle.calculus.specs.Examples.{prices, num, op_on, first_path_source, first_path_digest, first_path_step}
 use Rattle.calculus.specs.Rows.{stdout}
 use Rattle.calculus.specs.Seeds.{digest_of, message, System, Start, Split, Body, Fresh, Comm}
 use Rattle.calculus.specs.Root.{root}

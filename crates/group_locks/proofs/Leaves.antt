@@ -1,11 +1,11 @@
 -- What a seat says of works that it was to leave on its desk.
-use Rattle.std.proofs.Common.{◌≡◌, ℕ, ◌+◌, ◌-◌, List, [], ◌∷◌, length, Result, Ok, Err, OnOk, IfErr, refl, sym, ap, ◌∙◌, arith}
+use Rattle.std.proofs.Common.{◌≡◌, ℕ, ◌+◌, ◌%◌, ◌^◌, [], length, Result, Ok, Err, OnOk, IfErr, sym, ap, ◌∙◌, arith}
 use Rattle.atomic_table.specs.Table.{Me}
 use Rattle.hub_rule.specs.declared.view.View.{View}
-use Rattle.hub_rule.specs.declared.view.Pile.{Pile}
 use Rattle.hub_rule.specs.declared.slot.Slot.{Slot}
-use Rattle.hub_rule.specs.Works.{pile}
+use Rattle.hub_rule.specs.Works.{hand}
 use Rattle.hub_rule.specs.Rule.{with_pile, leaves}
+use Rattle.group_locks.proofs.Hands.{even_left, more_left}
 
 -- the seat was a and is now b: it left what its last entry offered, or these came back
 pub record Left {E X W U V : Type 0} (a b : Me (Slot X W) (View E X W)) (ops : V) (found : Result U V) : Type 0 where
@@ -28,20 +28,21 @@ module _ {E X W U V : Type 0} (a b : Me (Slot X W) (View E X W)) (ops : V) where
   left_back (Ok u) h = tt
   left_back (Err v) h = (h.err.0, ap {A = Me (Slot X W) (View E X W)} (λ x. x.0.pile) h.err.1)
 
-no_length : {A : Type 0} (xs : List A) → length xs ≡ 0 → xs ≡ []
-no_length [] e = refl
-no_length (x ∷ xs) e = absurd (omega arith)
+  -- the pending word counts what is in hand
+  pub left_even : (found : Result U V) → Left a b ops found → a.0.pile.counted ≡ length (hand a.0.pile) → b.0.pile.counted ≡ length (hand b.0.pile)
+  left_even (Ok u) h even = even_left a.0.pile b.0.pile (ap {A = Me (Slot X W) (View E X W)} (λ x. x.0.pile) h.ok) even
+  left_even (Err v) h even = let e = h.err.1 in ap {A = Me (Slot X W) (View E X W)} (λ x. x.0.pile.counted) e ∙ (even ∙ sym (ap {A = Me (Slot X W) (View E X W)} (λ x. length (hand x.0.pile)) e))
 
--- where nothing was offered, nothing is left
-leaves_nothing : {E W : Type 0} (p : Pile E W) → p.desk ≡ [] → p.offered ≡ [] → leaves p ≡ p
-leaves_nothing {E} {W} p away none =
-    let n = ap {A = List (ℕ × W)} length none in
-    let c : p.counted - length p.offered ≡ p.counted = omega arith in
-    let l : p.left + length p.offered ≡ p.left = omega arith in
-    ap {A = ℕ} (λ k. pile p.kept p.taken [] p.took k p.owes [] p.empty (p.left + length p.offered) p.fetched) c
-    ∙ (ap {A = ℕ} (λ k. pile p.kept p.taken [] p.took p.counted p.owes [] p.empty k p.fetched) l
-    ∙ (ap {A = List (ℕ × W)} (λ o. pile p.kept p.taken o p.took p.counted p.owes [] p.empty p.left p.fetched) (sym none)
-    ∙ ap {A = List (ℕ × List (ℕ × W))} (λ d. pile p.kept p.taken p.offered p.took p.counted p.owes d p.empty p.left p.fetched) (sym away)))
-
-pub nothing_left : {E X W : Type 0} (a : Me (Slot X W) (View E X W)) → a.0.pile.desk ≡ [] → length a.0.pile.offered ≡ 0 → a ≡ (with_pile a.0 (leaves a.0.pile), a.1)
-nothing_left {E} {X} {W} a away none = ap {A = Pile E W} (λ q. (with_pile a.0 q, a.1)) (sym (leaves_nothing a.0.pile away (no_length a.0.pile.offered none)))
+  -- how many works the seat left, less those that it took
+  pub left_balance : (found : Result U V) (moved moved' n more : ℕ) → Left a b ops found → OnOk found (n ≡ more) → IfErr found (λ _. n ≡ 0) → more ≡ length a.0.pile.offered → moved' ≡ (moved + n) % 2 ^ 64
+      → (moved + a.0.pile.fetched) % 2 ^ 64 ≡ a.0.pile.left % 2 ^ 64 → (moved' + b.0.pile.fetched) % 2 ^ 64 ≡ b.0.pile.left % 2 ^ 64
+  left_balance (Ok u) moved moved' n more h went back many is same =
+      let f : b.0.pile.fetched ≡ a.0.pile.fetched = ap {A = Me (Slot X W) (View E X W)} (λ x. x.0.pile.fetched) h.ok in
+      let l : b.0.pile.left ≡ a.0.pile.left + length a.0.pile.offered = ap {A = Me (Slot X W) (View E X W)} (λ x. x.0.pile.left) h.ok in
+      let m : moved' ≡ (moved + more) % 2 ^ 64 = is ∙ ap {A = ℕ} (λ k. (moved + k) % 2 ^ 64) went in
+      let g : b.0.pile.left ≡ a.0.pile.left + more = omega arith in
+      ap {A = ℕ} (λ k. (moved' + k) % 2 ^ 64) f ∙ (more_left moved moved' a.0.pile.fetched a.0.pile.left more same m ∙ ap {A = ℕ} (λ k. k % 2 ^ 64) (sym g))
+  left_balance (Err v) moved moved' n more h went back many is same =
+      let f : b.0.pile.fetched ≡ a.0.pile.fetched = ap {A = Me (Slot X W) (View E X W)} (λ x. x.0.pile.fetched) h.err.1 in
+      let l : b.0.pile.left ≡ a.0.pile.left = ap {A = Me (Slot X W) (View E X W)} (λ x. x.0.pile.left) h.err.1 in
+      let m : moved' ≡ (moved + 0) % 2 ^ 64 = is ∙ ap {A = ℕ} (λ k. (moved + k) % 2 ^ 64) back in omega arith

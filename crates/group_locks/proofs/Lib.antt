@@ -1,3 +1,3 @@
-pub mod Waits
+pub mod Hands
 pub mod Takes
 pub mod Leaves

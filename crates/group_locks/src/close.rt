@@ -11,8 +11,7 @@ use crate::hub::{Hub, Pool};
 use crate::seat::Seat;
 use crate::state::SeatState;
 use hub_rule::{Board, CHARGED, Enter, Merge, STOP, Scene, StopCause, Token};
-use hub_slots::{empty_places, in_order, take_left, take_shards};
-use std::alloc::{AllocError, Global};
+use hub_slots::{Room, in_order, room_for, take_left, take_shards};
 
 // Makes all seats one, and hands out the lists of their entries.
 fn gather<S: Scene>(
@@ -112,18 +111,12 @@ pub struct Closed<S: Scene> {
     pub stop: Option<StopCause>,
 }
 
-// Room for what a hub leaves.
-#[derive(Drop)]
-struct Room<S: Scene> {
-    drawn: Vec<Vec<(u64, S::Entry)>>,
-    places: Vec<Option<S::Entry>>,
-    entries: Vec<S::Entry>,
-    shards: Vec<S::Shard>,
-    left: Vec<S::Work>,
-}
-
 // The same, with the entries in order.
-fn end_in_order<S: Scene>(hub: Hub<S>, seats: Vec<Seat<S>>, room: Room<S>) -> Closed<S>
+fn end_in_order<S: Scene>(
+    hub: Hub<S>,
+    seats: Vec<Seat<S>>,
+    room: Room<S::Entry, S::Shard, S::Work>,
+) -> Closed<S>
     requires seats { All (λ s. AtRest hub.table.shared.table_id s.state) seats.items }
     requires count { length seats.items ≡ seat_count hub.table.shared.key }
     requires left { CanHoldLeft (length (opened_works hub.table.shared.key)) (λ s. s.state) seats.items room.left }
@@ -204,7 +197,10 @@ impl<S: Scene> Hub<S> {
 }
 
 // Room for what these seats and the desks leave, of so many works at the start.
-fn room_to_end<S: Scene>(seats: &Vec<Seat<S>>, start: u64) -> Option<Room<S>>
+fn room_to_end<S: Scene>(
+    seats: &Vec<Seat<S>>,
+    start: u64,
+) -> Option<Room<S::Entry, S::Shard, S::Work>>
     ensures drawn { IfSome result (λ r. (r.drawn.items ≡ []) × (length seats.now.items ≤ vec_capacity r.drawn)) }
     ensures order { IfSome result (λ r. CanHoldDrawn (λ s. s.state) seats.now.items r.places r.entries) }
     ensures shards { IfSome result (λ r. (r.shards.items ≡ []) × (64 ≤ vec_capacity r.shards)) }
@@ -213,27 +209,6 @@ fn room_to_end<S: Scene>(seats: &Vec<Seat<S>>, start: u64) -> Option<Room<S>>
     let count = entry_count(seats)?;
     let standing = left_count(seats, start);
     room_for(*seats.allocator(), seats.len(), count, standing as usize).ok()
-}
-
-// Room for the lists of so many seats, so many entries, all shards and so many works.
-fn room_for<S: Scene>(
-    alloc: Global,
-    seats: usize,
-    count: usize,
-    standing: usize,
-) -> Result<Room<S>, AllocError>
-    ensures drawn { IfOk result (λ r. (r.drawn.items ≡ []) × (seats ≤ vec_capacity r.drawn)) }
-    ensures order { IfOk result (λ r. (length r.places.items ≡ count) × (r.entries.items ≡ []) × (count ≤ vec_capacity r.entries)) }
-    ensures shards { IfOk result (λ r. (r.shards.items ≡ []) × (64 ≤ vec_capacity r.shards)) }
-    ensures left { IfOk result (λ r. (r.left.items ≡ []) × (standing ≤ vec_capacity r.left)) }
-{
-    Ok(Room {
-        drawn: Vec::with_capacity(alloc, seats)?,
-        places: empty_places(alloc, count)?,
-        entries: Vec::with_capacity(alloc, count)?,
-        shards: Vec::with_capacity(alloc, 64)?,
-        left: Vec::with_capacity(alloc, standing)?,
-    })
 }
 
 // How many entries all seats have.

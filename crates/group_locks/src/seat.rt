@@ -2,21 +2,18 @@
 ghost use Rattle.std.specs.Prelude.{◌≡◌, ℕ, ◌+◌, ◌^◌, ◌<◌, true, false, ◌≤◌, [], ◌∷◌, ◌++◌, ◌%◌, ◌-◌, length, None, OnOk, IfErr, IfSome, IfNone, vec_len, vec_capacity};
 ghost use Rattle.std.specs.Int.{bit_at};
 ghost use Rattle.hub_rule.specs.Counts.{count, one_if, things_of, numbered};
-ghost use Rattle.hub_rule.specs.Rule.{after_commit, since_after, with_tally, takes_up, leaves, kept_if, owes, pays, Carries, MayDraw, Goes, EndsBy};
-ghost use Rattle.hub_rule.specs.Rule.{ChangesPile, KeepsTurns, MayTakeDesk, SameCharges, IsClear, FindsLeave, FindsNoEnd, FindsEnd, HasNewLeave};
+ghost use Rattle.hub_rule.specs.Rule.{after_commit, since_after, leaves, kept_if, owes, pays, Carries, ChangesPile, FindsLeave, FindsNoEnd, FindsEnd};
 ghost use Rattle.hub_rule.specs.Stops.{HasFault};
 ghost use Rattle.hub_rule.specs.Meaning.{IsTold};
 ghost use Rattle.hub_rule.specs.Works.{hand, HasOneWork};
+ghost use Rattle.hub_steps.specs.Looks.{Looked};
 ghost use Rattle.group_locks.specs.Seats.{home_of, pile_of, hand_of, taken_by, offered_by, took_by, empty_of, drawn_by, held_by, since_of, tally_of};
 ghost use Rattle.group_locks.specs.Seats.{charged_by, due_of, over_of, stops_of, HasLeave, HasRoom, SameRoom, MayGoOn, FoundEnd, StopsFor};
 
 use crate::hub::Hub;
 use crate::state::SeatState;
-use hub_rule::{BELL, Board, Scene, StopCause, Terms, Token, read_pending};
-use hub_steps::{
-    draw, give_turns, halt, leave_works, look_round, pay, read_charged, read_stop, ring,
-    sleep_for_bell, take_turns, tell,
-};
+use hub_rule::{Board, Scene, StopCause, Terms};
+use hub_steps::{draw_and_tell, find_work, give_turns, halt, leave_works, may_go, pay, take_turns};
 use std::alloc::{AllocError, Global};
 use std::sync::Wait;
 
@@ -175,7 +172,7 @@ impl<S: Scene> Seat<S> {
         ensures stays { result ≡ true → FindsNoEnd (tally_of self.old.state) (tally_of self.new.state) }
         ensures cause { result ≡ false → FindsEnd (tally_of self.old.state) (tally_of self.new.state) }
     {
-        may_go_at(&hub.table.shared, &mut self.state.token, hub.terms.limit)
+        may_go(&hub.table.shared, &mut self.state.token, hub.terms.limit)
     }
 
     /// Adds the price of the seat's last entry to what is charged. It is added once.
@@ -279,25 +276,6 @@ fn give_group_at<S: Scene>(
     state.turns = 0;
 }
 
-// Reads the stop word and the charged word.
-fn may_go_at<S: Scene>(board: &Board<S>, token: &mut Token<S>, limit: u64) -> bool
-    requires table { (token.old.table_id ≡ board.now.table_id) × (board.now.table_id.words ≡ 800) }
-    requires limit { limit ≡ board.now.key.terms.limit }
-    ensures same { (token.new.table_id ≡ token.old.table_id) × (token.new.id ≡ token.old.id) }
-    ensures view { token.new.me ≡ (with_tally token.old.me.0 token.new.me.0.tally, token.old.me.1) }
-    ensures charged { SameCharges token.old.me.0.tally token.new.me.0.tally }
-    ensures fresh { length token.new.me.0.tally.fresh ≤ length token.old.me.0.tally.fresh }
-    ensures clear { IsClear token.old.me.0.tally → IsClear token.new.me.0.tally }
-    ensures go { result ≡ true → FindsLeave token.old.me.0.tally token.new.me.0.tally }
-    ensures stays { result ≡ true → FindsNoEnd token.old.me.0.tally token.new.me.0.tally }
-    ensures cause { result ≡ false → FindsEnd token.old.me.0.tally token.new.me.0.tally }
-{
-    if read_stop(board, token) != 0 {
-        return false;
-    }
-    read_charged(board, token) <= limit
-}
-
 fn commit_at<S: Scene>(
     board: &Board<S>,
     state: &mut SeatState<S::Entry, S::Shard, S::Work>,
@@ -320,62 +298,6 @@ fn commit_at<S: Scene>(
     number
 }
 
-// Draws the entry, and tells the pending word.
-fn draw_and_tell<S: Scene>(
-    board: &Board<S>,
-    token: &mut Token<S>,
-    entry: &S::Entry,
-    offers: u64,
-) -> u64
-    requires table { (token.old.table_id ≡ board.now.table_id) × (board.now.table_id.words ≡ 800) }
-    requires may { MayDraw S.meaning token.old.me.0 entry.now }
-    requires counted { token.old.me.0.pile.counted ≡ 1 }
-    requires offers { offers ≡ (length (S.meaning.offers entry.now) + (2 ^ 64 - one_if (S.meaning.ends entry.now))) % 2 ^ 64 }
-    ensures same { (token.new.table_id ≡ token.old.table_id) × (token.new.id ≡ token.old.id) }
-    ensures drawn { (base : ℕ) × (token.new.me ≡ (after_commit S.meaning token.old.me.0 result entry.now base, token.old.me.1)) }
-{
-    let number = draw(board, token, entry);
-    let found = tell(board, token, offers);
-    ring(board, token, found.wrapping_add(offers) == 0);
-    number
-}
-
-// Takes a work, as soon as one lies on a desk, or finds an end.
-fn find_work<S: Scene, R: Wait>(
-    rt: &R,
-    alloc: Global,
-    board: &Board<S>,
-    token: &mut Token<S>,
-    desk: u32,
-    terms: Terms,
-) -> Option<S::Work>
-    requires table { (token.old.table_id ≡ board.now.table_id) × (board.now.table_id.words ≡ 800) }
-    requires terms { (terms.limit ≡ board.now.key.terms.limit) × (1 ≤ terms.seats) × (terms.seats ≤ 32) }
-    requires desk { MayTakeDesk token.old.me.0 desk }
-    requires idle { hand token.old.me.0.pile ≡ [] }
-    ensures same { (token.new.table_id ≡ token.old.table_id) × (token.new.id ≡ token.old.id) }
-    ensures view { KeepsTurns token.old token.new }
-    ensures tally { Goes token.old.me.0.tally token.new.me.0.tally }
-    ensures some { IfSome result (λ w. (i : ℕ) × (token.new.me.0.pile ≡ takes_up token.old.me.0.pile ((i, w) ∷ []))) }
-    ensures go { IfSome result (λ _. HasNewLeave token.old.me.0.tally token.new.me.0.tally) }
-    ensures none { IfNone result (EndsBy token.old.me.0 token.new.me.0) }
-{
-    for _ in rt.forever() {
-        let bell = board.peek(BELL);
-        if !may_go_at(board, token, terms.limit) {
-            return None;
-        }
-        if let Some(work) = look_round(rt, alloc, board, token, desk, terms.seats) {
-            return Some(work);
-        }
-        if read_pending(board, token) == 0 {
-            return None;
-        }
-        sleep_for_bell(rt, board, token, bell);
-    }
-    unreachable!()
-}
-
 fn take_at<S: Scene, R: Wait>(
     rt: &R,
     board: &Board<S>,
@@ -387,18 +309,23 @@ fn take_at<S: Scene, R: Wait>(
     requires idle { hand state.old.token.me.0.pile ≡ [] }
     ensures hub { state.new.token.table_id ≡ state.old.token.table_id }
     ensures room { SameRoom state.old state.new }
-    ensures view { KeepsTurns state.old.token state.new.token }
-    ensures tally { Goes state.old.token.me.0.tally state.new.token.me.0.tally }
-    ensures some { IfSome result (λ w. (i : ℕ) × (state.new.token.me.0.pile ≡ takes_up state.old.token.me.0.pile ((i, w) ∷ []))) }
-    ensures go { IfSome result (λ _. HasNewLeave state.old.token.me.0.tally state.new.token.me.0.tally) }
-    ensures none { IfNone result (EndsBy state.old.token.me.0 state.new.token.me.0) }
+    ensures looked { Looked state.old.token.me state.new.token.me result }
 {
     let alloc = *state.entries.allocator();
-    let Some(work) = find_work(rt, alloc, board, &mut state.token, state.desk, terms) else {
-        return None;
-    };
-    state.moved = state.moved.wrapping_sub(1);
-    Some(work)
+    let found = find_work(rt, alloc, board, &mut state.token, state.desk, terms);
+    state.moved = state.moved.wrapping_sub(u64::from(found.is_some()));
+    found
+}
+
+// How many works were left, of so many.
+fn left_of<T: Drop>(left: &Result<(), Vec<T>>, count: u64) -> u64
+    ensures ok { OnOk left.now (result ≡ count) }
+    ensures err { IfErr left.now (λ _. result ≡ 0) }
+{
+    match left {
+        Ok(()) => count,
+        Err(_) => 0,
+    }
 }
 
 fn leave_at<S: Scene, R: Wait>(
@@ -416,14 +343,7 @@ fn leave_at<S: Scene, R: Wait>(
 {
     let alloc = *state.entries.allocator();
     let count = ops.len() as u64;
-    if count == 0 {
-        return Ok(());
-    }
-    match leave_works(rt, alloc, board, &mut state.token, state.desk, ops) {
-        Ok(()) => {
-            state.moved = state.moved.wrapping_add(count);
-            Ok(())
-        }
-        Err(ops) => Err(ops),
-    }
+    let left = leave_works(rt, alloc, board, &mut state.token, state.desk, ops);
+    state.moved = state.moved.wrapping_add(left_of(&left, count));
+    left
 }

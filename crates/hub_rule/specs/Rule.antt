@@ -191,10 +191,6 @@ ChangesPile old new f = new.me ≡ (with_pile old.me.0 (f old.me.0.pile), old.me
 abbrev pub GivesDesk : {E X W : Type 0} → Seat (Slot X W) (View E X W) → Seat (Slot X W) (View E X W) → (Pile E W → Pile E W) → Type 0
 GivesDesk old new f = new.me ≡ (with_pile old.me.0 (f old.me.0.pile), rest old.me.1)
 
--- of what the seat knows only the tally and the pile change
-abbrev pub KeepsTurns : {E X W : Type 0} → Seat (Slot X W) (View E X W) → Seat (Slot X W) (View E X W) → Type 0
-KeepsTurns old new = new.me ≡ (with_pile (with_tally old.me.0 new.me.0.tally) new.me.0.pile, old.me.1)
-
 -- the pending word counts all works in hand
 abbrev pub tells_of : {E W : Type 0} → Pile E W → Pile E W
 tells_of p = pile p.kept p.taken p.offered p.took (length (hand p)) false p.desk p.empty p.left p.fetched

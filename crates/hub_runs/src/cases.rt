@@ -4,8 +4,8 @@ ghost use Rattle.std.specs.List.{All};
 ghost use Rattle.group_locks.specs.Seats.{AtRest, IsIdle};
 
 use crate::runs::{Ran, close, open, run_hub};
+use crate::{Busy, Hand, Numbers, Site, do_work};
 use group_locks::{Hub, Pool, Seat, StopCause};
-use number_hub::{Busy, Hand, Numbers, Site, do_work};
 use std::alloc::{AllocError, Global};
 use std::rt::Clock;
 use std::sync::Wait;

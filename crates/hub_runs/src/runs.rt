@@ -3,8 +3,8 @@ ghost use Rattle.std.specs.Prelude.{◌≡◌, ◌<◌, ◌≤◌, ◌^◌, ℕ,
 ghost use Rattle.std.specs.List.{All};
 ghost use Rattle.group_locks.specs.Seats.{AtRest, IsIdle, seat_count};
 
+use crate::{Busy, Numbers, side_by_side, spin, zeros};
 use group_locks::{Closed, Hub, Pool, Seat, Terms};
-use number_hub::{Busy, Numbers, side_by_side, spin, zeros};
 use std::alloc::{AllocError, Global};
 use std::rt::Clock;
 use std::sync::Wait;

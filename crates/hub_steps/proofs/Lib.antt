@@ -1,3 +1,5 @@
 pub mod Loops
 pub mod Groups
 pub mod SetBits
+pub mod Waits
+pub mod Leaves

@@ -287,7 +287,7 @@ fn has_room<W: Drop>(works: &mut Vec<W>, more: usize) -> bool
     works.len() <= 1 << 58 && more <= (1 << 58) - works.len() && works.reserve(more).is_ok()
 }
 
-// Puts the works that the last entry offered on a desk, where memory allows.
+// Puts the works that the last entry offered on a desk, where memory allows. Where it offered none, no desk's turn is taken.
 pub fn leave_works<S: Scene, R: Wait>(
     rt: &R,
     alloc: Global,
@@ -303,15 +303,18 @@ pub fn leave_works<S: Scene, R: Wait>(
     ensures ok { OnOk result (ChangesPile token.old token.new leaves) }
     ensures err { IfErr result (λ v. (v ≡ ops) × (token.new.me ≡ token.old.me)) }
 {
+    let count = ops.len();
+    if count == 0 {
+        return Ok(());
+    }
     take_desk(rt, board, token, desk);
     let mut works = desk_out(alloc, board, token, desk);
-    if !has_room(&mut works, ops.len()) {
+    if !has_room(&mut works, count) {
         give_desk(board, token, desk, works, &None);
         return Err(ops);
     }
-    let many = ops.len() != 1;
     move_all(ops, &mut works);
     give_left(board, token, desk, works);
-    ring_for(board, token, many);
+    ring_for(board, token, count != 1);
     Ok(())
 }

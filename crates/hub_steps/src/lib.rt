@@ -3,6 +3,8 @@
 
 mod desks;
 mod steps;
+mod works;
 
-pub use crate::desks::{leave_works, look_round, ring, sleep_for_bell, tell};
-pub use crate::steps::{draw, give_turns, halt, pay, read_charged, read_stop, take_turns};
+pub use crate::desks::leave_works;
+pub use crate::steps::{give_turns, halt, pay, take_turns};
+pub use crate::works::{draw_and_tell, find_work, may_go};

@@ -17,7 +17,7 @@ use Rattle.events.proofs.Counts.{same_bytes}
 use Rattle.events.specs.Found.{Among}
 use Rattle.rho_term.specs.declared.term.TermBind.{TermBind}
 use Rattle.rho_term.specs.Parts.{bind_tree}
-use Rattle.spatial_match.specs.Given.{Ready}
+use Rattle.match_targets.specs.Targets.{Ready}
 use Rattle.row_search.specs.Choices.{takes}
 use Rattle.row_search.proofs.Known.{all-in, bind-channel}
 use Rattle.row_search.proofs.Looping.{in-rows}

@@ -19,7 +19,7 @@ use Rattle.calculus.specs.Tree.{Tree, row}
 use Rattle.rho_term.specs.declared.op.Op.TheVariants as op
 use Rattle.rho_term.specs.declared.term.TermBind.{TermBind}
 use Rattle.rho_term.specs.Rows.{row_of_op}
-use Rattle.spatial_match.specs.Given.{Ready}
+use Rattle.match_targets.specs.Targets.{Ready}
 use Rattle.calculus.specs.Order.{byte_cmp}
 use Rattle.calculus.specs.Rows.{channels, Row}
 use Rattle.calculus.specs.Steps.{Datum, as_datum}

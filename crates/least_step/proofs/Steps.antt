@@ -19,7 +19,7 @@ use Rattle.events.specs.Found.{Among}
 use Rattle.rho_term.specs.declared.op.Op.{Op}
 use Rattle.rho_term.specs.Parts.{bind_tree}
 use Rattle.rho_term.specs.Rows.{row_of_op}
-use Rattle.spatial_match.specs.Given.{Ready}
+use Rattle.match_targets.specs.Targets.{Ready}
 use Rattle.rho_term.specs.declared.term.TermBind.{TermBind}
 use Rattle.row_search.specs.Choices.{takes}
 use Rattle.row_search.proofs.Looping.{take-is, drop-is, take-whole}

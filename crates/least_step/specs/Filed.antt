@@ -13,7 +13,7 @@ use Rattle.calculus.specs.Order.{byte_cmp}
 use Rattle.calculus.specs.Rows.{channels, Row}
 use Rattle.calculus.specs.Steps.{Datum, as_datum}
 use Rattle.calculus.specs.Tree.{Tree}
-use Rattle.spatial_match.specs.Given.{Ready}
+use Rattle.match_targets.specs.Targets.{Ready}
 use Rattle.least_step.specs.Orders.{referred}
 
 -- whether these bytes are the code of a datum's channel, where there is one

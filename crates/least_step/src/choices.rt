@@ -3,7 +3,7 @@ ghost use Rattle.std.specs.Prelude.{◌≡◌, List, map, is_some, All, IfOk, Ma
 ghost use Rattle.calculus.specs.Form.{a_bind};
 ghost use Rattle.calculus.specs.Rows.{Row as AnyRow};
 ghost use Rattle.rho_term.specs.Parts.{bind_tree};
-ghost use Rattle.spatial_match.specs.Given.{Ready};
+ghost use Rattle.match_targets.specs.Targets.{Ready};
 ghost use Rattle.row_search.specs.Choices.{takes, AllBindsReady};
 ghost use Rattle.least_step.specs.Orders.{referred, AreAscending};
 ghost use Rattle.least_step.specs.Filed.{AreFiled, HasPlace};

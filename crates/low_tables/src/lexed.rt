@@ -1,43 +1,32 @@
 use rho_lexer::{Token, lex};
 use std::alloc::Global;
-use table_lines::LineFault;
+use table_lines::{Answer, LineFault};
 
 /// The tokens of a text with their places, or its fault.
 pub fn tokens(alloc: Global, text: &[u8]) -> Result<String, LineFault> {
+    let mut answer = Answer::new(alloc);
     match lex(alloc, text) {
-        Ok(tokens) => told(alloc, tokens.as_slice()),
-        Err(fault) => Ok(format!(in alloc; "{fault:?}")?),
+        Ok(tokens) => put_tokens(alloc, &mut answer, tokens.as_slice()),
+        Err(fault) => answer.put_made(format!(in alloc; "{fault:?}")),
     }
+    answer.text()
 }
 
-fn told(alloc: Global, tokens: &[Token]) -> Result<String, LineFault> {
-    let mut told = String::new(alloc);
-    match put_tokens(alloc, &mut told, tokens) {
-        Ok(()) => Ok(told),
-        Err(fault) => Err(fault),
-    }
-}
-
-fn put_tokens(alloc: Global, told: &mut String, tokens: &[Token]) -> Result<(), LineFault> {
+fn put_tokens(alloc: Global, answer: &mut Answer, tokens: &[Token]) {
     for token in tokens {
-        if !told.is_empty() {
-            told.push(' ')?;
+        if !answer.is_empty() {
+            answer.put(" ");
         }
-        put_token(alloc, told, token)?;
+        let one = format!(in alloc; "{:?}@{}..{}", token.kind, token.start, token.end);
+        answer.put_made(one);
     }
-    Ok(())
-}
-
-fn put_token(alloc: Global, told: &mut String, token: &Token) -> Result<(), LineFault> {
-    let one = format!(in alloc; "{:?}@{}..{}", token.kind, token.start, token.end)?;
-    told.push_str(one.as_str())?;
-    Ok(())
 }
 
 /// How many tokens a text has, or its fault.
 pub fn token_count(alloc: Global, text: &[u8]) -> Result<String, LineFault> {
-    Ok(match lex(alloc, text) {
-        Ok(tokens) => format!(in alloc; "{}", tokens.len())?,
-        Err(fault) => format!(in alloc; "{fault:?}")?,
-    })
+    let told = match lex(alloc, text) {
+        Ok(tokens) => format!(in alloc; "{}", tokens.len()),
+        Err(fault) => format!(in alloc; "{fault:?}"),
+    };
+    Ok(told?)
 }

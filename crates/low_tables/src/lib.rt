@@ -8,8 +8,14 @@ mod seeds;
 mod state_texts;
 mod words;
 
-use std::alloc::Global;
+use std::alloc::{AllocError, Global};
+use std::fmt::Debug;
 use table_lines::{LineFault, unescape};
+
+// What a fault is told as.
+fn told_fault<F: Debug + Drop>(alloc: Global, fault: F) -> Result<String, AllocError> {
+    format!(in alloc; "{fault:?}")
+}
 
 /// The answer to a line of this kind with this text.
 fn answer_text(alloc: Global, word: &str, text: &[u8]) -> Result<String, LineFault> {

@@ -1,16 +1,16 @@
-use crate::seeds::{ids, read_id};
+use crate::seeds::ids;
 use calculus::Digest;
 use event_log::{Log, LogFault, LogHeader, LogStep, MOST_DATA, read_log, write_log};
 use std::alloc::Global;
-use table_lines::{LineFault, first_field, hex_bytes, number};
+use table_lines::{Answer, Fields, LineFault, hex_bytes};
 
 /// The text of a log of one step. The fields are the base, the source, the prices, the limit, the receiver, and the data
 /// that it takes.
 pub fn write(alloc: Global, fields: &str) -> Result<String, LineFault> {
-    let (header, fields) = read_header(fields)?;
-    let (cont, fields) = first_field(fields)?;
-    let cont = read_id(cont)?;
-    let taken = ids(alloc, fields)?;
+    let mut fields = Fields::new(fields);
+    let header = read_header(&mut fields);
+    let cont = Digest(fields.digest());
+    let taken = ids(alloc, fields.rest()?)?;
     if taken.is_empty() || taken.len() > MOST_DATA {
         return Err(LineFault::Field);
     }
@@ -20,73 +20,62 @@ pub fn write(alloc: Global, fields: &str) -> Result<String, LineFault> {
         repeat: 0,
     };
     let steps = vec![in alloc; step]?;
-    let text = write_log(alloc, &Log { header, steps })?;
-    Ok(hex::encode(alloc, text.as_slice())?)
+    let mut answer = Answer::new(alloc);
+    answer.put_hex_of(write_log(alloc, &Log { header, steps }));
+    answer.text()
 }
 
-fn read_header(fields: &str) -> Result<(LogHeader, &str), LineFault> {
-    let (base, fields) = first_field(fields)?;
-    let (source, fields) = first_field(fields)?;
-    let (prices, fields) = first_field(fields)?;
-    let (limit, fields) = first_field(fields)?;
-    let header = LogHeader {
-        base: read_id(base)?,
-        source: read_id(source)?,
-        prices: read_id(prices)?,
-        limit: u64::from(number(limit)?),
-    };
-    Ok((header, fields))
+fn read_header(fields: &mut Fields) -> LogHeader {
+    let base = Digest(fields.digest());
+    let source = Digest(fields.digest());
+    let prices = Digest(fields.digest());
+    let limit = u64::from(fields.number());
+    LogHeader {
+        base,
+        source,
+        prices,
+        limit,
+    }
 }
 
 /// The fields of a log: those of its header, and for each step the receiver, the data and how often it was made before.
 pub fn read(alloc: Global, digits: &str) -> Result<String, LineFault> {
     let text = hex_bytes(alloc, digits)?;
+    let mut answer = Answer::new(alloc);
     match read_log(alloc, text.as_slice()) {
-        Ok(log) => told(alloc, &log),
-        Err(fault) => Ok(format!(in alloc; "{fault:?}")?),
+        Ok(log) => put_log(&mut answer, &log),
+        Err(fault) => answer.put_made(format!(in alloc; "{fault:?}")),
     }
+    answer.text()
 }
 
-fn told(alloc: Global, log: &Log) -> Result<String, LineFault> {
-    let mut told = hex::encode(alloc, log.header.base.0.as_slice())?;
-    match put_rest(&mut told, log) {
-        Ok(()) => Ok(told),
-        Err(fault) => Err(fault),
-    }
-}
-
-fn put_rest(told: &mut String, log: &Log) -> Result<(), LineFault> {
-    put_digest(told, &log.header.source)?;
-    put_digest(told, &log.header.prices)?;
-    put_number(told, log.header.limit)?;
+fn put_log(answer: &mut Answer, log: &Log) {
+    answer.put_hex(log.header.base.0.as_slice());
+    put_digest(answer, &log.header.source);
+    put_digest(answer, &log.header.prices);
+    put_number(answer, log.header.limit);
     for step in &log.steps {
-        put_step(told, step)?;
+        put_step(answer, step);
     }
-    Ok(())
 }
 
-fn put_step(told: &mut String, step: &LogStep) -> Result<(), LineFault> {
-    told.push(';')?;
-    put_digest(told, &step.cont)?;
+fn put_step(answer: &mut Answer, step: &LogStep) {
+    answer.put(";");
+    put_digest(answer, &step.cont);
     for id in &step.taken {
-        put_digest(told, id)?;
+        put_digest(answer, id);
     }
-    put_number(told, u64::from(step.repeat))
+    put_number(answer, u64::from(step.repeat));
 }
 
-fn put_digest(told: &mut String, digest: &Digest) -> Result<(), LineFault> {
-    let alloc = *told.allocator();
-    let digits = hex::encode(alloc, digest.0.as_slice())?;
-    told.push(' ')?;
-    told.push_str(digits.as_str())?;
-    Ok(())
+fn put_digest(answer: &mut Answer, digest: &Digest) {
+    answer.put(" ");
+    answer.put_hex(digest.0.as_slice());
 }
 
-fn put_number(told: &mut String, number: u64) -> Result<(), LineFault> {
-    let alloc = *told.allocator();
-    let digits = format!(in alloc; " {number}")?;
-    told.push_str(digits.as_str())?;
-    Ok(())
+fn put_number(answer: &mut Answer, number: u64) {
+    answer.put(" ");
+    answer.put_number(number);
 }
 
 /// Whether each text that a log's text begins with is short at its end.

@@ -1,7 +1,8 @@
-use phlo_meter::{PriceFault, read_prices};
+use crate::told_fault;
+use phlo_meter::read_prices;
 use price_table::{Prices, most_limit};
 use std::alloc::Global;
-use table_lines::LineFault;
+use table_lines::{Answer, LineFault};
 
 fn seven(prices: &Prices) -> [u64; 7] {
     [
@@ -17,20 +18,20 @@ fn seven(prices: &Prices) -> [u64; 7] {
 
 /// The seven prices of a text, or its fault.
 pub fn prices(alloc: Global, text: &[u8]) -> Result<String, LineFault> {
-    match read_prices(alloc, text) {
-        Ok(prices) => Ok(format!(in alloc; "{:?}", seven(&prices))?),
-        Err(fault) => refusal(alloc, &fault),
-    }
-}
-
-fn refusal(alloc: Global, fault: &PriceFault) -> Result<String, LineFault> {
-    Ok(format!(in alloc; "{fault:?}")?)
+    let told = match read_prices(alloc, text) {
+        Ok(prices) => format!(in alloc; "{:?}", seven(&prices)),
+        Err(fault) => told_fault(alloc, fault),
+    };
+    Ok(told?)
 }
 
 /// The standard prices, their digest, and the greatest limit under them.
 pub fn standard_prices(alloc: Global) -> Result<String, LineFault> {
     let prices = Prices::standard();
-    let digest = hex::encode(alloc, prices.digest().0.as_slice())?;
     let most = most_limit(&prices);
-    Ok(format!(in alloc; "{:?} {digest} {most}", seven(&prices))?)
+    let mut answer = Answer::new(alloc);
+    answer.put_made(format!(in alloc; "{:?} ", seven(&prices)));
+    answer.put_hex(prices.digest().0.as_slice());
+    answer.put_made(format!(in alloc; " {most}"));
+    answer.text()
 }

@@ -1,7 +1,7 @@
 use calculus::Digest;
 use name_seed::{Seed, bytes_digest};
 use std::alloc::Global;
-use table_lines::{LineFault, digest, first_field, number};
+use table_lines::{Fields, LineFault, digest, first_field, number};
 
 /// The digest of bytes.
 pub fn digest_of(alloc: Global, bytes: &[u8]) -> Result<String, LineFault> {
@@ -12,7 +12,7 @@ pub fn digest_of(alloc: Global, bytes: &[u8]) -> Result<String, LineFault> {
 /// `/ split N`, `/ fresh N` and `/ body`.
 pub fn seed(alloc: Global, fields: &str) -> Result<String, LineFault> {
     let mut steps = fields.split(" / ");
-    let mut seed = first_seed(alloc, steps.next().ok_or(LineFault::Field)?)?;
+    let mut seed = first_seed(alloc, steps.next().unwrap_or(""))?;
     for step in steps {
         seed = next_seed(&seed, step)?;
     }
@@ -44,16 +44,17 @@ fn first_seed(alloc: Global, fields: &str) -> Result<Seed, LineFault> {
 }
 
 fn start_seed(fields: &str) -> Result<Seed, LineFault> {
-    let (root, source) = first_field(fields)?;
-    Ok(Seed::start(&read_id(root)?, &read_id(source)?))
+    let mut fields = Fields::new(fields);
+    let root = Digest(fields.digest());
+    let source = read_id(fields.rest()?)?;
+    Ok(Seed::start(&root, &source))
 }
 
 fn comm_seed(alloc: Global, fields: &str) -> Result<Seed, LineFault> {
-    let (repeat, fields) = first_field(fields)?;
-    let (cont, fields) = first_field(fields)?;
-    let repeat = number(repeat)?;
-    let cont = read_id(cont)?;
-    let taken = ids(alloc, fields)?;
+    let mut fields = Fields::new(fields);
+    let repeat = fields.number();
+    let cont = Digest(fields.digest());
+    let taken = ids(alloc, fields.rest()?)?;
     if taken.len() > 16 {
         return Err(LineFault::Field);
     }
@@ -62,10 +63,13 @@ fn comm_seed(alloc: Global, fields: &str) -> Result<Seed, LineFault> {
 
 fn next_seed(seed: &Seed, step: &str) -> Result<Seed, LineFault> {
     let (name, place) = step.split_once(' ').unwrap_or((step, ""));
+    if name == "body" {
+        return Ok(seed.body());
+    }
+    let place = number(place)?;
     match name {
-        "split" => Ok(seed.split(number(place)?)),
-        "fresh" => Ok(seed.fresh(number(place)?)),
-        "body" => Ok(seed.body()),
+        "split" => Ok(seed.split(place)),
+        "fresh" => Ok(seed.fresh(place)),
         _ => Err(LineFault::Field),
     }
 }

@@ -20,10 +20,11 @@ fn words_of(alloc: Global, fields: &str) -> Result<Vec<String>, LineFault> {
 }
 
 fn told(alloc: Global, answer: &Result<Command, Usage>) -> Result<String, LineFault> {
-    Ok(match answer {
-        Ok(command) => command_text(alloc, command)?,
-        Err(refusal) => format!(in alloc; "{refusal:?}")?,
-    })
+    let told = match answer {
+        Ok(command) => command_text(alloc, command),
+        Err(refusal) => format!(in alloc; "{refusal:?}"),
+    };
+    Ok(told?)
 }
 
 fn command_text(alloc: Global, command: &Command) -> Result<String, AllocError> {

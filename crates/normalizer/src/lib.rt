@@ -5,4 +5,4 @@ mod make;
 pub mod normal;
 
 pub use normal::normalize;
-pub use scope_check::ScopeFault;
+pub use scope_faults::ScopeFault;

@@ -4,13 +4,14 @@ ghost use Rattle.calculus.specs.Congruence.{congruent};
 ghost use Rattle.calculus.specs.Meaning.{proc_written};
 ghost use Rattle.scope.specs.NormalForm.{normal_form};
 ghost use Rattle.scope.specs.Rules.{broken_rules};
-ghost use Rattle.scope_check.specs.Walks.{Judges};
+ghost use Rattle.scope_faults.specs.Walks.{Judges};
 
 use crate::make::make_term;
 use bound_names::Names;
 use calculus::Proc;
 use rho_term::Term;
-use scope_check::{ScopeFault, check_scope};
+use scope_check::check_scope;
+use scope_faults::ScopeFault;
 use std::alloc::Global;
 
 /// The normal term of a process, which is congruent to the process without its names.

@@ -59,9 +59,9 @@ fn inside(term: Term) -> Term
 {
     let mut parts = term.into_parts();
     let part = parts.remove(0);
-    match part {
-        Part::Bundle { body, .. } => body,
-        _ => unreachable!(),
+    match part.into_bundled() {
+        Ok(body) => body,
+        Err(_other) => unreachable!(),
     }
 }
 

@@ -38,24 +38,9 @@ fn offer_of(id: Digest, term: Term) -> Op
 {
     let mut parts = term.into_parts();
     let part = parts.remove(0);
-    match part {
-        Part::Send {
-            channel,
-            args,
-            persistent,
-        } => Op::Produce {
-            id,
-            channel,
-            args,
-            persistent,
-        },
-        Part::Receive { kind, binds, body } => Op::Consume {
-            id,
-            kind,
-            binds,
-            body,
-        },
-        _ => unreachable!(),
+    match part.into_op(id) {
+        Ok(op) => op,
+        Err(_other) => unreachable!(),
     }
 }
 

@@ -4,8 +4,7 @@ use Rattle.calculus.specs.declared.plain.Kind.TheVariants as kinds
 use Rattle.calculus.specs.Log.{Step}
 use Rattle.calculus.specs.Rows.{Row, system_name, stdout, stdout_ack}
 use Rattle.calculus.specs.Steps.{Bag, stored_rows}
-use Rattle.calculus.specs.Examples.{nil, num, sent, step}
-use Rattle.calculus.specs.ExamplesSteps.{row_of, datum, receiver, bag}
+use Rattle.calculus.specs.Examples.{nil, num, sent, step, row_of, datum, receiver, bag}
 use Rattle.calculus.specs.Outcome.{within, pure}
 use Rattle.calculus.specs.Unfolding.{a_row}
 use Rattle.calculus.specs.Runs.{Deploy, deploy_of, Work}

@@ -1,3 +1,6 @@
+mod Channels
+mod Closing
+mod Answering
 mod Forged
 mod Starting
-mod Raced
+mod RacedLogs

@@ -12,7 +12,7 @@ use Rattle.replay_scene.specs.Entries.{did_by}
 use Rattle.replay_hub.specs.Values.{entry_of}
 use Rattle.replay_hub.specs.declared.deed.Task.{Task}
 use Rattle.replay_hub.specs.declared.deed.Task.TheVariants.{Arrive}
-use Rattle.replay_ending.specs.declared.ending.Raced.{Raced}
+use Rattle.replay_runs.specs.declared.ending.Raced.{Raced}
 
 -- rows that a source offers are to arrive
 abbrev pub arrivals : {C : Type 0} → List Row → List (Task Row C)

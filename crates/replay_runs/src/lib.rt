@@ -2,8 +2,10 @@
 #![tactic(auto)]
 
 mod basis;
+pub mod ending;
 mod racing;
 pub mod runs;
 
+pub use ending::{Raced, answer_of};
 pub use replay_answers::{ReplayFault, Replayed};
 pub use runs::replay;

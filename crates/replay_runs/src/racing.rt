@@ -11,12 +11,12 @@ ghost use Rattle.states.specs.Quiet.{AllowNoStep};
 ghost use Rattle.replay_runs.specs.Basis.{given_by, IsSoundBasis};
 ghost use Rattle.replay_runs.specs.Racing.{arrivals, IsRaced};
 
+use crate::Raced;
 use crate::basis::Basis;
 use event_log::Log;
 use group_locks::Closed;
 use name_seed::Seed;
 use numbered_jobs::Crew;
-use replay_ending::Raced;
 use replay_hub::{Coming, Task};
 use replay_pool::replay_side_by_side;
 use replay_shards::{ShardedChannel, ShardedRow};

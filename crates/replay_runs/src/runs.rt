@@ -13,6 +13,7 @@ ghost use Rattle.states.specs.Quiet.{AreQuiet};
 ghost use Rattle.replay_runs.specs.Basis.{given_by, IsSoundBasis};
 ghost use Rattle.replay_runs.specs.Racing.{any_built_in_id, has_built_in_id};
 
+use crate::answer_of;
 use crate::basis::Basis;
 use crate::racing::race;
 use calculus::Digest;
@@ -21,7 +22,6 @@ use name_seed::Seed;
 use numbered_jobs::Crew;
 use price_table::Prices;
 use replay_answers::{ReplayFault, Replayed, check_header};
-use replay_ending::answer_of;
 use rho_outside::Gate;
 use rho_term::Term;
 use space_row::Row;

@@ -7,8 +7,7 @@ use Rattle.calculus.proofs.Opened.{hashing}
 use Rattle.calculus.specs.declared.plain.Kind.TheVariants as kinds
 use Rattle.calculus.specs.Tree.{Tree}
 use Rattle.calculus.specs.Log.{Step}
-use Rattle.calculus.specs.Examples.{num, step}
-use Rattle.calculus.specs.ExamplesSteps.{datum, receiver}
+use Rattle.calculus.specs.Examples.{num, step, datum, receiver}
 use Rattle.calculus.specs.Rows.{stdout, stdout_ack}
 use Rattle.calculus.specs.Storing.{shard}
 use Rattle.list_laws.proofs.Members.{Member}

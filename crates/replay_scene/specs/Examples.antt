@@ -2,8 +2,7 @@
 use Rattle.std.specs.Prelude.{◌≡◌, ℕ, true, List, [], ◌∷◌, map as each, None}
 use Rattle.calculus.specs.declared.plain.Kind.TheVariants as kinds
 use Rattle.calculus.specs.Tree.{Tree}
-use Rattle.calculus.specs.Examples.{num, step}
-use Rattle.calculus.specs.ExamplesSteps.{datum, receiver}
+use Rattle.calculus.specs.Examples.{num, step, datum, receiver}
 use Rattle.calculus.specs.Log.{Step}
 use Rattle.calculus.specs.Rows.{Row}
 use Rattle.calculus.specs.Runs.{Deploy, deploy_of, done}

@@ -9,8 +9,8 @@ use Rattle.run_entries.specs.Entries.{Making}
 use Rattle.replay_scene.specs.Spaces.{IndexTry}
 use Rattle.replay_scene.specs.Entries.{does, left_of, PartBecomes}
 use Rattle.replay_rows.specs.Rows.{settled_part}
-use Rattle.replay_shards.specs.Hands.{InHand, shard_at, AllBecome}
-use Rattle.replay_shards.proofs.Placing.{mapped-at}
+use Rattle.replay_slots.specs.Hands.{InHand, shard_at, AllBecome}
+use Rattle.replay_slots.proofs.Placing.{mapped-at}
 
 -- the step at its place
 pub its-step : (log : List LogStep) (before : List Step) (s : Step) (after : List Step) (i : ℕ) (d : LogStep) → steps_of log ≡ before ++ s ∷ after → length before ≡ i → step_of (get_or log i d) ≡ s

@@ -17,9 +17,9 @@ use Rattle.replay_rows.specs.Rows.{find_seen}
 use Rattle.replay_shards.specs.declared.ready.Ready.{Ready}
 use Rattle.replay_shards.specs.Ready.{IsReady}
 use Rattle.replay_shards.specs.Taken.{FitsNothing}
-use Rattle.replay_shards.specs.Hands.{InHand, shard_at, shown_at, all_shown}
+use Rattle.replay_slots.specs.Hands.{InHand, shard_at, shown_at, all_shown}
 use Rattle.replay_shards.proofs.Fitting.{some-found}
-use Rattle.replay_shards.proofs.Placing.{shown-in}
+use Rattle.replay_slots.proofs.Placing.{shown-in}
 use Rattle.replay_shards.proofs.Trying.{found-id, found-in}
 
 -- what a shard in hand shows

@@ -18,7 +18,7 @@ use Rattle.replay_rows.specs.Rows.{find_seen, has_full}
 use Rattle.replay_shards.specs.Taken.{AreFound, AreTaken, IsNotTaken, IsTaken, OneIsNotTaken, FitsNothing}
 use Rattle.replay_shards.specs.Ready.{IsReady, Meet, MeetNot}
 use Rattle.replay_rows.proofs.Filing.{same-id, is-same}
-use Rattle.replay_shards.proofs.Fullness.{low-where, full-where}
+use Rattle.replay_slots.proofs.Fullness.{low-where, full-where}
 use Rattle.replay_shards.proofs.Trying.{found-id, found-in}
 
 nothing : {A : Type 0} (x : A) → None ≡ Some x → ⊥

@@ -1,7 +1,3 @@
-pub mod Stepping
-pub mod Placing
-pub mod Arriving
-pub mod Fullness
 pub mod Trying
 pub mod Lacking
 pub mod Fitting
@@ -9,4 +5,3 @@ pub mod Calling
 pub mod Drawing
 pub mod Receiving
 pub mod Moving
-pub mod Within

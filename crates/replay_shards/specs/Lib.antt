@@ -1,4 +1,3 @@
 pub mod Values
-pub mod Hands
 pub mod Taken
 pub mod Ready

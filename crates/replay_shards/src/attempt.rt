@@ -1,6 +1,6 @@
 //! A step that is tried.
-use crate::slots::Slot;
 use event_log::LogStep;
+use replay_slots::Slot;
 use replay_space::Rig;
 
 /// A step of a log that is tried on shards in hand: these, what is kept of the log, its steps, and the number of the step.

@@ -3,15 +3,14 @@
 ghost use Rattle.std.specs.Prelude.{◌≡◌, true};
 ghost use Rattle.std.specs.Str.{bytes_eq};
 ghost use Rattle.event_log.specs.View.{steps_of};
-ghost use Rattle.replay_shards.specs.Hands.{all_shown, parts_of, AreSlotsFiled};
+ghost use Rattle.replay_slots.specs.Hands.{all_shown, parts_of, AreSlotsFiled};
 ghost use Rattle.replay_shards.specs.Ready.{AreBut, LacksAt, LacksOne, StartsEarly};
 ghost use Rattle.replay_shards.specs.Taken.{bytes_of};
 
-use crate::finding::find_in;
 use crate::ready::Try;
-use crate::slots::Slot;
 use calculus::Digest;
 use event_log::LogStep;
+use replay_slots::{Slot, find_in};
 
 // Whether no row in hand has one of these ids.
 fn lacks_one(slots: &[Slot], ids: &[Digest]) -> bool

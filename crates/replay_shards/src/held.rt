@@ -8,23 +8,21 @@ ghost use Rattle.replay_scene.specs.Spaces.{IndexTry, SeenRow, new_row};
 ghost use Rattle.replay_scene.specs.Entries.{arrives, does};
 ghost use Rattle.shard_rows.specs.Shards.{stands_in};
 ghost use Rattle.replay_rows.specs.Bits.{has_bit};
-ghost use Rattle.replay_shards.specs.Hands.{all_shown, parts_of, shard_at, AllBecome, AreSlotsFiled, TouchedBecome};
+ghost use Rattle.replay_slots.specs.Hands.{all_shown, parts_of, shard_at, AllBecome, AreSlotsFiled, TouchedBecome};
 ghost use Rattle.replay_shards.specs.Ready.{IsReady};
 ghost use Rattle.replay_rows.specs.Rows.{find_seen, AreLow};
 ghost use Rattle.replay_shards.specs.Taken.{bytes_of, FitsNothing};
 
 use crate::attempt::Attempt;
-use crate::finding::find_in;
 use crate::fit::fit;
-use crate::places::{first_from, widened};
 use crate::ready::Ready;
 use crate::shard::ReplayShard;
-use crate::slots::{Slot, arrive_at, arrive_in, settle_all};
 use calculus::Digest;
 use event_log::Log;
 use replay_rows::bits::only_shard;
 use replay_rows::kept::Kept;
 use replay_rows::sharded::ShardedRow;
+use replay_slots::{Slot, arrive_at, arrive_in, find_in, first_from, settle_all, widened};
 use replay_space::Rig;
 use std::alloc::{AllocError, Global};
 use std::marker::Model;
@@ -41,14 +39,14 @@ pub struct ReplayHeld {
 impl Model for ReplayHeld {
     ghost use Rattle.std.specs.Prelude.{◌≡◌, length};
     ghost use Rattle.std.specs.Coded.{coded_list, coded_option};
-    ghost use Rattle.replay_shards.specs.Hands.{InHand};
+    ghost use Rattle.replay_slots.specs.Hands.{InHand};
     ghost use Rattle.replay_shards.specs.Values.{part_code};
 
     ghost Value = { InHand };
 
     ghost coded = { coded_list (coded_option part_code) };
 
-    ghost use Rattle.replay_shards.specs.Hands.{parts_of, AreSlotsFiled, LieWithin};
+    ghost use Rattle.replay_slots.specs.Hands.{parts_of, AreSlotsFiled, LieWithin};
 
     ghost view = { λ a. parts_of a.slots.items };
 

@@ -3,15 +3,11 @@
 
 mod attempt;
 mod early;
-mod finding;
 mod fit;
-mod full;
 mod held;
 mod next;
-mod places;
 pub mod ready;
 mod shard;
-mod slots;
 mod taking;
 
 pub use held::ReplayHeld;

@@ -5,17 +5,17 @@ ghost use Rattle.racing_replays.specs.Counted.{uses};
 ghost use Rattle.replay_scene.specs.Spaces.{SeenRow};
 ghost use Rattle.replay_scene.specs.Showing.{IsFirstUse};
 ghost use Rattle.replay_space.specs.Rigs.{IsRigOf};
-ghost use Rattle.replay_shards.specs.Hands.{all_shown, parts_of, AreSlotsFiled};
+ghost use Rattle.replay_slots.specs.Hands.{all_shown, parts_of, AreSlotsFiled};
 ghost use Rattle.replay_shards.specs.Ready.{if_any, index_tries, AreNext, Follow, IsUseTry};
 ghost use Rattle.replay_rows.specs.Rows.{find_seen};
 ghost use Rattle.replay_shards.specs.Taken.{bytes_of, AreFound};
 
 use crate::attempt::Attempt;
-use crate::finding::find_in;
 use crate::ready::Try;
 use calculus::Digest;
 use replay_rows::kept::is_among;
 use replay_rows::sharded::ShardedRow;
+use replay_slots::find_in;
 use replay_space::Rig;
 use std::alloc::{AllocError, Global};
 

@@ -3,7 +3,7 @@ ghost use Rattle.std.specs.Prelude.{◌≡◌, ◌<◌, ◌++◌, ◌∷◌, [],
 ghost use Rattle.calculus.specs.Storing.{IsStorable};
 ghost use Rattle.rho_term.specs.Rows.{row_of_op};
 ghost use Rattle.replay_scene.specs.Spaces.{bare, seen_in, standing_row};
-ghost use Rattle.replay_shards.specs.Hands.{IsOpened};
+ghost use Rattle.replay_slots.specs.Hands.{IsOpened};
 ghost use Rattle.replay_rows.specs.Rows.{filed_rows, own_built, seen_row};
 
 use replay_rows::bits::is_set;

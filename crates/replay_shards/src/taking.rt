@@ -5,13 +5,12 @@ ghost use Rattle.calculus.specs.Log.{Step};
 ghost use Rattle.racing_replays.specs.Counted.{uses};
 ghost use Rattle.replay_scene.specs.Showing.{IsLower};
 ghost use Rattle.replay_space.specs.Rigs.{IsRigOf};
-ghost use Rattle.replay_shards.specs.Hands.{all_shown, parts_of, AreSlotsFiled};
+ghost use Rattle.replay_slots.specs.Hands.{all_shown, parts_of, AreSlotsFiled};
 ghost use Rattle.replay_shards.specs.Taken.{bytes_of, taken_rows, AreTaken, IsNotTaken, IsTaken, IsTakenAlone, OneIsNotTaken};
 
-use crate::finding::find_in;
-use crate::slots::Slot;
 use calculus::Digest;
 use replay_rows::sharded::ShardedRow;
+use replay_slots::{Slot, find_in};
 use replay_space::{Rig, Seen};
 use space_row::Row;
 use std::alloc::{AllocError, Global};

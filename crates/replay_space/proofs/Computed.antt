@@ -1,7 +1,7 @@
 -- Proofs of the examples of what is kept.
 use Rattle.std.proofs.Common.{◌≡◌, ◌∷◌, [], ℕ, arith, refl, sym, ap, ◌∙◌, subst, inl, inr}
 use Rattle.calculus.proofs.Opened.{hashing}
-use Rattle.calculus.specs.ExamplesSteps.{datum}
+use Rattle.calculus.specs.Examples.{datum}
 use Rattle.racing_replays.specs.Replaying.{DoneStep, rows_by}
 use Rattle.replay_space.specs.Kept.{Has}
 use Rattle.replay_space.specs.Examples.{RigExamples, take, done_so, offering}

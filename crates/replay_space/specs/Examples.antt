@@ -5,8 +5,7 @@ use Rattle.calculus.specs.Tree.{send, row}
 use Rattle.calculus.specs.Shape.{two, many}
 use Rattle.calculus.specs.Log.{Step}
 use Rattle.calculus.specs.Steps.{Bag}
-use Rattle.calculus.specs.Examples.{num, step}
-use Rattle.calculus.specs.ExamplesSteps.{row_of, datum, receiver, bag}
+use Rattle.calculus.specs.Examples.{num, step, row_of, datum, receiver, bag}
 use Rattle.calculus.specs.Outcome.{within, pure}
 use Rattle.calculus.specs.Unfolding.{a_row}
 use Rattle.events.specs.Examples.{no_prices, no_work}

@@ -12,7 +12,7 @@ use Rattle.shard_rows.specs.Shards.{stands_in}
 use Rattle.replay_scene.specs.Spaces.{SeenRow, Part, IndexTry, new_row, seen_in, standing_row}
 use Rattle.replay_scene.specs.Entries.{arrives, PartBecomes}
 use Rattle.replay_rows.specs.Bits.{has_bit}
-use Rattle.replay_shards.specs.Hands.{InHand, shard_at, IsOpened, TouchedBecome}
+use Rattle.replay_slots.specs.Hands.{InHand, shard_at, IsOpened, TouchedBecome}
 use Rattle.replay_store.specs.Stores.{AreAll, AreOpened, AreOpenedBelow, AreOpenedShards}
 
 filter-append : {A : Type 0} (f : A → Bool) (xs ys : List A) → filter f (xs ++ ys) ≡ filter f xs ++ filter f ys

@@ -3,7 +3,7 @@ use Rattle.std.specs.Prelude.{◌≡◌, ◌<◌, ℕ, List, map as each, Some, 
 use Rattle.calculus.specs.Rows.{Row}
 use Rattle.shard_rows.specs.Shards.{IsProjection}
 use Rattle.replay_scene.specs.Spaces.{bare, Part}
-use Rattle.replay_shards.specs.Hands.{InHand, shard_at, IsOpened}
+use Rattle.replay_slots.specs.Hands.{InHand, shard_at, IsOpened}
 
 -- all 64 shards are in hand
 abbrev pub AreAll : InHand → Type 0

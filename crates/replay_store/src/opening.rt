@@ -3,7 +3,7 @@ ghost use Rattle.std.specs.Prelude.{◌≡◌, ◌<◌, ◌∷◌, ◌++◌, [],
 ghost use Rattle.calculus.specs.Rows.{Row as StoredRow};
 ghost use Rattle.calculus.specs.Storing.{IsStorable};
 ghost use Rattle.replay_scene.specs.Spaces.{Part};
-ghost use Rattle.replay_shards.specs.Hands.{shard_at};
+ghost use Rattle.replay_slots.specs.Hands.{shard_at};
 ghost use Rattle.replay_store.specs.Stores.{AreAll, AreOpened, AreOpenedShards};
 
 use replay_shards::{ReplayHeld, ReplayShard, ShardedRow};

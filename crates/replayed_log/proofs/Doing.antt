@@ -26,7 +26,7 @@ use Rattle.replay_hub.specs.Values.{line_items}
 use Rattle.replay_worker.specs.declared.tables.Doing.{Doing}
 use Rattle.replay_worker.specs.Looking.{IsDoing}
 use Rattle.replay_shards.specs.declared.ready.Ready.{Ready}
-use Rattle.replay_shards.specs.Hands.{InHand, shard_at, all_shown}
+use Rattle.replay_slots.specs.Hands.{InHand, shard_at, all_shown}
 use Rattle.replay_shards.specs.Ready.{IsReady}
 use Rattle.replay_shards.specs.Taken.{bytes_of}
 use Rattle.replay_shards.proofs.Drawing.{ready-covers}

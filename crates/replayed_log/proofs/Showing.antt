@@ -12,11 +12,11 @@ use Rattle.replay_scene.specs.Showing.{IdsTellSeen}
 use Rattle.replay_scene.proofs.Basics.{has, hold}
 use Rattle.replay_hub.specs.declared.deed.Try.{Try}
 use Rattle.replay_hub.specs.Drawing.{IsInHand, ShowsIdle}
-use Rattle.replay_shards.specs.Hands.{InHand, shard_at, shown_at, all_shown}
+use Rattle.replay_slots.specs.Hands.{InHand, shard_at, shown_at, all_shown}
 use Rattle.replay_rows.specs.Rows.{find_seen}
 use Rattle.replay_shards.specs.Taken.{FitsNothing}
 use Rattle.replay_shards.proofs.Fitting.{some-found}
-use Rattle.replay_shards.proofs.Placing.{shown-in}
+use Rattle.replay_slots.proofs.Placing.{shown-in}
 use Rattle.replay_shards.proofs.Trying.{found-id, found-in}
 
 -- a shard as it is seen

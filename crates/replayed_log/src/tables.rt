@@ -5,7 +5,7 @@ ghost use Rattle.replay_scene.specs.Spaces.{IndexTry};
 ghost use Rattle.replay_scene.specs.Entries.{arrives};
 ghost use Rattle.replay_hub.specs.Values.{has_bit, new_row_of};
 ghost use Rattle.replay_worker.specs.Looking.{AllBecome};
-ghost use Rattle.replay_shards.specs.Hands.{shard_at};
+ghost use Rattle.replay_slots.specs.Hands.{shard_at};
 ghost use Rattle.replayed_log.specs.Replay.{IsReplayOf};
 
 use crate::bits::{bit_of, missing};

@@ -1,6 +1,6 @@
 -- Proofs of the examples of answers to replays.
 use Rattle.std.specs.Prelude.{[], ◌∷◌, refl}
-use Rattle.calculus.specs.ExamplesSteps.{bag}
+use Rattle.calculus.specs.Examples.{bag}
 use Rattle.calculus.proofs.Opened.{hashing}
 use Rattle.calculus.proofs.Candidates.{candidates_suffice}
 use Rattle.replays.specs.Replays.{by_header, by_step, by_rest, by_end}

@@ -9,8 +9,7 @@ use Rattle.calculus.specs.Rows.{Row, system_name, stdout, stdout_ack}
 use Rattle.calculus.specs.Seeds.{digest_of, Split, Comm}
 use Rattle.calculus.specs.Root.{root}
 use Rattle.calculus.specs.Runs.{done, exhausted, faulted}
-use Rattle.calculus.specs.Examples.{nil, num, op_on, sent, heard, on, a_var, step}
-use Rattle.calculus.specs.ExamplesSteps.{row_of}
+use Rattle.calculus.specs.Examples.{nil, num, op_on, sent, heard, on, a_var, step, row_of}
 use Rattle.calculus.specs.Limits.{price_digest}
 use Rattle.replays.specs.Replays.{Given, wrong_base, wrong_source, wrong_prices, wrong_limit, no_run, reducible, Answer, refused, replayed, Answers}
 

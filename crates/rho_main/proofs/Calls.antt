@@ -3,14 +3,14 @@ use Rattle.std.proofs.Common.{◌≡◌, ◌≤◌, inl, inr, ℕ, List, refl, s
 use Rattle.command_words.specs.Commands.{RunRequest, WorkloadRequest, deploy, genesis, inspect, replay, workload}
 use Rattle.command_words.specs.declared.usage.Usage.{Usage}
 use Rattle.rho_outside.specs.FileMap.{FileMap, SameBut}
-use Rattle.run_ends.specs.Fetched.{HasFetched}
-use Rattle.run_deploys.specs.Deploys.{IsDeploy}
-use Rattle.run_deploys.proofs.Promised.{refused_deploy, deploy_after}
+use Rattle.recorded_runs.specs.Fetched.{HasFetched}
+use Rattle.recorded_runs.specs.Deploys.{IsDeploy}
+use Rattle.recorded_runs.proofs.DeployPromises.{refused_deploy, deploy_after}
 use Rattle.run_inputs.specs.Ended.{DeployEnds, ReplayEnds}
 use Rattle.run_inspects.specs.Inspects.{IsInspect}
-use Rattle.run_replays.specs.Replays.{IsReplay}
-use Rattle.run_replays.specs.Replaying.{IsSettled}
-use Rattle.run_replays.proofs.Promised.{refused_replay, replay_after}
+use Rattle.recorded_runs.specs.Replays.{IsReplay}
+use Rattle.recorded_runs.specs.Replaying.{IsSettled}
+use Rattle.recorded_runs.proofs.ReplayPromises.{refused_replay, replay_after}
 use Rattle.run_reports.specs.World.{World}
 use Rattle.run_status.specs.Endings.{OnUsage}
 use Rattle.run_status.specs.declared.status.Status.{Status}

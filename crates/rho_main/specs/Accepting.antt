@@ -4,7 +4,7 @@ use Rattle.command_words.specs.Answers.{answer_of, run_of, workload_of}
 use Rattle.command_words.specs.Arguments.{Text}
 use Rattle.command_words.specs.Commands.{deploy, replay, workload}
 use Rattle.rho_outside.specs.FileMap.{FileMap}
-use Rattle.run_ends.specs.Fetched.{HasFetched}
+use Rattle.recorded_runs.specs.Fetched.{HasFetched}
 use Rattle.run_inputs.specs.Given.{AreAccepted, AreReplayAccepted}
 use Rattle.run_inputs.specs.Refused.{RefusedFor}
 use Rattle.run_inputs.specs.Replaying.{ReplayRefusedFor}

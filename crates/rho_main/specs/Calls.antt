@@ -2,9 +2,9 @@
 use Rattle.std.specs.Prelude.{◌≡◌, List}
 use Rattle.command_words.specs.Answers.{answer_of}
 use Rattle.command_words.specs.Arguments.{Text}
-use Rattle.run_deploys.specs.Deploys.{IsDeploy}
+use Rattle.recorded_runs.specs.Deploys.{IsDeploy}
 use Rattle.run_inspects.specs.Inspects.{IsInspect}
-use Rattle.run_replays.specs.Replays.{IsReplay}
+use Rattle.recorded_runs.specs.Replays.{IsReplay}
 use Rattle.run_reports.specs.World.{World}
 use Rattle.run_status.specs.Endings.{OnUsage, SaysUsage}
 use Rattle.run_status.specs.declared.status.Status.{Status}

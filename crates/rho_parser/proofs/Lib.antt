@@ -1,11 +1,2 @@
-mod Choices
-mod Cycle
 mod Ends
-mod Forms
-mod Kept
-mod Lengths
-mod Lists
-mod Pairs
-mod Processes
-mod Remains
 mod Wholes

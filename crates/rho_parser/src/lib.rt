@@ -2,19 +2,7 @@
 //! the grammar.
 #![tactic(auto)]
 
-mod atom;
-mod closed_form;
-mod form_end;
-mod left;
-mod next_marks;
-mod operation;
 pub mod parse_fault;
-mod parser;
-mod pattern;
-mod pattern_atom;
-mod process;
-mod receive;
-mod row;
 pub mod whole;
 
 pub use grammar::Dialect;

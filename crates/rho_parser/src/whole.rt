@@ -9,9 +9,9 @@ ghost use Rattle.rho_parser.specs.Parsed.{AreOfText, IsRefused, place_of};
 ghost use Rattle.tokens.specs.Token.{source};
 
 use crate::parse_fault::ParseFault;
-use crate::parser::Parser;
 use calculus::Proc;
 use grammar::{Dialect, Fault};
+use process_descent::Parser;
 use rho_lexer::Token;
 use std::alloc::Global;
 use token_cursor::Cursor;

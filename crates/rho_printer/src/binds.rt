@@ -3,12 +3,13 @@ ghost use Rattle.std.specs.Prelude.{◌≤◌, map, length, codes, IfOk, OnOk};
 ghost use Rattle.calculus.specs.Form.{a_bind, a_case, name_pat};
 ghost use Rattle.calculus.specs.Tree.{rest};
 ghost use Rattle.rho_term.specs.Parts.{bind_tree, case_tree};
-ghost use Rattle.rho_printer.specs.Texts.{HasRoom, NumbersPast, NumbersPastAll, NumbersPastRest, left_text};
-ghost use Rattle.rho_printer.specs.Texts.{Writes, WritesAll, WritesBind, WritesBinds, WritesIfFine};
+ghost use Rattle.printed_leaves.specs.Texts.{HasRoom, NumbersPast, NumbersPastAll, NumbersPastRest, left_text};
+ghost use Rattle.printed_leaves.specs.Texts.{Writes, WritesAll, WritesBind, WritesBinds, WritesIfFine};
 
 use crate::patterns::{put_name_pats, put_pat};
 use crate::terms::{put_block, put_name};
 use calculus::{Kind, TermRest};
+use printed_leaves::{numbered, put_past, put_then};
 use printed_words::{arrow, put, put_rest, put_space_since, separate};
 use rho_term::{TermBind, TermCase, TermPat};
 use std::alloc::AllocError;
@@ -51,10 +52,8 @@ fn put_bind(
 {
     let start = out.len();
     let after = put_left(out, &bind.pats, bind.rest, depth, next)?;
-    put_space_since(out, start)?;
-    put(out, arrow(kind))?;
-    put_name(out, &bind.channel, depth)?;
-    Ok(after)
+    put_then(put_space_since(out, start), out, arrow(kind))?;
+    numbered(put_name(out, &bind.channel, depth), after)
 }
 
 // The left side of a bind: its patterns and its remainder.
@@ -100,7 +99,6 @@ fn put_case(out: &mut Vec<u8>, case: &TermCase, depth: usize) -> Result<(), Allo
     ensures grows { OnOk result (length out.old.items ≤ length out.new.items) }
 {
     put(out, b"(")?;
-    let inner = put_pat(out, &case.pat, depth, depth)?;
-    put(out, b") => ")?;
+    let inner = put_past(put_pat(out, &case.pat, depth, depth), out, b") => ")?;
     put_block(out, &case.body, inner)
 }

@@ -1,19 +1,18 @@
 // The texts of the parts of processes.
-ghost use Rattle.std.specs.Prelude.{◌≡◌, ◌++◌, ◌+◌, ◌≤◌, map, length, codes, IfOk, OnOk};
+ghost use Rattle.std.specs.Prelude.{◌≤◌, map, length, OnOk};
 ghost use Rattle.calculus.specs.Form.{part};
-ghost use Rattle.calculus.specs.Printed.{is_atom, declared_texts, separated};
-ghost use Rattle.calculus.specs.Shape.{label_of, one, two, many};
+ghost use Rattle.calculus.specs.Shape.{one, two, many};
 ghost use Rattle.calculus.specs.Tree.{row, dict, send, receive, new, match, bundle, unary, binary, method};
 ghost use Rattle.rho_term.specs.Normal.{IsOrdered};
-ghost use Rattle.rho_term.specs.Parts.{part_tree, ground_tree, pair_tree, bind_tree, case_tree};
-ghost use Rattle.rho_printer.specs.Texts.{text_of, Writes, WritesMembers};
+ghost use Rattle.rho_term.specs.Parts.{part_tree, pair_tree, bind_tree, case_tree};
+ghost use Rattle.printed_leaves.specs.Texts.{Writes, WritesMembers};
 
 use crate::binds::{put_binds, put_cases};
 use crate::terms::{put_block, put_braced, put_name, put_operand, put_pairs, put_term, put_terms};
-use calculus::{BinaryOp, Ground, Kind, Origin, Rights, UnaryOp};
+use calculus::{BinaryOp, Kind, Origin, Rights, UnaryOp};
+use printed_leaves::{put_declared, put_ground, put_past, put_then};
 use printed_words::{
-    bool_word, number_of, op_word, put, put_fresh, put_hex, put_int, put_str, put_uri,
-    put_variable, rights_word, send_marks, separate, tuple_end, uri_after,
+    number_of, op_word, put, put_fresh, put_variable, rights_word, send_marks, tuple_end,
 };
 use rho_term::{Part, Term, TermBind, TermCase};
 use std::alloc::AllocError;
@@ -55,37 +54,6 @@ pub(crate) fn put_part(out: &mut Vec<u8>, p: &Part, depth: usize) -> Result<(), 
     }
 }
 
-// Whether a part needs no braces.
-pub(crate) fn is_atom_part(p: &Part) -> bool
-    ensures { result ≡ is_atom (label_of (part_tree p.now)) }
-{
-    match p {
-        Part::Ground(_) => true,
-        Part::Var(_) => true,
-        Part::List(_) => true,
-        Part::Tuple(_) => true,
-        Part::Set(_) => true,
-        Part::Map(_) => true,
-        _ => false,
-    }
-}
-
-pub(crate) fn put_ground(out: &mut Vec<u8>, g: &Ground) -> Result<(), AllocError>
-    ensures text { OnOk result (out.new.items ≡ out.old.items ++ text_of part (ground_tree g.now) 0 0) }
-    ensures grows { OnOk result (length out.old.items ≤ length out.new.items) }
-{
-    match g {
-        Ground::Bool(b) => put(out, bool_word(*b)),
-        Ground::Int(z) => put_int(out, *z),
-        Ground::Str(s) => put_str(out, s.as_bytes()),
-        Ground::Uri(s) => put_uri(out, s.as_bytes()),
-        Ground::Bytes(v) => {
-            put(out, b"#")?;
-            put_hex(out, v.as_slice())
-        }
-    }
-}
-
 // Members between two words.
 #[cycle(print)]
 fn put_members(
@@ -100,8 +68,7 @@ fn put_members(
     ensures grows { OnOk result (length out.old.items ≤ length out.new.items) }
 {
     put(out, opening)?;
-    put_terms(out, members, depth)?;
-    put(out, closing)
+    put_then(put_terms(out, members, depth), out, closing)
 }
 
 #[cycle(print)]
@@ -112,8 +79,7 @@ fn put_map(out: &mut Vec<u8>, pairs: &[(Term, Term)], depth: usize) -> Result<()
     ensures grows { OnOk result (length out.old.items ≤ length out.new.items) }
 {
     put(out, b"{")?;
-    put_pairs(out, pairs, depth)?;
-    put(out, b"}")
+    put_then(put_pairs(out, pairs, depth), out, b"}")
 }
 
 #[cycle(print)]
@@ -128,10 +94,8 @@ fn put_send(
     ensures text { OnOk result (Writes part (two (send persistent) channel.now (many row args.now)) depth out.old.items out.new.items) }
     ensures grows { OnOk result (length out.old.items ≤ length out.new.items) }
 {
-    put_name(out, channel, depth)?;
-    put(out, send_marks(persistent))?;
-    put_terms(out, args, depth)?;
-    put(out, b")")
+    put_then(put_name(out, channel, depth), out, send_marks(persistent))?;
+    put_then(put_terms(out, args, depth), out, b")")
 }
 
 #[cycle(print)]
@@ -148,8 +112,7 @@ fn put_receive(
     ensures grows { OnOk result (length out.old.items ≤ length out.new.items) }
 {
     put(out, b"for (")?;
-    let inner = put_binds(out, kind, binds, depth)?;
-    put(out, b") ")?;
+    let inner = put_past(put_binds(out, kind, binds, depth), out, b") ")?;
     put_block(out, body, inner)
 }
 
@@ -160,27 +123,8 @@ fn put_new(out: &mut Vec<u8>, names: &[Origin], body: &Term, depth: usize) -> Re
     ensures grows { OnOk result (length out.old.items ≤ length out.new.items) }
 {
     put(out, b"new ")?;
-    let inner = put_declared(out, names, depth)?;
-    put(out, b" in ")?;
+    let inner = put_past(put_declared(out, names, depth), out, b" in ")?;
     put_block(out, body, inner)
-}
-
-// The names that a `new` declares, and the number of variables in scope under it.
-fn put_declared(out: &mut Vec<u8>, names: &[Origin], depth: usize) -> Result<usize, AllocError>
-    requires { depth ≤ length out.old.items }
-    ensures text { OnOk result (out.new.items ≡ out.old.items ++ separated (codes ", ") (declared_texts depth names.now)) }
-    ensures next { IfOk result (λ m. m ≡ depth + length names.now) }
-    ensures room { IfOk result (λ m. m ≤ length out.new.items) }
-    ensures grows { OnOk result (length out.old.items ≤ length out.new.items) }
-{
-    let mut next = depth;
-    for i in 0..names.len() {
-        separate(out, i, b", ")?;
-        put_variable(out, next)?;
-        put(out, uri_after(names[i]))?;
-        next += 1;
-    }
-    Ok(next)
 }
 
 #[cycle(print)]
@@ -195,10 +139,8 @@ fn put_match(
     ensures grows { OnOk result (length out.old.items ≤ length out.new.items) }
 {
     put(out, b"match (")?;
-    put_term(out, target, depth)?;
-    put(out, b") { ")?;
-    put_cases(out, cases, depth)?;
-    put(out, b" }")
+    put_then(put_term(out, target, depth), out, b") { ")?;
+    put_then(put_cases(out, cases, depth), out, b" }")
 }
 
 #[cycle(print)]
@@ -225,13 +167,11 @@ fn put_unary(out: &mut Vec<u8>, op: UnaryOp, arg: &Term, depth: usize) -> Result
     match op {
         UnaryOp::Not => {
             put(out, b"(not ")?;
-            put_operand(out, arg, depth)?;
-            put(out, b")")
+            put_then(put_operand(out, arg, depth), out, b")")
         }
         UnaryOp::Neg => {
             put(out, b"(-")?;
-            put_braced(out, arg, depth)?;
-            put(out, b")")
+            put_then(put_braced(out, arg, depth), out, b")")
         }
     }
 }
@@ -249,10 +189,8 @@ fn put_binary(
     ensures grows { OnOk result (length out.old.items ≤ length out.new.items) }
 {
     put(out, b"(")?;
-    put_operand(out, left, depth)?;
-    put(out, op_word(op))?;
-    put_operand(out, right, depth)?;
-    put(out, b")")
+    put_then(put_operand(out, left, depth), out, op_word(op))?;
+    put_then(put_operand(out, right, depth), out, b")")
 }
 
 #[cycle(print)]
@@ -268,10 +206,7 @@ fn put_method(
     ensures grows { OnOk result (length out.old.items ≤ length out.new.items) }
 {
     put(out, b"(")?;
-    put_operand(out, target, depth)?;
-    put(out, b").")?;
-    put(out, name.as_bytes())?;
-    put(out, b"(")?;
-    put_terms(out, args, depth)?;
-    put(out, b")")
+    put_then(put_operand(out, target, depth), out, b").")?;
+    put_then(put(out, name.as_bytes()), out, b"(")?;
+    put_then(put_terms(out, args, depth), out, b")")
 }

@@ -1,22 +1,24 @@
 // The texts of the parts of patterns. Each function gives the number of the next variable.
-ghost use Rattle.std.specs.Prelude.{◌≡◌, ◌++◌, ◌+◌, ◌≤◌, ◌<◌, [], map, length, codes, IfOk, OnOk};
-ghost use Rattle.calculus.specs.Form.{all, pat, name_pat, pair_of, name_part};
-ghost use Rattle.calculus.specs.Printed.{is_atom, is_bare_name, variable_text};
-ghost use Rattle.calculus.specs.Shape.{label_of, one, two, many};
-ghost use Rattle.calculus.specs.Tree.{row, rest, send, bundle, trees};
+ghost use Rattle.std.specs.Prelude.{◌≡◌, ◌++◌, ◌+◌, ◌≤◌, map, length, codes, IfOk, OnOk};
+ghost use Rattle.calculus.specs.Form.{pat, pair_of, name_part};
+ghost use Rattle.calculus.specs.Shape.{one, two, many};
+ghost use Rattle.calculus.specs.Tree.{row, send, bundle};
 ghost use Rattle.calculus.specs.Variables.{bound};
-ghost use Rattle.calculus.specs.Formed.{IsFine, Formed, Holds};
+ghost use Rattle.calculus.specs.Formed.{IsFine, Formed};
 ghost use Rattle.rho_term.specs.Normal.{IsOrdered};
 ghost use Rattle.rho_term.specs.Parts.{part_tree, pat_part_tree, pair_tree};
-ghost use Rattle.rho_printer.specs.Texts.{HasRoom, IsClosedForm, NumbersPast, NumbersPastRest, WritesIfFine, WritesPart};
-ghost use Rattle.rho_printer.specs.Texts.{joined_text, members_text};
+ghost use Rattle.printed_leaves.specs.Texts.{HasRoom, NumbersPast, NumbersPastRest, WritesIfFine, WritesPart};
+ghost use Rattle.printed_leaves.specs.Texts.{joined_text, members_text};
 
-use crate::parts::{is_atom_part, put_ground, put_part};
+use crate::parts::put_part;
 use crate::patterns::{put_name_pat, put_pat, put_pat_operand, put_pat_pairs, put_pats};
 use crate::terms::put_braced;
 use calculus::{Rights, TermRest};
-use printed_words::{put, put_rest, put_variable, rights_word, send_marks, simple_word, tuple_end};
-use rho_term::{Part, PatPart, Term, TermPat};
+use printed_leaves::{
+    look_inside, numbered, put_and, put_ground, put_new_variable, put_past, put_then,
+};
+use printed_words::{put, put_rest, rights_word, send_marks, simple_word, tuple_end};
+use rho_term::{Part, PatPart, TermPat};
 use std::alloc::AllocError;
 
 #[cycle(print)]
@@ -40,13 +42,9 @@ pub(crate) fn put_pat_part(
         PatPart::Simple(kind) => put_and(out, simple_word(*kind), next),
         PatPart::Same(t) => {
             put(out, b"=")?;
-            put_braced(out, t, depth)?;
-            Ok(next)
+            numbered(put_braced(out, t, depth), next)
         }
-        PatPart::Ground(g) => {
-            put_ground(out, g)?;
-            Ok(next)
-        }
+        PatPart::Ground(g) => numbered(put_ground(out, g), next),
         PatPart::Both(left, right) => put_joined(out, left, b" /\\ ", right, depth, next),
         PatPart::Either(left, right) => put_joined(out, left, b" \\/ ", right, depth, next),
         PatPart::Not(inner) => {
@@ -88,44 +86,6 @@ pub(crate) fn put_pat_part(
     }
 }
 
-// Whether a part of a pattern needs no braces.
-pub(crate) fn is_pattern_atom_part(p: &PatPart) -> bool
-    ensures { result ≡ is_atom (label_of (pat_part_tree p.now)) }
-{
-    match p {
-        PatPart::Wild => true,
-        PatPart::Var => true,
-        PatPart::Simple(_) => true,
-        PatPart::Same(_) => true,
-        PatPart::Ground(_) => true,
-        PatPart::List(_, _) => true,
-        PatPart::Tuple(_) => true,
-        PatPart::Set(_, _) => true,
-        PatPart::Map(_, _) => true,
-        PatPart::Closed(part) => is_atom_part(part),
-        _ => false,
-    }
-}
-
-fn put_and(out: &mut Vec<u8>, word: &[u8], next: usize) -> Result<usize, AllocError>
-    ensures text { OnOk result (out.new.items ≡ out.old.items ++ word.now) }
-    ensures next { IfOk result (λ m. m ≡ next) }
-    ensures grows { OnOk result (length out.old.items ≤ length out.new.items) }
-{
-    put(out, word)?;
-    Ok(next)
-}
-
-fn put_new_variable(out: &mut Vec<u8>, next: usize) -> Result<usize, AllocError>
-    requires { next ≤ length out.old.items }
-    ensures text { OnOk result (out.new.items ≡ out.old.items ++ variable_text next) }
-    ensures next { IfOk result (λ m. m ≡ next + 1) }
-    ensures grows { OnOk result (length out.old.items < length out.new.items) }
-{
-    put_variable(out, next)?;
-    Ok(next + 1)
-}
-
 // Two patterns with a sign between them.
 #[cycle(print)]
 fn put_joined(
@@ -145,11 +105,8 @@ fn put_joined(
     ensures grows { OnOk result (length out.old.items ≤ length out.new.items) }
 {
     put(out, b"(")?;
-    let middle = put_pat_operand(out, left, depth, next)?;
-    put(out, sign)?;
-    let after = put_pat_operand(out, right, depth, middle)?;
-    put(out, b")")?;
-    Ok(after)
+    let middle = put_past(put_pat_operand(out, left, depth, next), out, sign)?;
+    put_past(put_pat_operand(out, right, depth, middle), out, b")")
 }
 
 // What stands round the members of a collection: the word before them, the remainder behind them and
@@ -180,9 +137,8 @@ fn put_pat_list(
 {
     put(out, brackets.opening)?;
     let middle = put_pats(out, members, depth, next)?;
-    let after = put_rest(out, members.len(), b" ", b"...", brackets.ending, middle)?;
-    put(out, brackets.closing)?;
-    Ok(after)
+    let after = put_rest(out, members.len(), b" ", b"...", brackets.ending, middle);
+    put_past(after, out, brackets.closing)
 }
 
 #[cycle(print)]
@@ -203,9 +159,8 @@ fn put_pat_map(
 {
     put(out, b"{")?;
     let middle = put_pat_pairs(out, pairs, depth, next)?;
-    let after = put_rest(out, pairs.len(), b" ", b"...", ending, middle)?;
-    put(out, b"}")?;
-    Ok(after)
+    let after = put_rest(out, pairs.len(), b" ", b"...", ending, middle);
+    put_past(after, out, b"}")
 }
 
 #[cycle(print)]
@@ -223,11 +178,12 @@ fn put_pat_send(
     ensures room { IfOk result (λ m. HasRoom next m out.new.items) }
     ensures grows { OnOk result (length out.old.items ≤ length out.new.items) }
 {
-    let middle = put_name_pat(out, channel, depth, next)?;
-    put(out, send_marks(persistent))?;
-    let after = put_pats(out, args, depth, middle)?;
-    put(out, b")")?;
-    Ok(after)
+    let middle = put_past(
+        put_name_pat(out, channel, depth, next),
+        out,
+        send_marks(persistent),
+    )?;
+    put_past(put_pats(out, args, depth, middle), out, b")")
 }
 
 #[cycle(print)]
@@ -244,11 +200,8 @@ fn put_pat_bundle(
     ensures room { IfOk result (λ m. HasRoom next m out.new.items) }
     ensures grows { OnOk result (length out.old.items ≤ length out.new.items) }
 {
-    put(out, rights_word(rights))?;
-    put(out, b"{ ")?;
-    let after = put_pat(out, body, depth, next)?;
-    put(out, b" }")?;
-    Ok(after)
+    put_then(put(out, rights_word(rights)), out, b"{ ")?;
+    put_past(put_pat(out, body, depth, next), out, b" }")
 }
 
 // A closed form, whose variables are numbered from the scope outside the pattern.
@@ -267,46 +220,5 @@ fn put_closed(
     ensures grows { OnOk result (length out.old.items ≤ length out.new.items) }
 {
     look_inside(part);
-    put_part(out, part, depth)?;
-    Ok(next)
-}
-
-// What may be a closed form in a pattern is a part of a process: a tuple, a send or a bundle of
-// processes is none of patterns.
-fn look_inside(p: &Part)
-    ensures { Formed IsFine name_part (part_tree p.now) → IsClosedForm p.now }
-{
-    match p {
-        Part::Tuple(members) => look_at_first(members),
-        Part::Send { channel, .. } => look_at(channel),
-        Part::Bundle { body, .. } => look_at(body),
-        _ => {}
-    }
-}
-
-fn look_at_first(members: &[Term])
-    ensures { Holds IsFine (all pat) (trees members.now) → members.now ≡ [] }
-{
-    if !members.is_empty() {
-        look_at(&members[0]);
-    }
-}
-
-// A process is no pattern.
-fn look_at(t: &Term)
-    ensures names { Formed IsFine name_pat t.now → ⊥ }
-    ensures processes { Formed IsFine pat t.now → ⊥ }
-{
-    let _parts = t.parts();
-}
-
-// Whether a part of a pattern is a name pattern by itself.
-pub(crate) fn is_bare_part(p: &PatPart) -> bool
-    ensures { result ≡ is_bare_name (label_of (pat_part_tree p.now)) }
-{
-    match p {
-        PatPart::Wild => true,
-        PatPart::NameVar => true,
-        _ => false,
-    }
+    numbered(put_part(out, part, depth), next)
 }

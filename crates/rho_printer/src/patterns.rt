@@ -1,15 +1,16 @@
 // The texts of patterns. Each function gives the number of the next variable.
-ghost use Rattle.std.specs.Prelude.{◌≡◌, ◌++◌, ◌+◌, ◌≤◌, ℕ, List, cond, map, length, codes, IfOk, OnOk};
+ghost use Rattle.std.specs.Prelude.{◌≡◌, ◌++◌, ◌≤◌, map, length, IfOk, OnOk};
 ghost use Rattle.calculus.specs.Form.{name_pat, pat, pair_of, name_part};
-ghost use Rattle.calculus.specs.Printed.{operand_text, name_pattern_text};
+ghost use Rattle.calculus.specs.Printed.{operand_text};
 ghost use Rattle.calculus.specs.Shape.{held};
 ghost use Rattle.calculus.specs.Tree.{trees};
 ghost use Rattle.calculus.specs.Formed.{IsFine, Formed};
 ghost use Rattle.rho_term.specs.Normal.{AreNormal};
 ghost use Rattle.rho_term.specs.Parts.{pat_part_tree, pair_tree};
-ghost use Rattle.rho_printer.specs.Texts.{HasRoom, NumbersPast, NumbersPastAll, WritesFrom, WritesListed, WritesParts, text_of};
+ghost use Rattle.printed_leaves.specs.Texts.{HasRoom, NumbersPast, NumbersPastAll, WritesFrom, WritesListed, WritesParts, text_of};
 
-use crate::pattern_parts::{is_bare_part, is_pattern_atom_part, put_pat_part};
+use crate::pattern_parts::put_pat_part;
+use printed_leaves::{is_bare, is_pattern_atom, put_and, put_past};
 use printed_words::{put, separate};
 use rho_term::{PatPart, TermPat};
 use std::alloc::AllocError;
@@ -29,8 +30,7 @@ pub(crate) fn put_pat(
 {
     let parts = t.parts();
     if parts.is_empty() {
-        put(out, b"Nil")?;
-        return Ok(next);
+        return put_and(out, b"Nil", next);
     }
     put_pat_parts(out, parts, depth, next)
 }
@@ -57,16 +57,6 @@ fn put_pat_parts(
     Ok(number)
 }
 
-// Whether a pattern is one part that needs no braces.
-fn is_pattern_atom(t: &TermPat) -> bool
-    ensures { (x : List ℕ) → operand_text (held t.now) x ≡ cond result x (codes "{" ++ (x ++ codes "}")) }
-{
-    match t.parts() {
-        [single] => is_pattern_atom_part(single),
-        _ => false,
-    }
-}
-
 // A pattern where an operand stands.
 #[cycle(print)]
 pub(crate) fn put_pat_operand(
@@ -86,19 +76,8 @@ pub(crate) fn put_pat_operand(
         return put_pat(out, t, depth, next);
     }
     put(out, b"{")?;
-    let after = put_pat(out, t, depth, next)?;
-    put(out, b"}")?;
-    Ok(after)
-}
-
-// Whether a pattern of names is a variable or the wildcard.
-fn is_bare(t: &TermPat) -> bool
-    ensures { (x : List ℕ) → name_pattern_text (held t.now) x ≡ cond result x (codes "@" ++ operand_text (held t.now) x) }
-{
-    match t.parts() {
-        [single] => is_bare_part(single),
-        _ => false,
-    }
+    let inner = put_pat(out, t, depth, next);
+    put_past(inner, out, b"}")
 }
 
 // A pattern of names.
@@ -198,7 +177,6 @@ fn put_pat_pair(
     ensures room { IfOk result (λ m. HasRoom next m out.new.items) }
     ensures grows { OnOk result (length out.old.items ≤ length out.new.items) }
 {
-    let after = put_pat(out, &pair.0, depth, next)?;
-    put(out, b": ")?;
+    let after = put_past(put_pat(out, &pair.0, depth, next), out, b": ")?;
     put_pat(out, &pair.1, depth, after)
 }

@@ -1,14 +1,15 @@
 // The texts of processes, of names and of the lists in them.
-ghost use Rattle.std.specs.Prelude.{◌≡◌, ◌++◌, ◌≤◌, ℕ, List, cond, codes, map, length, OnOk};
+ghost use Rattle.std.specs.Prelude.{◌≡◌, ◌++◌, ◌≤◌, codes, map, length, OnOk};
 ghost use Rattle.calculus.specs.Form.{term, part, pair_of};
 ghost use Rattle.calculus.specs.Printed.{operand_text, name_text, block};
 ghost use Rattle.calculus.specs.Shape.{held, only};
 ghost use Rattle.calculus.specs.Tree.{trees};
 ghost use Rattle.rho_term.specs.Normal.{AreNormal};
 ghost use Rattle.rho_term.specs.Parts.{part_tree, pair_tree};
-ghost use Rattle.rho_printer.specs.Texts.{Writes, WritesAll, WritesAs};
+ghost use Rattle.printed_leaves.specs.Texts.{Writes, WritesAll, WritesAs};
 
-use crate::parts::{is_atom_part, put_part};
+use crate::parts::put_part;
+use printed_leaves::{is_atom, put_then};
 use printed_words::{number_of, put, put_fresh, put_variable, separate};
 use rho_term::{Part, Term};
 use std::alloc::AllocError;
@@ -40,16 +41,6 @@ fn put_parts(out: &mut Vec<u8>, parts: &[Part], depth: usize) -> Result<(), Allo
     Ok(())
 }
 
-// Whether a process is one part that needs no braces.
-fn is_atom(t: &Term) -> bool
-    ensures { (x : List ℕ) → operand_text (held t.now) x ≡ cond result x (codes "{" ++ (x ++ codes "}")) }
-{
-    match t.parts() {
-        [single] => is_atom_part(single),
-        _ => false,
-    }
-}
-
 // A process where an operand stands.
 #[cycle(print)]
 pub(crate) fn put_operand(out: &mut Vec<u8>, t: &Term, depth: usize) -> Result<(), AllocError>
@@ -70,8 +61,7 @@ pub(crate) fn put_braced(out: &mut Vec<u8>, t: &Term, depth: usize) -> Result<()
     ensures grows { OnOk result (length out.old.items ≤ length out.new.items) }
 {
     put(out, b"{")?;
-    put_term(out, t, depth)?;
-    put(out, b"}")
+    put_then(put_term(out, t, depth), out, b"}")
 }
 
 // A body: a process in braces, with spaces.
@@ -82,8 +72,7 @@ pub(crate) fn put_block(out: &mut Vec<u8>, t: &Term, depth: usize) -> Result<(),
     ensures grows { OnOk result (length out.old.items ≤ length out.new.items) }
 {
     put(out, b"{ ")?;
-    put_term(out, t, depth)?;
-    put(out, b" }")
+    put_then(put_term(out, t, depth), out, b" }")
 }
 
 // The name that quotes a process.
@@ -162,7 +151,6 @@ fn put_pair(out: &mut Vec<u8>, pair: &(Term, Term), depth: usize) -> Result<(), 
     ensures text { OnOk result (Writes (pair_of term) (pair_tree pair.now) depth out.old.items out.new.items) }
     ensures grows { OnOk result (length out.old.items ≤ length out.new.items) }
 {
-    put_term(out, &pair.0, depth)?;
-    put(out, b": ")?;
+    put_then(put_term(out, &pair.0, depth), out, b": ")?;
     put_term(out, &pair.1, depth)
 }

@@ -1,7 +1,8 @@
 -- A loop that copies things one after another.
-use Rattle.std.proofs.Common.{◌≡◌, ℕ, ◌+◌, ◌<◌, List, [], ◌∷◌, ◌++◌, map, drop, length, get_or, ap, sym, ◌∙◌, append_assoc}
-use Rattle.std.specs.Prelude.{Result, Ok, Err, IsErrAnd}
-use Rattle.std.proofs.lemmas.List.{drop_more, map-append}
+use Rattle.std.proofs.Common.{◌≡◌, ℕ, ◌+◌, ◌<◌, ◌≤◌, List, [], ◌∷◌, ◌++◌, map, drop, length, get_or, ap, sym, ◌∙◌, append_assoc}
+use Rattle.std.specs.Prelude.{Bool, false, Result, Ok, Err, IfOk}
+use Rattle.std.specs.declared.alloc.AllocError.{AllocError}
+use Rattle.std.proofs.lemmas.List.{append-nil, drop_all, drop_more, map-append}
 
 -- a turn of a loop over things, of which each copy stands for the same
 pub copied-step : {A B : Type 0} (f : A → B) (cs ds ps : List A) (i : ℕ) (c p : A) → i < length ps → p ≡ get_or ps i p → f c ≡ f p → ds ≡ cs ++ c ∷ [] → map f cs ++ map f (drop i ps) ≡ map f ps → map f ds ++ map f (drop (i + 1) ps) ≡ map f ps
@@ -24,7 +25,15 @@ same-step cs ds ps i c p h g k e n =
     ∙ ap (λ z. cs ++ z) (sym m)
     ∙ n
 
--- an error that is passed on is the result
-pub is-err : {A E : Type 0} (r : Result A E) (e : E) → IsErrAnd r (λ y. y ≡ e) → r ≡ Err e
-is-err (Ok a) e h = absurd h
-is-err (Err y) e h = ap Err h
+-- the end of such a loop
+pub copied-end : {A B : Type 0} (f : A → B) (cs ps : List A) (i : ℕ) → length ps ≤ i → map f cs ++ map f (drop i ps) ≡ map f ps → map f cs ≡ map f ps
+copied-end f cs ps i h e = sym (append-nil (map f cs)) ∙ ap (λ z. map f cs ++ map f z) (sym (drop_all i ps h)) ∙ e
+
+pub same-end : {A : Type 0} (cs ps : List A) (i : ℕ) → length ps ≤ i → cs ++ drop i ps ≡ ps → cs ≡ ps
+same-end cs ps i h e = sym (append-nil cs) ∙ ap (λ z. cs ++ z) (sym (drop_all i ps h)) ∙ e
+
+-- what was made, if it is a copy, is one of what was copied
+pub made-copy : {T S : Type 0} (b o : Bool) (f : T → S) (x : T) (y : S) (res : Result T AllocError) → IfOk res (λ v. (b ≡ false) × (v ≡ x))
+    → (b ≡ false → (o ≡ false) × (f x ≡ y)) → IfOk res (λ v. f v ≡ y)
+made-copy b o f x y (Ok v) p q = ap f p.1 ∙ (q p.0).1
+made-copy b o f x y (Err e) p q = tt

@@ -6,6 +6,9 @@ use Rattle.calculus.specs.Tree.{Tree, trees}
 use Rattle.calculus.specs.Size.{height, heights}
 use Rattle.rho_term.specs.Normal.{IsNormal, AreNormal, IsOrdered}
 use Rattle.rho_term.specs.Measures.{in_u32}
+use Rattle.rho_term.specs.Parts.{bind_tree, case_tree, pair_tree}
+use Rattle.rho_term.specs.declared.term.TermBind.{TermBind}
+use Rattle.rho_term.specs.declared.term.TermCase.{TermCase}
 
 -- with the heights of what is left, the greatest height so far is that of all
 abbrev pub HasHeight : {A : Type 0} (f : A → Tree) (xs : List A) (i g : ℕ) → Type 0
@@ -37,3 +40,23 @@ normal-step f xs i d h e o r = λ n. r (subst (λ z. AreNormal (trees (map f z))
 pub parts-step : {A : Type 0} (f : A → Tree) (xs : List A) (i : ℕ) (d : A) → i < length xs → d ≡ get_or xs i d → (IsOrdered (f d) → IsNormal (f d)) → HasParts f xs i → HasParts f xs (i + 1)
 parts-step f xs i d h e o r =
     λ a n. r a (subst (λ z. AreNormal (trees (map f z))) (sym (next xs i d h e)) (o (subst (λ z. IsOrdered (f z)) (sym e) (All-get_or (λ x. IsOrdered (f x)) xs i d h a)), n))
+
+-- the height of two constituents together
+pub pair-height : (p : Tree × Tree) (a b m : ℕ) → a ≡ in_u32 (height p.0) → b ≡ in_u32 (height p.1) → m ≡ max a b → m ≡ in_u32 (height (pair_tree p))
+pair-height p a b m x y e = omega arith
+
+pub bind-height : (d : TermBind) (a b m : ℕ) → a ≡ in_u32 (height d.channel) → b ≡ in_u32 (heights (trees d.pats.items)) → m ≡ max a b → m ≡ in_u32 (height (bind_tree d))
+bind-height d a b m x y e = omega arith
+
+pub case-height : (d : TermCase) (a b m : ℕ) → a ≡ in_u32 (height d.pat) → b ≡ in_u32 (height d.body) → m ≡ max a b → m ≡ in_u32 (height (case_tree d))
+case-height d a b m x y e = omega arith
+
+-- two constituents in normal order
+pub pair-normal : (p : Tree × Tree) → IsNormal p.0 → IsNormal p.1 → IsNormal (pair_tree p)
+pair-normal p x y = (tt, (x, (y, tt)))
+
+pub bind-normal : (d : TermBind) → IsNormal d.channel → AreNormal (trees d.pats.items) → IsNormal (bind_tree d)
+bind-normal d x y = (tt, (x, ((tt, y), ((tt, tt), tt))))
+
+pub case-normal : (d : TermCase) → IsNormal d.pat → IsNormal d.body → IsNormal (case_tree d)
+case-normal d x y = (tt, (x, (y, tt)))

@@ -2,6 +2,7 @@ pub mod Parts
 pub mod Normal
 pub mod Measures
 pub mod Sizes
+pub mod Taken
 pub mod Faults
 pub mod Measured
 pub mod Falls

@@ -1,250 +1,339 @@
 // Copies of parts and of what stands in them. Each stands for the same tree.
 
-ghost use Rattle.std.specs.Prelude.{◌≡◌, map, IfOk};
+ghost use Rattle.std.specs.Prelude.{◌≡◌, [], ◌∷◌, ◌++◌, false, map, string_bytes, IfOk};
 ghost use Rattle.calculus.specs.Meaning.{ground_label};
-ghost use Rattle.rho_term.specs.Parts.{part_tree, pat_part_tree, pair_tree, bind_tree, case_tree};
+ghost use Rattle.rho_term.specs.Parts.{part_tree, pat_part_tree, pair_tree, bind_tree, case_tree, pat_tree, term_tree};
 
 use crate::room::with_room;
 use crate::term::{Part, PatPart, Term, TermBind, TermCase, TermPat};
 use calculus::Ground;
 use std::alloc::{AllocError, Global};
 
-#[cycle(copy)]
-pub(crate) fn copy_term(alloc: Global, term: &Term) -> Result<Term, AllocError>
-    ensures { IfOk result (λ t. t ≡ term.now) }
-{
-    let mut parts = with_room(alloc, term.parts().len());
-    for part in term.parts() {
-        parts.push(copy_part(alloc, part)?)?;
+/// What makes copies. Once memory was wanting, what it makes are no copies any more.
+#[derive(Drop)]
+pub(crate) struct Copier {
+    alloc: Global,
+    failed: bool,
+}
+
+impl Copier {
+    /// One that made no copy yet.
+    pub(crate) fn new(alloc: Global) -> Copier
+        ensures { result.failed ≡ false }
+    {
+        Copier {
+            alloc,
+            failed: false,
+        }
     }
-    Ok(term.with_parts(parts))
+
+    /// What was made, if it is a copy.
+    pub(crate) fn made<T: Drop>(&self, copy: T) -> Result<T, AllocError>
+        ensures { IfOk result (λ v. (self.now.failed ≡ false) × (v ≡ copy)) }
+    {
+        if self.failed {
+            return Err(AllocError);
+        }
+        Ok(copy)
+    }
+
+    // One more copy, after those that were made.
+    fn add<T: Drop>(&mut self, copies: &mut Vec<T>, copy: T)
+        ensures { self.new.failed ≡ false → (self.old.failed ≡ false) × (copies.new.items ≡ copies.old.items ++ copy ∷ []) }
+    {
+        match copies.push(copy) {
+            Ok(()) => {}
+            Err(_) => self.failed = true,
+        }
+    }
+
+    // A list that was cloned.
+    fn list<T: Drop>(&mut self, cloned: Result<Vec<T>, AllocError>) -> Vec<T>
+        ensures { self.new.failed ≡ false → (self.old.failed ≡ false) × (cloned ≡ Ok result) }
+    {
+        match cloned {
+            Ok(list) => list,
+            Err(_) => {
+                self.failed = true;
+                Vec::new(self.alloc)
+            }
+        }
+    }
+
+    // A text that was cloned.
+    fn text(&mut self, text: &String) -> String
+        ensures { self.new.failed ≡ false → (self.old.failed ≡ false) × (string_bytes result ≡ string_bytes text.now) }
+    {
+        match text.clone() {
+            Ok(copy) => copy,
+            Err(_) => {
+                self.failed = true;
+                String::new(self.alloc)
+            }
+        }
+    }
+
+    // A process of copied parts.
+    fn term(&self, term: &Term, parts: Vec<Part>) -> Term
+        requires { self.now.failed ≡ false → term_tree parts.items ≡ term.now }
+        ensures { self.now.failed ≡ false → result ≡ term.now }
+    {
+        if self.failed {
+            return Term::nil(self.alloc);
+        }
+        term.with_parts(parts)
+    }
+
+    // A pattern of copied parts.
+    fn pattern(&self, pat: &TermPat, parts: Vec<PatPart>) -> TermPat
+        requires { self.now.failed ≡ false → pat_tree parts.items ≡ pat.now }
+        ensures { self.now.failed ≡ false → result ≡ pat.now }
+    {
+        if self.failed {
+            return TermPat::new(Vec::new(self.alloc));
+        }
+        pat.with_parts(parts)
+    }
 }
 
 #[cycle(copy)]
-pub(crate) fn copy_part(alloc: Global, part: &Part) -> Result<Part, AllocError>
-    ensures { IfOk result (λ p. part_tree p ≡ part_tree part.now) }
+pub(crate) fn copy_term(copier: &mut Copier, term: &Term) -> Term
+    ensures { copier.new.failed ≡ false → (copier.old.failed ≡ false) × (result ≡ term.now) }
+{
+    let mut parts = with_room(copier.alloc, term.parts().len());
+    for part in term.parts() {
+        let copy = copy_part(copier, part);
+        copier.add(&mut parts, copy);
+    }
+    copier.term(term, parts)
+}
+
+#[cycle(copy)]
+pub(crate) fn copy_part(copier: &mut Copier, part: &Part) -> Part
+    ensures { copier.new.failed ≡ false → (copier.old.failed ≡ false) × (part_tree result ≡ part_tree part.now) }
 {
     match part {
-        Part::Ground(value) => Ok(Part::Ground(copy_ground(value)?)),
-        Part::Fresh(name) => Ok(Part::Fresh(*name)),
-        Part::Var(index) => Ok(Part::Var(*index)),
-        Part::NameVar(index) => Ok(Part::NameVar(*index)),
-        Part::List(members) => Ok(Part::List(copy_terms(alloc, members)?)),
-        Part::Tuple(members) => Ok(Part::Tuple(copy_terms(alloc, members)?)),
-        Part::Set(members) => Ok(Part::Set(copy_terms(alloc, members)?)),
-        Part::Map(pairs) => Ok(Part::Map(copy_pairs(alloc, pairs)?)),
+        Part::Ground(value) => Part::Ground(copy_ground(copier, value)),
+        Part::Fresh(name) => Part::Fresh(*name),
+        Part::Var(index) => Part::Var(*index),
+        Part::NameVar(index) => Part::NameVar(*index),
+        Part::List(members) => Part::List(copy_terms(copier, members)),
+        Part::Tuple(members) => Part::Tuple(copy_terms(copier, members)),
+        Part::Set(members) => Part::Set(copy_terms(copier, members)),
+        Part::Map(pairs) => Part::Map(copy_pairs(copier, pairs)),
         Part::Send {
             channel,
             args,
             persistent,
         } => {
-            let channel = copy_term(alloc, channel)?;
-            let args = copy_terms(alloc, args)?;
+            let channel = copy_term(copier, channel);
+            let args = copy_terms(copier, args);
             let persistent = *persistent;
-            Ok(Part::Send {
+            Part::Send {
                 channel,
                 args,
                 persistent,
-            })
+            }
         }
         Part::Receive { kind, binds, body } => {
-            let binds = copy_binds(alloc, binds)?;
-            let body = copy_term(alloc, body)?;
+            let binds = copy_binds(copier, binds);
+            let body = copy_term(copier, body);
             let kind = *kind;
-            Ok(Part::Receive { kind, binds, body })
+            Part::Receive { kind, binds, body }
         }
         Part::New { names, body } => {
-            let names = names.clone()?;
-            let body = copy_term(alloc, body)?;
-            Ok(Part::New { names, body })
+            let names = copier.list(names.clone());
+            let body = copy_term(copier, body);
+            Part::New { names, body }
         }
         Part::Match { target, cases } => {
-            let target = copy_term(alloc, target)?;
-            let cases = copy_cases(alloc, cases)?;
-            Ok(Part::Match { target, cases })
+            let target = copy_term(copier, target);
+            let cases = copy_cases(copier, cases);
+            Part::Match { target, cases }
         }
         Part::Bundle { rights, body } => {
-            let body = copy_term(alloc, body)?;
+            let body = copy_term(copier, body);
             let rights = *rights;
-            Ok(Part::Bundle { rights, body })
+            Part::Bundle { rights, body }
         }
         Part::Unary { op, arg } => {
-            let arg = copy_term(alloc, arg)?;
+            let arg = copy_term(copier, arg);
             let op = *op;
-            Ok(Part::Unary { op, arg })
+            Part::Unary { op, arg }
         }
         Part::Binary { op, left, right } => {
-            let left = copy_term(alloc, left)?;
-            let right = copy_term(alloc, right)?;
+            let left = copy_term(copier, left);
+            let right = copy_term(copier, right);
             let op = *op;
-            Ok(Part::Binary { op, left, right })
+            Part::Binary { op, left, right }
         }
         Part::Method { name, target, args } => {
-            let name = name.clone()?;
-            let target = copy_term(alloc, target)?;
-            let args = copy_terms(alloc, args)?;
-            Ok(Part::Method { name, target, args })
+            let name = copier.text(name);
+            let target = copy_term(copier, target);
+            let args = copy_terms(copier, args);
+            Part::Method { name, target, args }
         }
     }
 }
 
 #[cycle(copy)]
-pub(crate) fn copy_pat(alloc: Global, pat: &TermPat) -> Result<TermPat, AllocError>
-    ensures { IfOk result (λ t. t ≡ pat.now) }
+pub(crate) fn copy_pat(copier: &mut Copier, pat: &TermPat) -> TermPat
+    ensures { copier.new.failed ≡ false → (copier.old.failed ≡ false) × (result ≡ pat.now) }
 {
-    let mut parts = with_room(alloc, pat.parts().len());
+    let mut parts = with_room(copier.alloc, pat.parts().len());
     for part in pat.parts() {
-        parts.push(copy_pat_part(alloc, part)?)?;
+        let copy = copy_pat_part(copier, part);
+        copier.add(&mut parts, copy);
     }
-    Ok(pat.with_parts(parts))
+    copier.pattern(pat, parts)
 }
 
 #[cycle(copy)]
-fn copy_pat_part(alloc: Global, part: &PatPart) -> Result<PatPart, AllocError>
-    ensures { IfOk result (λ p. pat_part_tree p ≡ pat_part_tree part.now) }
+fn copy_pat_part(copier: &mut Copier, part: &PatPart) -> PatPart
+    ensures { copier.new.failed ≡ false → (copier.old.failed ≡ false) × (pat_part_tree result ≡ pat_part_tree part.now) }
 {
     match part {
-        PatPart::Wild => Ok(PatPart::Wild),
-        PatPart::Var => Ok(PatPart::Var),
-        PatPart::NameVar => Ok(PatPart::NameVar),
-        PatPart::Simple(kind) => Ok(PatPart::Simple(*kind)),
-        PatPart::Same(process) => Ok(PatPart::Same(copy_term(alloc, process)?)),
-        PatPart::Ground(value) => Ok(PatPart::Ground(copy_ground(value)?)),
+        PatPart::Wild => PatPart::Wild,
+        PatPart::Var => PatPart::Var,
+        PatPart::NameVar => PatPart::NameVar,
+        PatPart::Simple(kind) => PatPart::Simple(*kind),
+        PatPart::Same(process) => PatPart::Same(copy_term(copier, process)),
+        PatPart::Ground(value) => PatPart::Ground(copy_ground(copier, value)),
         PatPart::Both(left, right) => {
-            let left = copy_pat(alloc, left)?;
-            let right = copy_pat(alloc, right)?;
-            Ok(PatPart::Both(left, right))
+            let left = copy_pat(copier, left);
+            let right = copy_pat(copier, right);
+            PatPart::Both(left, right)
         }
         PatPart::Either(left, right) => {
-            let left = copy_pat(alloc, left)?;
-            let right = copy_pat(alloc, right)?;
-            Ok(PatPart::Either(left, right))
+            let left = copy_pat(copier, left);
+            let right = copy_pat(copier, right);
+            PatPart::Either(left, right)
         }
-        PatPart::Not(inner) => Ok(PatPart::Not(copy_pat(alloc, inner)?)),
-        PatPart::List(members, rest) => Ok(PatPart::List(copy_pats(alloc, members)?, *rest)),
-        PatPart::Tuple(members) => Ok(PatPart::Tuple(copy_pats(alloc, members)?)),
-        PatPart::Set(members, rest) => Ok(PatPart::Set(copy_pats(alloc, members)?, *rest)),
-        PatPart::Map(pairs, rest) => Ok(PatPart::Map(copy_pat_pairs(alloc, pairs)?, *rest)),
+        PatPart::Not(inner) => PatPart::Not(copy_pat(copier, inner)),
+        PatPart::List(members, rest) => PatPart::List(copy_pats(copier, members), *rest),
+        PatPart::Tuple(members) => PatPart::Tuple(copy_pats(copier, members)),
+        PatPart::Set(members, rest) => PatPart::Set(copy_pats(copier, members), *rest),
+        PatPart::Map(pairs, rest) => PatPart::Map(copy_pat_pairs(copier, pairs), *rest),
         PatPart::Send {
             channel,
             args,
             persistent,
         } => {
-            let channel = copy_pat(alloc, channel)?;
-            let args = copy_pats(alloc, args)?;
+            let channel = copy_pat(copier, channel);
+            let args = copy_pats(copier, args);
             let persistent = *persistent;
-            Ok(PatPart::Send {
+            PatPart::Send {
                 channel,
                 args,
                 persistent,
-            })
+            }
         }
         PatPart::Bundle { rights, body } => {
-            let body = copy_pat(alloc, body)?;
+            let body = copy_pat(copier, body);
             let rights = *rights;
-            Ok(PatPart::Bundle { rights, body })
+            PatPart::Bundle { rights, body }
         }
-        PatPart::Closed(part) => Ok(PatPart::Closed(copy_part(alloc, part)?)),
+        PatPart::Closed(part) => PatPart::Closed(copy_part(copier, part)),
     }
 }
 
 #[cycle(copy)]
-fn copy_terms(alloc: Global, terms: &Vec<Term>) -> Result<Vec<Term>, AllocError>
-    ensures { IfOk result (λ v. v.items ≡ terms.now.items) }
+fn copy_terms(copier: &mut Copier, terms: &Vec<Term>) -> Vec<Term>
+    ensures { copier.new.failed ≡ false → (copier.old.failed ≡ false) × (result.items ≡ terms.now.items) }
 {
-    let mut copies = with_room(alloc, terms.len());
+    let mut copies = with_room(copier.alloc, terms.len());
     for term in terms {
-        copies.push(copy_term(alloc, term)?)?;
+        let copy = copy_term(copier, term);
+        copier.add(&mut copies, copy);
     }
-    Ok(copies)
+    copies
 }
 
 #[cycle(copy)]
-fn copy_pairs(alloc: Global, pairs: &Vec<(Term, Term)>) -> Result<Vec<(Term, Term)>, AllocError>
-    ensures { IfOk result (λ v. map pair_tree v.items ≡ map pair_tree pairs.now.items) }
+fn copy_pairs(copier: &mut Copier, pairs: &Vec<(Term, Term)>) -> Vec<(Term, Term)>
+    ensures { copier.new.failed ≡ false → (copier.old.failed ≡ false) × (map pair_tree result.items ≡ map pair_tree pairs.now.items) }
 {
-    let mut copies = with_room(alloc, pairs.len());
+    let mut copies = with_room(copier.alloc, pairs.len());
     for pair in pairs {
-        let key = copy_term(alloc, &pair.0)?;
-        let value = copy_term(alloc, &pair.1)?;
-        copies.push((key, value))?;
+        let key = copy_term(copier, &pair.0);
+        let value = copy_term(copier, &pair.1);
+        copier.add(&mut copies, (key, value));
     }
-    Ok(copies)
+    copies
 }
 
 #[cycle(copy)]
-fn copy_binds(alloc: Global, binds: &Vec<TermBind>) -> Result<Vec<TermBind>, AllocError>
-    ensures { IfOk result (λ v. map bind_tree v.items ≡ map bind_tree binds.now.items) }
+fn copy_binds(copier: &mut Copier, binds: &Vec<TermBind>) -> Vec<TermBind>
+    ensures { copier.new.failed ≡ false → (copier.old.failed ≡ false) × (map bind_tree result.items ≡ map bind_tree binds.now.items) }
 {
-    let mut copies = with_room(alloc, binds.len());
+    let mut copies = with_room(copier.alloc, binds.len());
     for bind in binds {
-        copies.push(copy_bind(alloc, bind)?)?;
+        let copy = copy_bind(copier, bind);
+        copier.add(&mut copies, copy);
     }
-    Ok(copies)
+    copies
 }
 
 #[cycle(copy)]
-pub(crate) fn copy_bind(alloc: Global, bind: &TermBind) -> Result<TermBind, AllocError>
-    ensures { IfOk result (λ b. bind_tree b ≡ bind_tree bind.now) }
+pub(crate) fn copy_bind(copier: &mut Copier, bind: &TermBind) -> TermBind
+    ensures { copier.new.failed ≡ false → (copier.old.failed ≡ false) × (bind_tree result ≡ bind_tree bind.now) }
 {
-    let pats = copy_pats(alloc, &bind.pats)?;
-    let channel = copy_term(alloc, &bind.channel)?;
+    let pats = copy_pats(copier, &bind.pats);
+    let channel = copy_term(copier, &bind.channel);
     let rest = bind.rest;
-    Ok(TermBind {
+    TermBind {
         pats,
         rest,
         channel,
-    })
+    }
 }
 
 #[cycle(copy)]
-fn copy_cases(alloc: Global, cases: &Vec<TermCase>) -> Result<Vec<TermCase>, AllocError>
-    ensures { IfOk result (λ v. map case_tree v.items ≡ map case_tree cases.now.items) }
+fn copy_cases(copier: &mut Copier, cases: &Vec<TermCase>) -> Vec<TermCase>
+    ensures { copier.new.failed ≡ false → (copier.old.failed ≡ false) × (map case_tree result.items ≡ map case_tree cases.now.items) }
 {
-    let mut copies = with_room(alloc, cases.len());
+    let mut copies = with_room(copier.alloc, cases.len());
     for case in cases {
-        let pat = copy_pat(alloc, &case.pat)?;
-        let body = copy_term(alloc, &case.body)?;
-        copies.push(TermCase { pat, body })?;
+        let pat = copy_pat(copier, &case.pat);
+        let body = copy_term(copier, &case.body);
+        copier.add(&mut copies, TermCase { pat, body });
     }
-    Ok(copies)
+    copies
 }
 
 #[cycle(copy)]
-fn copy_pats(alloc: Global, pats: &Vec<TermPat>) -> Result<Vec<TermPat>, AllocError>
-    ensures { IfOk result (λ v. v.items ≡ pats.now.items) }
+fn copy_pats(copier: &mut Copier, pats: &Vec<TermPat>) -> Vec<TermPat>
+    ensures { copier.new.failed ≡ false → (copier.old.failed ≡ false) × (result.items ≡ pats.now.items) }
 {
-    let mut copies = with_room(alloc, pats.len());
+    let mut copies = with_room(copier.alloc, pats.len());
     for pat in pats {
-        copies.push(copy_pat(alloc, pat)?)?;
+        let copy = copy_pat(copier, pat);
+        copier.add(&mut copies, copy);
     }
-    Ok(copies)
+    copies
 }
 
 #[cycle(copy)]
-fn copy_pat_pairs(
-    alloc: Global,
-    pairs: &Vec<(TermPat, TermPat)>,
-) -> Result<Vec<(TermPat, TermPat)>, AllocError>
-    ensures { IfOk result (λ v. map pair_tree v.items ≡ map pair_tree pairs.now.items) }
+fn copy_pat_pairs(copier: &mut Copier, pairs: &Vec<(TermPat, TermPat)>) -> Vec<(TermPat, TermPat)>
+    ensures { copier.new.failed ≡ false → (copier.old.failed ≡ false) × (map pair_tree result.items ≡ map pair_tree pairs.now.items) }
 {
-    let mut copies = with_room(alloc, pairs.len());
+    let mut copies = with_room(copier.alloc, pairs.len());
     for pair in pairs {
-        let key = copy_pat(alloc, &pair.0)?;
-        let value = copy_pat(alloc, &pair.1)?;
-        copies.push((key, value))?;
+        let key = copy_pat(copier, &pair.0);
+        let value = copy_pat(copier, &pair.1);
+        copier.add(&mut copies, (key, value));
     }
-    Ok(copies)
+    copies
 }
 
-fn copy_ground(value: &Ground) -> Result<Ground, AllocError>
-    ensures { IfOk result (λ g. ground_label g ≡ ground_label value.now) }
+fn copy_ground(copier: &mut Copier, value: &Ground) -> Ground
+    ensures { copier.new.failed ≡ false → (copier.old.failed ≡ false) × (ground_label result ≡ ground_label value.now) }
 {
     match value {
-        Ground::Bool(b) => Ok(Ground::Bool(*b)),
-        Ground::Int(n) => Ok(Ground::Int(*n)),
-        Ground::Str(s) => Ok(Ground::Str(s.clone()?)),
-        Ground::Uri(s) => Ok(Ground::Uri(s.clone()?)),
-        Ground::Bytes(bytes) => Ok(Ground::Bytes(bytes.clone()?)),
+        Ground::Bool(b) => Ground::Bool(*b),
+        Ground::Int(n) => Ground::Int(*n),
+        Ground::Str(s) => Ground::Str(copier.text(s)),
+        Ground::Uri(s) => Ground::Uri(copier.text(s)),
+        Ground::Bytes(bytes) => Ground::Bytes(copier.list(bytes.clone())),
     }
 }

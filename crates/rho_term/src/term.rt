@@ -1,4 +1,4 @@
-ghost use Rattle.std.specs.Prelude.{◌≡◌, ◌≤◌, true, All, IfOk};
+ghost use Rattle.std.specs.Prelude.{◌≡◌, ◌≤◌, true, All, IfOk, MatchResult};
 ghost use Rattle.calculus.specs.Tree.{par};
 ghost use Rattle.calculus.specs.Shape.{leaf, only};
 ghost use Rattle.calculus.specs.Form.{term, part};
@@ -8,11 +8,13 @@ ghost use Rattle.rho_term.specs.Normal.{IsNormal, IsOrdered};
 ghost use Rattle.rho_term.specs.Measures.{in_u32, sign};
 ghost use Rattle.rho_term.specs.Sizes.{in_u64, size as code_size};
 ghost use Rattle.rho_term.specs.Faults.{faults};
+ghost use Rattle.rho_term.specs.Taken.{IsSetOf, IsNoSet, IsMapOf, IsNoMap, IsMatchOf, IsNoMatch, IsBundleOf, IsNoBundle, IsOfferedBy, IsNoSend, IsNoReceive};
 
-use crate::copy::{copy_bind, copy_part, copy_pat, copy_term};
+use crate::copy::{Copier, copy_bind, copy_part, copy_pat, copy_term};
 use crate::faults::{part_faults, parts_faults};
 use crate::lengths::{part_len, parts_len};
 use crate::measure::{parts_height, pat_parts_height};
+use crate::op::Op;
 use crate::room::with_room;
 use calculus::{BinaryOp, Digest, Ground, Kind, Origin, Rights, Simple, TermRest, UnaryOp};
 use std::alloc::{AllocError, Global};
@@ -23,7 +25,6 @@ use std::marker::Model;
 /// Its parts ascend in their codes, and so do the members of each set and map in it, wherever they
 /// stand. A name is the process that it quotes.
 #[cycle(term)]
-#[derive(Drop)]
 pub struct Term {
     parts: Vec<Part>,
     height: u32,
@@ -31,9 +32,20 @@ pub struct Term {
     code_length: u64,
 }
 
+impl Drop for Term {
+    #[cycle(let_go)]
+    fn drop(self) {
+        let Term {
+            parts: _parts,
+            height: _,
+            fault_count: _,
+            code_length: _,
+        } = self;
+    }
+}
+
 /// A part of a process.
 #[cycle(term)]
-#[derive(Drop)]
 pub enum Part {
     Ground(Ground),
     /// The drop of a fresh name.
@@ -89,19 +101,73 @@ pub enum Part {
     },
 }
 
+impl Drop for Part {
+    #[cycle(let_go)]
+    fn drop(self) {
+        match self {
+            Part::Ground(_ground) => {}
+            Part::Fresh(_digest) => {}
+            Part::Var(_) => {}
+            Part::NameVar(_) => {}
+            Part::List(_members) => {}
+            Part::Tuple(_members) => {}
+            Part::Set(_members) => {}
+            Part::Map(_pairs) => {}
+            Part::Send {
+                channel: _channel,
+                args: _args,
+                persistent: _,
+            } => {}
+            Part::Receive {
+                kind: _,
+                binds: _binds,
+                body: _body,
+            } => {}
+            Part::New {
+                names: _names,
+                body: _body,
+            } => {}
+            Part::Match {
+                target: _target,
+                cases: _cases,
+            } => {}
+            Part::Bundle {
+                rights: _,
+                body: _body,
+            } => {}
+            Part::Unary { op: _, arg: _arg } => {}
+            Part::Binary {
+                op: _,
+                left: _left,
+                right: _right,
+            } => {}
+            Part::Method {
+                name: _name,
+                target: _target,
+                args: _args,
+            } => {}
+        }
+    }
+}
+
 /// A pattern of processes or of names, its parts in written order, seen as the tree that it stands for.
 ///
 /// A name pattern is the pattern of the process that it quotes; a name variable there is the one part
 /// `NameVar`.
 #[cycle(term)]
-#[derive(Drop)]
 pub struct TermPat {
     pub parts: Vec<PatPart>,
 }
 
+impl Drop for TermPat {
+    #[cycle(let_go)]
+    fn drop(self) {
+        let TermPat { parts: _parts } = self;
+    }
+}
+
 /// A part of a pattern.
 #[cycle(term)]
-#[derive(Drop)]
 pub enum PatPart {
     /// What takes any process.
     Wild,
@@ -133,21 +199,71 @@ pub enum PatPart {
     Closed(Part),
 }
 
+impl Drop for PatPart {
+    #[cycle(let_go)]
+    fn drop(self) {
+        match self {
+            PatPart::Wild => {}
+            PatPart::Var => {}
+            PatPart::NameVar => {}
+            PatPart::Simple(_) => {}
+            PatPart::Same(_body) => {}
+            PatPart::Ground(_ground) => {}
+            PatPart::Both(_left, _right) => {}
+            PatPart::Either(_left, _right) => {}
+            PatPart::Not(_arg) => {}
+            PatPart::List(_members, _rest) => {}
+            PatPart::Tuple(_members) => {}
+            PatPart::Set(_members, _rest) => {}
+            PatPart::Map(_pairs, _rest) => {}
+            PatPart::Send {
+                channel: _channel,
+                args: _args,
+                persistent: _,
+            } => {}
+            PatPart::Bundle {
+                rights: _,
+                body: _body,
+            } => {}
+            PatPart::Closed(_form) => {}
+        }
+    }
+}
+
 /// A bind of a receive: the patterns of a datum's arguments, a remainder and a channel.
 #[cycle(term)]
-#[derive(Drop)]
 pub struct TermBind {
     pub pats: Vec<TermPat>,
     pub rest: TermRest,
     pub channel: Term,
 }
 
+impl Drop for TermBind {
+    #[cycle(let_go)]
+    fn drop(self) {
+        let TermBind {
+            pats: _pats,
+            rest: _rest,
+            channel: _channel,
+        } = self;
+    }
+}
+
 /// A case of a `match`.
 #[cycle(term)]
-#[derive(Drop)]
 pub struct TermCase {
     pub pat: TermPat,
     pub body: Term,
+}
+
+impl Drop for TermCase {
+    #[cycle(let_go)]
+    fn drop(self) {
+        let TermCase {
+            pat: _pat,
+            body: _body,
+        } = self;
+    }
 }
 
 impl Model for Term {
@@ -247,7 +363,13 @@ impl Term {
         ensures parts { self ≡ term_tree result.items }
         ensures normal { IsNormal self }
     {
-        self.parts
+        let Term {
+            parts,
+            height: _,
+            fault_count: _,
+            code_length: _,
+        } = self;
+        parts
     }
 
     /// The height, or the greatest `u32` where it is greater.
@@ -301,7 +423,9 @@ impl Term {
     pub fn copy(&self, alloc: Global) -> Result<Term, AllocError>
         ensures { IfOk result (λ t. t ≡ self.now) }
     {
-        copy_term(alloc, self)
+        let mut copier = Copier::new(alloc);
+        let copy = copy_term(&mut copier, self);
+        copier.made(copy)
     }
 }
 
@@ -337,16 +461,85 @@ impl TermPat {
     pub fn copy(&self, alloc: Global) -> Result<TermPat, AllocError>
         ensures { IfOk result (λ t. t ≡ self.now) }
     {
-        copy_pat(alloc, self)
+        let mut copier = Copier::new(alloc);
+        let copy = copy_pat(&mut copier, self);
+        copier.made(copy)
     }
 }
 
 impl Part {
+    /// The members of a set, or the part as it is where it is none.
+    pub fn into_members(self) -> Result<Vec<Term>, Part>
+        ensures { MatchResult result (IsSetOf self) (λ p. (p ≡ self) × IsNoSet self) }
+    {
+        match self {
+            Part::Set(members) => Ok(members),
+            other => Err(other),
+        }
+    }
+
+    /// The pairs of a map, or the part as it is where it is none.
+    pub fn into_pairs(self) -> Result<Vec<(Term, Term)>, Part>
+        ensures { MatchResult result (IsMapOf self) (λ p. (p ≡ self) × IsNoMap self) }
+    {
+        match self {
+            Part::Map(pairs) => Ok(pairs),
+            other => Err(other),
+        }
+    }
+
+    /// The target and the cases of a match, or the part as it is where it is none.
+    pub fn into_match(self) -> Result<(Term, Vec<TermCase>), Part>
+        ensures { MatchResult result (IsMatchOf self) (λ p. (p ≡ self) × IsNoMatch self) }
+    {
+        match self {
+            Part::Match { target, cases } => Ok((target, cases)),
+            other => Err(other),
+        }
+    }
+
+    /// The body of a bundle, or the part as it is where it is none.
+    pub fn into_bundled(self) -> Result<Term, Part>
+        ensures { MatchResult result (IsBundleOf self) (λ p. (p ≡ self) × IsNoBundle self) }
+    {
+        match self {
+            Part::Bundle { rights: _, body } => Ok(body),
+            other => Err(other),
+        }
+    }
+
+    /// The offer with this id of a send or a receive, or the part as it is where it is neither.
+    pub fn into_op(self, id: Digest) -> Result<Op, Part>
+        ensures { MatchResult result (IsOfferedBy self id.0) (λ p. (p ≡ self) × (IsNoSend self × IsNoReceive self)) }
+    {
+        match self {
+            Part::Send {
+                channel,
+                args,
+                persistent,
+            } => Ok(Op::Produce {
+                id,
+                channel,
+                args,
+                persistent,
+            }),
+            Part::Receive { kind, binds, body } => Ok(Op::Consume {
+                id,
+                kind,
+                binds,
+                body,
+            }),
+            other => Err(other),
+        }
+    }
+
     /// A part that stands for the same tree. Want of memory is the one error.
     pub fn copy(&self, alloc: Global) -> Result<Part, AllocError>
         ensures { IfOk result (λ p. part_tree p ≡ part_tree self.now) }
     {
-        copy_part(alloc, self)
+        let mut copier = Copier::new(alloc);
+        let copy = copy_part(&mut copier, self);
+        copier.made(copy)
     }
 
     /// How many bytes its code has, or the greatest `u64` where it has more.
@@ -366,11 +559,23 @@ impl Part {
     }
 }
 
+impl TermCase {
+    /// The body, given away.
+    pub fn into_body(self) -> Term
+        ensures { result ≡ self.body }
+    {
+        let TermCase { pat: _pat, body } = self;
+        body
+    }
+}
+
 impl TermBind {
     /// A bind that stands for the same tree. Want of memory is the one error.
     pub fn copy(&self, alloc: Global) -> Result<TermBind, AllocError>
         ensures { IfOk result (λ b. bind_tree b ≡ bind_tree self.now) }
     {
-        copy_bind(alloc, self)
+        let mut copier = Copier::new(alloc);
+        let copy = copy_bind(&mut copier, self);
+        copier.made(copy)
     }
 }

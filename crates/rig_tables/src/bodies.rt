@@ -2,12 +2,12 @@
 ghost use Rattle.calculus.specs.Form.{IsClosed};
 ghost use Rattle.calculus.specs.Substitution.{put};
 
-use crate::reading::MOST_COST;
 use calculus::Digest;
 use event_log::{LogStep, MOST_DATA};
 use name_seed::Seed;
 use price_table::Prices;
 use row_search::Found;
+use source_rows::MOST_COST;
 use space_row::Row;
 use std::alloc::{AllocError, Global};
 use step_work::work_body;
@@ -80,12 +80,4 @@ pub fn add_rows(
 pub fn keep<T: Drop>(all: &mut Vec<T>, value: T) -> Result<(), AllocError> {
     all.push(value)?;
     Ok(())
-}
-
-/// Adds a value, where there is one.
-pub fn keep_some<T: Drop>(all: &mut Vec<T>, value: Option<T>) -> Result<(), AllocError> {
-    match value {
-        Some(value) => keep(all, value),
-        None => Ok(()),
-    }
 }

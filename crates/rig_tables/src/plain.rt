@@ -3,12 +3,13 @@
 ghost use Rattle.calculus.specs.Form.{IsClosed};
 ghost use Rattle.calculus.specs.Substitution.{put};
 
-use crate::bodies::{Coming, Ended, add_rows, in_order, keep, offers};
+use crate::bodies::{Coming, Ended, add_rows, in_order, offers};
 use calculus::Digest;
 use event_log::{Log, LogStep};
 use least_step::built_in_rows;
 use row_meeting::meet_rows;
 use row_search::Found;
+use source_rows::{Kept, are_different};
 use space_row::Row;
 use std::alloc::{AllocError, Global};
 use table_lines::LineFault;
@@ -30,14 +31,14 @@ fn first_bag(alloc: Global, rows: &[Row], built_ins: &[Row]) -> Result<Vec<Comin
 
 // The ids of the rows that are left, without the built-in receivers.
 fn left(alloc: Global, bag: &[Coming], built_ins: &[Row]) -> Result<Vec<Digest>, AllocError> {
-    let mut left = Vec::new(alloc);
+    let mut left = Kept::new(alloc);
     for coming in bag {
         let id = coming.row.id();
         if !has_id(built_ins, &id) {
-            left.push(id)?;
+            left.put(id);
         }
     }
-    Ok(left)
+    left.values()
 }
 
 fn has_id(rows: &[Row], id: &Digest) -> bool {
@@ -112,28 +113,22 @@ fn rows_of(
     step: &LogStep,
     place: usize,
 ) -> Result<Vec<Row>, AllocError> {
-    let mut rows = Vec::new(alloc);
-    add_row(alloc, &mut rows, bag, &step.cont, place)?;
+    let mut rows = Kept::new(alloc);
+    add_row(alloc, &mut rows, bag, &step.cont, place);
     for id in step.taken.as_slice() {
-        add_row(alloc, &mut rows, bag, id, place)?;
+        add_row(alloc, &mut rows, bag, id, place);
     }
-    Ok(rows)
+    rows.values()
 }
 
 // Adds a copy of the row with this id, where the source or a step below this place offered it.
-fn add_row(
-    alloc: Global,
-    rows: &mut Vec<Row>,
-    bag: &[Coming],
-    id: &Digest,
-    place: usize,
-) -> Result<(), AllocError> {
+fn add_row(alloc: Global, rows: &mut Kept<Row>, bag: &[Coming], id: &Digest, place: usize) {
     for coming in bag {
         if &coming.row.id() == id && is_from_below(coming.from, place) {
-            return keep(rows, coming.row.copy(alloc)?);
+            rows.put_made(coming.row.copy(alloc));
+            return;
         }
     }
-    Ok(())
 }
 
 fn is_from_below(from: Option<u32>, place: usize) -> bool {
@@ -214,16 +209,6 @@ fn share_row(one: &LogStep, other: &LogStep) -> bool {
 
 fn names(step: &LogStep, id: &Digest) -> bool {
     &step.cont == id || step.taken.contains(id)
-}
-
-// Whether these ids differ from one another.
-fn are_different(ids: &[Digest]) -> bool {
-    for i in 0..ids.len() {
-        if ids[i + 1..].contains(&ids[i]) {
-            return false;
-        }
-    }
-    true
 }
 
 // The rows with these ids leave.

@@ -4,12 +4,13 @@ ghost use Rattle.event_log.specs.View.{IsWritable, steps_of};
 ghost use Rattle.replay_space.specs.Rigs.{IsRigOf};
 ghost use Rattle.replay_store.specs.Stores.{AreAll};
 
-use crate::bodies::{Coming, Ended, add_rows, in_order, keep_some, offers};
+use crate::bodies::{Coming, Ended, add_rows, in_order, offers};
 use calculus::Digest;
 use event_log::Log;
 use replay_shards::{ReplayHeld, ReplayShard, ShardedRow, Try, first_tries};
 use replay_space::Rig;
 use replay_store::rows_of;
+use source_rows::Kept;
 use space_row::Row;
 use std::alloc::{AllocError, Global};
 use table_lines::LineFault;
@@ -164,13 +165,21 @@ fn bring_one(
     }
     let coming = jobs.coming.swap_remove(place);
     let row = ShardedRow::from_row(alloc, coming.row)?;
-    add_tries(
-        &mut jobs.tries,
-        first_tries(alloc, rig, &row, coming.from)?.as_slice(),
-    )?;
+    add_first(alloc, rig, &mut jobs.tries, &row, coming.from)?;
     let shards = row.shards();
     held.arrive(alloc, row, coming.from, shards)?;
     Ok(())
+}
+
+// Adds the steps that are to be tried once a row has arrived.
+fn add_first(
+    alloc: Global,
+    rig: &Rig,
+    all: &mut Vec<u32>,
+    row: &ShardedRow,
+    from: Option<u32>,
+) -> Result<(), AllocError> {
+    add_tries(all, first_tries(alloc, rig, row, from)?.as_slice())
 }
 
 fn add_tries(all: &mut Vec<u32>, tries: &[Try]) -> Result<(), AllocError> {
@@ -239,17 +248,17 @@ fn try_step(
 
 // The ids of the rows that are left; all shards are taken out of hand.
 fn left(alloc: Global, held: &mut ReplayHeld) -> Result<Vec<Digest>, AllocError> {
-    let mut shards = Vec::new(alloc);
+    let mut shards = Kept::new(alloc);
     for number in 0..64u32 {
-        keep_some(&mut shards, held.remove(number))?;
+        shards.put_some(held.remove(number));
     }
-    ids(alloc, rows_of(alloc, shards)?.as_slice())
+    ids(alloc, rows_of(alloc, shards.values()?)?.as_slice())
 }
 
 fn ids(alloc: Global, rows: &[Row]) -> Result<Vec<Digest>, AllocError> {
-    let mut ids = Vec::new(alloc);
+    let mut ids = Kept::new(alloc);
     for row in rows {
-        ids.push(row.id())?;
+        ids.put(row.id());
     }
-    Ok(ids)
+    ids.values()
 }

@@ -5,10 +5,11 @@ ghost use Rattle.replay_space.specs.Rigs.{IsRigOf};
 use crate::bodies::Ended;
 use crate::plain::walk;
 use crate::racing::{next_number, race};
-use crate::reading::{read_digits, read_rows};
+use crate::reading::read_digits;
 use calculus::Digest;
 use event_log::Log;
 use replay_space::Rig;
+use source_rows::read_rows;
 use space_row::Row;
 use std::alloc::Global;
 use table_lines::{Fields, LineFault};
@@ -22,7 +23,11 @@ pub fn uses(alloc: Global, fields: &str) -> Result<String, LineFault> {
     let id = Digest(fields.digest());
     let log = read_digits(alloc, fields.rest()?)?;
     let rig = Rig::from_log(alloc, &log)?;
-    Ok(format!(in alloc; "{:?}", rig.uses(&id))?)
+    told_uses(alloc, &rig, &id)
+}
+
+fn told_uses(alloc: Global, rig: &Rig, id: &Digest) -> Result<String, LineFault> {
+    Ok(format!(in alloc; "{:?}", rig.uses(id))?)
 }
 
 /// Whether a log comes to the same in all orders, and by the plain walk: a number that draws the orders, the digits of the log, and the
@@ -63,8 +68,8 @@ fn raced_rows(
 ) -> Result<Option<Vec<u32>>, LineFault>
     requires { IsWritable log.now }
 {
-    let rig = Rig::from_log(alloc, log)?;
     let plain = walk(alloc, log, rows)?;
+    let rig = Rig::from_log(alloc, log)?;
     if is_raced(alloc, log, &rig, rows, seed, &plain)? {
         return Ok(Some(plain.done));
     }

@@ -23,7 +23,7 @@ use Rattle.row_search.specs.Rows.{is_persistent}
 use Rattle.row_search.specs.declared.found.Found.{Found}
 use Rattle.row_search.proofs.Taking.{send-none, send-some}
 use Rattle.row_search.proofs.Looping.{bytes_of, map-append, take-is, take-whole}
-use Rattle.spatial_match.specs.Found.{IsFirst}
+use Rattle.match_targets.specs.Found.{IsFirst}
 use Rattle.row_meeting.specs.Taking.{Binds, Adds, AreNotTaken, AreTaken, Begins, Comes}
 
 -- as many are taken as there are binds

@@ -4,7 +4,7 @@ ghost use Rattle.calculus.specs.Congruence.{congruent};
 ghost use Rattle.calculus.specs.Form.{a_bind, term};
 ghost use Rattle.calculus.specs.Steps.{peeks, stays};
 ghost use Rattle.rho_term.specs.Parts.{bind_tree};
-ghost use Rattle.spatial_match.specs.Given.{Ready};
+ghost use Rattle.match_targets.specs.Targets.{Ready};
 ghost use Rattle.row_search.specs.Choices.{AllBindsReady};
 ghost use Rattle.row_search.specs.Rows.{is_persistent};
 ghost use Rattle.row_meeting.specs.Taking.{Adds, AreNotTaken, Begins, Binds, Gathers};

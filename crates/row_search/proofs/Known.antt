@@ -20,8 +20,8 @@ use Rattle.rho_term.specs.declared.term.TermBind.{TermBind}
 use Rattle.rho_term.specs.Parts.{bind_tree}
 use Rattle.rho_term.specs.Rows.{row_of_op}
 use Rattle.space_row.proofs.Codes.{channels-receive}
-use Rattle.spatial_match.specs.Given.{Ready, AllReady}
-use Rattle.spatial_match.proofs.Readying.{channel-ready, data-ready, bytes-cons, inside, all-ready}
+use Rattle.match_targets.specs.Targets.{Ready, AllReady}
+use Rattle.match_targets.proofs.Readying.{channel-ready, data-ready, bytes-cons, inside, all-ready}
 use Rattle.storable_row_laws.specs.Laws.{AreApart}
 use Rattle.storable_row_laws.proofs.Channels.{storable_channels_are_apart}
 use Rattle.storable_row_laws.proofs.Lengths.{storable_rows_are_short}

@@ -16,7 +16,7 @@ use Rattle.rho_term.specs.declared.op.Op.TheVariants as op
 use Rattle.rho_term.specs.declared.term.TermBind.{TermBind}
 use Rattle.rho_term.specs.Parts.{bind_tree}
 use Rattle.rho_term.specs.Rows.{row_of_op}
-use Rattle.spatial_match.specs.Found.{IsFirst}
+use Rattle.match_targets.specs.Found.{IsFirst}
 use Rattle.row_search.specs.Rows.{is_persistent, is_sent_on}
 use Rattle.row_search.specs.Choices.{Choice, choice_or, first_taken, takes}
 use Rattle.row_search.proofs.Known.{sent-datum}

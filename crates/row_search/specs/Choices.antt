@@ -9,7 +9,7 @@ use Rattle.calculus.specs.Steps.{as_datum, bindings_of, peeks}
 use Rattle.events.specs.Found.{Among}
 use Rattle.rho_term.specs.declared.term.TermBind.{TermBind}
 use Rattle.rho_term.specs.Parts.{bind_tree}
-use Rattle.spatial_match.specs.Given.{Ready}
+use Rattle.match_targets.specs.Targets.{Ready}
 use Rattle.row_search.specs.declared.choices.Chosen.{Chosen}
 use Rattle.row_search.specs.declared.choices.Joined.{Joined}
 use Rattle.row_search.specs.Rows.{is_sent_on, is_persistent, IsIn}

@@ -3,7 +3,7 @@ ghost use Rattle.std.specs.Prelude.{◌≡◌, [], ◌∷◌, map, IfOk, MatchOp
 ghost use Rattle.calculus.specs.Form.{a_bind};
 ghost use Rattle.calculus.specs.Steps.{peeks};
 ghost use Rattle.rho_term.specs.Parts.{bind_tree};
-ghost use Rattle.spatial_match.specs.Given.{Ready};
+ghost use Rattle.match_targets.specs.Targets.{Ready};
 ghost use Rattle.row_search.specs.Rows.{looked_up};
 ghost use Rattle.row_search.specs.Choices.{first_taken, takes, AllBindsReady, Binds, Chooses, Extends, Fails, Joins, PicksOne};
 

@@ -2,7 +2,7 @@
 ghost use Rattle.std.specs.Prelude.{◌≡◌, map};
 ghost use Rattle.calculus.specs.Congruence.{congruent};
 ghost use Rattle.calculus.specs.Form.{term};
-ghost use Rattle.spatial_match.specs.Given.{Ready};
+ghost use Rattle.match_targets.specs.Targets.{Ready};
 ghost use Rattle.row_search.specs.Choices.{AllBindsReady};
 ghost use Rattle.row_search.specs.Rows.{is_heard_on, is_one_channel, is_sent_on};
 

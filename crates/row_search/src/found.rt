@@ -3,7 +3,7 @@ ghost use Rattle.std.specs.Prelude.{◌≡◌, [], ◌∷◌, All, IfOk, MatchOp
 ghost use Rattle.calculus.specs.Form.{term};
 ghost use Rattle.calculus.specs.Steps.{stays};
 ghost use Rattle.events.specs.Found.{Among};
-ghost use Rattle.spatial_match.specs.Given.{Ready};
+ghost use Rattle.match_targets.specs.Targets.{Ready};
 ghost use Rattle.row_search.specs.Rows.{looked_up};
 ghost use Rattle.row_search.specs.Meetings.{rows_with, Finishes, IsFound, IsSendOn, MayMeet, MeetsNone, MeetsNothing};
 

@@ -3,7 +3,7 @@ ghost use Rattle.std.specs.Prelude.{◌≡◌, List, map, IfOk};
 ghost use Rattle.std.specs.Option.{option_copied};
 ghost use Rattle.calculus.specs.Form.{term};
 ghost use Rattle.calculus.specs.Rows.{Row};
-ghost use Rattle.spatial_match.specs.Given.{Ready};
+ghost use Rattle.match_targets.specs.Targets.{Ready};
 ghost use Rattle.row_search.specs.Rows.{row_with, HasReceivers, HasSends};
 
 use calculus::Digest;

@@ -15,7 +15,7 @@ use Rattle.calculus.specs.Rows.{Row, channels}
 use Rattle.calculus.specs.Steps.{as_receiver}
 use Rattle.calculus.specs.Storing.{shard}
 use Rattle.calculus.proofs.CodesAgree.{code_is_congruence}
-use Rattle.spatial_match.specs.Given.{Ready}
+use Rattle.match_targets.specs.Targets.{Ready}
 use Rattle.storable_row_laws.proofs.Channels.{IsClosedShort}
 use Rattle.row_search.specs.Rows.{is_one_channel, is_heard_on}
 use Rattle.shard_bits.specs.Counted.{AreCounted, StandsInOne}

@@ -16,7 +16,7 @@ ghost use Rattle.row_table.specs.Shown.{heard_on};
 ghost use Rattle.shard_counts.specs.Bits.{AreBitsBeside};
 ghost use Rattle.shard_counts.specs.Counts.{added, CountsRiseBy, CountsStay};
 ghost use Rattle.shard_counts.specs.Keyed.{count_of};
-ghost use Rattle.spatial_match.specs.Given.{Ready};
+ghost use Rattle.match_targets.specs.Targets.{Ready};
 
 use crate::groups::{Groups, file_id, ids_of, remove_ids};
 use crate::keys::{is_send, row_keys};

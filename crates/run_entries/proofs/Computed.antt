@@ -3,7 +3,7 @@ use Rattle.std.proofs.Common.{◌≡◌, true, List, [], ◌∷◌, refl, inl, i
 use Rattle.std.specs.Prelude.{Option, Some, None}
 use Rattle.list_laws.proofs.Members.{Member, Every}
 use Rattle.calculus.specs.declared.plain.Kind.TheVariants as kinds
-use Rattle.calculus.specs.ExamplesSteps.{datum, receiver}
+use Rattle.calculus.specs.Examples.{datum, receiver}
 use Rattle.calculus.specs.Rows.{Row, stdout}
 use Rattle.calculus.specs.Steps.{Meeting, standing, differ}
 use Rattle.calculus.specs.Candidates.{none_allowed, candidates}

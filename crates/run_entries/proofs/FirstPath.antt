@@ -4,8 +4,7 @@ use Rattle.std.specs.Prelude.{None}
 use Rattle.calculus.specs.Log.{Step}
 use Rattle.calculus.specs.Steps.{meeting}
 use Rattle.calculus.specs.Runs.{Work}
-use Rattle.calculus.specs.ExamplesRuns.{first_path_source, first_path_digest, first_path_step}
-use Rattle.calculus.specs.Examples.{prices}
+use Rattle.calculus.specs.Examples.{first_path_source, first_path_digest, first_path_step, prices}
 use Rattle.calculus.specs.Rows.{Row}
 use Rattle.calculus.proofs.Opened.{hashing}
 use Rattle.calculus.proofs.Candidates.{candidates_suffice}

@@ -3,10 +3,8 @@ use Rattle.std.specs.Prelude.{◌≡◌, ℕ, List, [], ◌∷◌, Option, Some,
 use Rattle.calculus.specs.declared.plain.Kind.TheVariants as kinds
 use Rattle.calculus.specs.declared.fault.FaultKind.{FaultKind}
 use Rattle.calculus.specs.declared.fault.FaultKind.TheVariants as fault
-use Rattle.calculus.specs.Examples.{prices, num, nil, word, the_var, sent, step}
+use Rattle.calculus.specs.Examples.{prices, num, nil, word, the_var, sent, step, first_path_source, first_path_digest, first_path_step, row_of, datum, receiver}
 use Rattle.calculus.specs.Shape.{only}
-use Rattle.calculus.specs.ExamplesRuns.{first_path_source, first_path_digest, first_path_step}
-use Rattle.calculus.specs.ExamplesSteps.{row_of, datum, receiver}
 use Rattle.calculus.specs.Log.{Step}
 use Rattle.calculus.specs.Outcome.{over, capped}
 use Rattle.calculus.specs.Rows.{Row, system_name, stdout}

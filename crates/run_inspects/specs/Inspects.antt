@@ -12,7 +12,7 @@ use Rattle.run_status.specs.Endings.{OnHalt, OnRefusal}
 use Rattle.run_status.specs.declared.status.Input.TheVariants as input
 use Rattle.run_status.specs.declared.status.Status.{Status}
 use Rattle.run_status.specs.declared.status.Status.TheVariants.{Done, NoMemory, ReadFault, State, TooLarge, WriteFault}
-use Rattle.state_listing.specs.Listing.{listing}
+use Rattle.run_inspects.specs.Listing.{listing}
 
 -- the greatest number of bytes of a state
 abbrev pub most : ℕ

@@ -5,9 +5,9 @@ ghost use Rattle.run_reports.specs.World.{world};
 ghost use Rattle.run_status.specs.Endings.{OnHalt, OnRefusal};
 
 use crate::fetch::fetch_state;
+use crate::lines::listing;
 use rho_outside::{KeepFault, Shelf, Sink};
 use run_status::Status;
-use state_listing::listing;
 use std::alloc::Global;
 
 /// Puts the report and the rows of the state in the file of this name, in one piece. No file changes.

@@ -16,8 +16,8 @@ use Rattle.rho_lexer.specs.declared.token.LexFault.{LexFault}
 use Rattle.rho_lexer.specs.declared.token.LexFault.TheVariants as lexical
 use Rattle.rho_parser.specs.declared.parse_fault.ParseFault.{ParseFault}
 use Rattle.rho_parser.specs.declared.parse_fault.ParseFault.TheVariants as grammatical
-use Rattle.scope_check.specs.declared.fault.ScopeFault.{ScopeFault}
-use Rattle.scope_check.specs.declared.fault.ScopeFault.TheVariants as scopes
+use Rattle.scope_faults.specs.declared.fault.ScopeFault.{ScopeFault}
+use Rattle.scope_faults.specs.declared.fault.ScopeFault.TheVariants as scopes
 use Rattle.sources.specs.declared.fault.SourceFault.{SourceFault}
 use Rattle.sources.specs.declared.fault.SourceFault.TheVariants as source
 use Rattle.state_reader.specs.declared.fault.StateFault.{StateFault}

@@ -12,7 +12,7 @@ use replay_faults::ReplayFault;
 use rho_lexer::LexFault;
 use rho_parser::ParseFault;
 use run_reports::Halt;
-use scope_check::ScopeFault;
+use scope_faults::ScopeFault;
 use sources::SourceFault;
 use state_reader::StateFault;
 use std::alloc::AllocError;

@@ -8,7 +8,7 @@ use phlo_meter::PriceFault;
 use replay_faults::ReplayFault;
 use rho_lexer::LexFault;
 use rho_parser::ParseFault;
-use scope_check::ScopeFault;
+use scope_faults::ScopeFault;
 use sources::SourceFault;
 use state_reader::StateFault;
 use std::alloc::{AllocError, Global};

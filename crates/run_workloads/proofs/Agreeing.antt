@@ -11,11 +11,11 @@ use Rattle.run_verdict.specs.View.{verdict_of}
 use Rattle.run_verdict.specs.declared.verdict.Verdict.{Verdict as Ending}
 use Rattle.run_verdict.specs.declared.verdict.Verdict.TheVariants as ending
 use Rattle.replay_answers.specs.Answers.{Clashes}
-use Rattle.run_ends.specs.Runs.{IsLeftBySource, Left, ShowsAClash}
-use Rattle.run_replays.specs.Laws.{IsAnsweredAlike}
-use Rattle.run_replays.specs.Replaying.{given_in, IsAnswerTo, IsLeftByOutcome, IsLeftByReplay, IsSettled, SaysAnswer, status_for}
-use Rattle.run_replays.proofs.Answering.{one_answer_to, one_reading}
-use Rattle.run_replays.proofs.Kept.{kept_logs_are_answered}
+use Rattle.recorded_runs.specs.Runs.{IsLeftBySource, Left, ShowsAClash}
+use Rattle.recorded_runs.specs.Laws.{IsAnsweredAlike}
+use Rattle.recorded_runs.specs.Replaying.{given_in, IsAnswerTo, IsLeftByOutcome, IsLeftByReplay, IsSettled, SaysAnswer, status_for}
+use Rattle.recorded_runs.proofs.Answering.{one_answer_to, one_reading}
+use Rattle.recorded_runs.proofs.Kept.{kept_logs_are_answered}
 use Rattle.run_reports.specs.Report.{Report}
 use Rattle.run_status.specs.declared.status.Status.TheVariants as status
 use Rattle.run_workloads.specs.Left.{AreAlike, IsLeftByWorkload, IsRefusedPlay, ShowsClash}

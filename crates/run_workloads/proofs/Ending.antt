@@ -5,15 +5,15 @@ use Rattle.base_states.specs.Bases.{IsStateOf}
 use Rattle.run_inputs.specs.Given.{IsGiven}
 use Rattle.run_inputs.specs.Inputs.{Task}
 use Rattle.run_inputs.specs.declared.acceptance.ReplayInputs.{ReplayInputs}
-use Rattle.run_replays.specs.ReplayPlans.{IsReplayStop}
-use Rattle.run_replays.proofs.Answering.{settled_refusal}
+use Rattle.recorded_runs.specs.ReplayPlans.{IsReplayStop}
+use Rattle.recorded_runs.proofs.Answering.{settled_refusal}
 use Rattle.run_status.specs.Endings.{status_of}
 use Rattle.run_status.specs.declared.status.Status.{Status}
 use Rattle.run_status.specs.declared.status.Status.TheVariants as status
 use Rattle.run_verdict.specs.declared.verdict.Verdict.{Verdict}
 use Rattle.run_verdict.specs.declared.verdict.Verdict.TheVariants as ending
 use Rattle.sources.specs.Sources.{IsSourceOf}
-use Rattle.run_ends.specs.Runs.{IsLeftBySource, Left}
+use Rattle.recorded_runs.specs.Runs.{IsLeftBySource, Left}
 use Rattle.run_workloads.specs.Made.{made_limit, made_replay, made_task}
 use Rattle.run_workloads.specs.Plan.{IsStop}
 use Rattle.run_workloads.specs.Workloads.{EndsOrRefuses, RefusedFor, WorkloadEnds}

@@ -3,9 +3,9 @@ use Rattle.std.proofs.Common.{◌≡◌, ◌∙◌, ℕ, List, [], ap, subst}
 use Rattle.calculus.specs.Log.{log_text}
 use Rattle.calculus.specs.Rows.{Row}
 use Rattle.base_states.proofs.OneState.{one_state}
-use Rattle.run_deploys.specs.Plan.{IsPlan}
-use Rattle.run_ends.specs.Runs.{header_of, IsLeftBySource}
-use Rattle.run_deploys.specs.declared.deploys.Plan.{Plan}
+use Rattle.recorded_runs.specs.Plan.{IsPlan}
+use Rattle.recorded_runs.specs.Runs.{header_of, IsLeftBySource}
+use Rattle.recorded_runs.specs.declared.deploys.Plan.{Plan}
 use Rattle.run_inputs.specs.Given.{task_of, IsBase}
 use Rattle.run_inputs.specs.Inputs.{Task}
 use Rattle.run_inputs.specs.declared.acceptance.Inputs.{Inputs}

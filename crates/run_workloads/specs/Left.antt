@@ -6,8 +6,8 @@ use Rattle.made_input.specs.MadeInput.{made_text}
 use Rattle.replay_faults.specs.declared.fault.ReplayFault.{ReplayFault}
 use Rattle.rho_outside.specs.Kept.{with_files}
 use Rattle.rho_outside.specs.Put.{GrewBy}
-use Rattle.run_ends.specs.Runs.{IsLeftBySource, Left, ShowsAClash}
-use Rattle.run_replays.specs.Replaying.{HasClash, IsLeftByReplay, IsSettled}
+use Rattle.recorded_runs.specs.Runs.{IsLeftBySource, Left, ShowsAClash}
+use Rattle.recorded_runs.specs.Replaying.{HasClash, IsLeftByReplay, IsSettled}
 use Rattle.run_reports.specs.Report.{report_line}
 use Rattle.run_reports.specs.Stops.{StopsOnTheWay}
 use Rattle.run_reports.specs.World.{World}

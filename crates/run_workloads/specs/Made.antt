@@ -5,7 +5,7 @@ use Rattle.calculus.specs.Outcome.{Prices}
 use Rattle.calculus.specs.Runs.{Deploy}
 use Rattle.calculus.specs.Tree.{Tree}
 use Rattle.made_input.specs.MadeInput.{made_text}
-use Rattle.run_ends.specs.Runs.{deploy_in, header_of}
+use Rattle.recorded_runs.specs.Runs.{deploy_in, header_of}
 use Rattle.run_inputs.specs.Inputs.{Task}
 use Rattle.states.specs.States.{state_text}
 

@@ -2,12 +2,12 @@
 use Rattle.std.specs.Prelude.{◌≡◌, ◌≤◌, ℕ, List, [], length, ⊤}
 use Rattle.calculus.specs.Form.{IsClosed}
 use Rattle.event_log.specs.View.{IsWritable}
-use Rattle.run_ends.specs.Runs.{IsLeftBySource, Left}
+use Rattle.recorded_runs.specs.Runs.{IsLeftBySource, Left}
 use Rattle.run_inputs.specs.Given.{IsBase, IsGiven}
 use Rattle.run_inputs.specs.Inputs.{Task}
 use Rattle.run_inputs.specs.declared.acceptance.ReplayInputs.{ReplayInputs}
-use Rattle.run_replays.specs.Replaying.{IsLeftByReplay, IsSettled}
-use Rattle.run_replays.specs.declared.replaying.ReplayPlan.{ReplayPlan}
+use Rattle.recorded_runs.specs.Replaying.{IsLeftByReplay, IsSettled}
+use Rattle.recorded_runs.specs.declared.replaying.ReplayPlan.{ReplayPlan}
 use Rattle.run_reports.specs.Report.{report_line}
 use Rattle.run_status.specs.declared.status.Status.{Status}
 use Rattle.run_status.specs.declared.status.Status.TheVariants.{NoMemory, Replay}

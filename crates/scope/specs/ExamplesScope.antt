@@ -4,7 +4,7 @@ use Rattle.calculus.specs.declared.plain.Rights.TheVariants as rights
 use Rattle.calculus.specs.declared.plain.TermRest.TheVariants as rests
 use Rattle.calculus.specs.Tree.{row, case, match, pattern, send, bundle, rest, same, either, not_this, list_pattern, set_pattern}
 use Rattle.calculus.specs.Written.{in_process, in_pattern, around, use_process, use_name, drop, declare, bind_process, bind_name, bind_rest, quote_pattern, closed, Written, bare_form, form_of_one, form_of_two, form_of}
-use Rattle.calculus.specs.ExamplesBare.{written_int, written_nil, quoted, written_send, written_receive, written_bind, binds}
+use Rattle.calculus.specs.Examples.{written_int, written_nil, quoted, written_send, written_receive, written_bind, binds}
 use Rattle.scope.specs.Rules.{unbound, wants_name, wants_process, repeated, pattern_binder, pattern_wide, under_negation, unknown_uri, broken_rules}
 
 -- a receive of one name pattern on @1

@@ -1,4 +1,1 @@
-pub use Rattle.open_processes.proofs.Meanings
-pub mod Narrow
-pub mod Refusals
-pub mod Walking
+mod Walking

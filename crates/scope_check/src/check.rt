@@ -1,21 +1,21 @@
 #![tactic(auto, using(crate::proofs::Walking::walking))]
 // The rules of scope, tested in reading order.
 
-ghost use Rattle.std.specs.Prelude.{◌≡◌, ◌++◌, ◌∷◌, [], true, false, map, string_bytes, IfOk, OnOk, Some};
+ghost use Rattle.std.specs.Prelude.{◌≡◌, ◌++◌, [], false, map, OnOk};
 ghost use Rattle.calculus.specs.Written.{writtens, closed as closed_form, form_of_one};
-ghost use Rattle.calculus.specs.Meaning.{proc_written, name_written, pat_written, name_pat_written, bind_written, case_written, rest_written};
-ghost use Rattle.scope.specs.Binding.{variables, all_variables, inside, sense_of};
-ghost use Rattle.scope.specs.Rules.{outside, after, breaks, all_breaks, process_use, name_use, new_variable as variable_breaks};
-ghost use Rattle.scope_variables.specs.Senses.{sense};
+ghost use Rattle.calculus.specs.Meaning.{proc_written, name_written, pat_written, name_pat_written, bind_written, case_written};
+ghost use Rattle.scope.specs.Binding.{variables, all_variables, inside};
+ghost use Rattle.scope.specs.Rules.{outside, after, breaks, all_breaks};
 ghost use Rattle.open_processes.specs.Pairs.{proc_pair, pat_pair};
-ghost use Rattle.scope_check.specs.Walks.{Judges};
+ghost use Rattle.scope_faults.specs.Walks.{Judges};
 
-use crate::declared::declarations;
-use crate::fault::ScopeFault;
-use crate::members::members_fit;
-use calculus::{Bind, Case, Name, NamePat, Pat, Proc, Rest};
+use calculus::{Bind, Case, Name, NamePat, Pat, Proc};
 use open_processes::uses_more;
 use pattern_width::is_wide;
+use scope_faults::{
+    ScopeFault, check_rest, declarations, members_fit, name_variable, new_variable,
+    process_variable,
+};
 use scope_variables::{Role, Variables};
 use std::alloc::Global;
 
@@ -105,58 +105,6 @@ fn check_name(alloc: Global, scope: &mut Variables, n: &Name) -> Result<(), Scop
         Name::Var(name) => name_variable(scope, name),
         Name::Fresh(_) => Ok(()),
         Name::Quote(p) => check_process(alloc, scope, p),
-    }
-}
-
-// A name must stand for a process.
-fn process_variable(scope: &Variables, name: &String) -> Result<(), ScopeFault>
-    ensures { Judges result (process_use (string_bytes name.now) (sense_of (string_bytes name.now) scope.now)) }
-{
-    match scope.find(name.as_str()) {
-        Some(found) => process_role(found.role, name),
-        None => {
-            let name = name.clone()?;
-            Err(ScopeFault::Unbound { name })
-        }
-    }
-}
-
-// The role of a name must be that of a process.
-fn process_role(role: Role, name: &String) -> Result<(), ScopeFault>
-    ensures { Judges result (process_use (string_bytes name.now) (Some (sense role))) }
-{
-    match role {
-        Role::Process => Ok(()),
-        Role::Name => {
-            let name = name.clone()?;
-            Err(ScopeFault::WantsProcess { name })
-        }
-    }
-}
-
-// A name must stand for a name.
-fn name_variable(scope: &Variables, name: &String) -> Result<(), ScopeFault>
-    ensures { Judges result (name_use (string_bytes name.now) (sense_of (string_bytes name.now) scope.now)) }
-{
-    match scope.find(name.as_str()) {
-        Some(found) => name_role(found.role, name),
-        None => {
-            let name = name.clone()?;
-            Err(ScopeFault::Unbound { name })
-        }
-    }
-}
-
-// The role of a name must be that of a name.
-fn name_role(role: Role, name: &String) -> Result<(), ScopeFault>
-    ensures { Judges result (name_use (string_bytes name.now) (Some (sense role))) }
-{
-    match role {
-        Role::Name => Ok(()),
-        Role::Process => {
-            let name = name.clone()?;
-            Err(ScopeFault::WantsName { name })
-        }
     }
 }
 
@@ -363,40 +311,6 @@ fn check_name_pattern(
         NamePat::Var(name) => new_variable(bound, negated, name, Role::Name),
         NamePat::Quote(inner) => check_pattern(alloc, scope, bound, negated, inner),
     }
-}
-
-// A remainder, whose variable joins these.
-fn check_rest(bound: &mut Variables, negated: bool, rest: &Rest) -> Result<(), ScopeFault>
-    ensures rules { Judges result (breaks (rest_written rest.now) [] (after bound.old negated)) }
-    ensures bound { OnOk result (bound.new ≡ inside (variables (rest_written rest.now)) bound.old) }
-{
-    match rest {
-        Rest::No => Ok(()),
-        Rest::Wild => Ok(()),
-        Rest::Var(name) => new_variable(bound, negated, name, Role::Process),
-    }
-}
-
-// One more variable of a receive or a case, which stands under no negation and has a new name.
-fn new_variable(
-    bound: &mut Variables,
-    negated: bool,
-    name: &String,
-    role: Role,
-) -> Result<(), ScopeFault>
-    ensures rules { Judges result (variable_breaks (string_bytes name.now) (after bound.old negated)) }
-    ensures bound { OnOk result (bound.new ≡ (string_bytes name.now, sense role) ∷ bound.old) }
-{
-    if negated {
-        let name = name.clone()?;
-        return Err(ScopeFault::UnderNegation { name });
-    }
-    if bound.find(name.as_str()).is_some() {
-        let name = name.clone()?;
-        return Err(ScopeFault::Repeated { name });
-    }
-    bound.bind(name, role)?;
-    Ok(())
 }
 
 // A closed form, which uses no variable of the scope outside.

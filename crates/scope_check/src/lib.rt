@@ -2,10 +2,7 @@
 #![tactic(auto)]
 
 mod check;
-mod declared;
-pub mod fault;
-mod members;
 pub mod scoped;
 
-pub use fault::ScopeFault;
+pub use scope_faults::ScopeFault;
 pub use scoped::check_scope;

@@ -1,10 +1,10 @@
 ghost use Rattle.calculus.specs.Meaning.{proc_written};
 ghost use Rattle.scope.specs.Rules.{broken_rules};
-ghost use Rattle.scope_check.specs.Walks.{Judges};
+ghost use Rattle.scope_faults.specs.Walks.{Judges};
 
 use crate::check::check_process;
-use crate::fault::ScopeFault;
 use calculus::Proc;
+use scope_faults::ScopeFault;
 use scope_variables::Variables;
 use std::alloc::Global;
 

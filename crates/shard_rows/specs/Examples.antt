@@ -1,7 +1,6 @@
 -- Examples of shards. The channels 1 and 3 have the shard 18, and the channel 2 has the shard 1.
 use Rattle.std.specs.Prelude.{◌≡◌, ℕ, Bool, true, false, ◌||◌, eqb, List, [], ◌∷◌, Some, None}
-use Rattle.calculus.specs.Examples.{num, nil, sent, heard, on, a_var}
-use Rattle.calculus.specs.ExamplesSteps.{row_of}
+use Rattle.calculus.specs.Examples.{num, nil, sent, heard, on, a_var, row_of}
 use Rattle.calculus.specs.Rows.{Row}
 use Rattle.events.specs.Examples.{the_step}
 use Rattle.run_entries.specs.Allowed.{MeetsNothing}

@@ -15,7 +15,7 @@ use Rattle.rho_parser.specs.Parsed.{place_of}
 use Rattle.rho_parser.specs.declared.parse_fault.ParseFault.{ParseFault}
 use Rattle.rho_parser.specs.declared.parse_fault.ParseFault.TheVariants as grammatical
 use Rattle.scope.specs.Rules.{Broken, broken_rules}
-use Rattle.scope_check.specs.Faults.{NamesFirst, StandsFirst}
+use Rattle.scope_faults.specs.Faults.{NamesFirst, StandsFirst}
 use Rattle.sources.specs.Faults.{parse_refusal}
 use Rattle.sources.specs.Sources.{most_height, plain, start_of, IsSpelt, IsTooDeep, IsIllFormed, IsOutOfScope, Refusal, out_of_scope, IsRefused}
 

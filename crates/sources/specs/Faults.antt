@@ -4,8 +4,8 @@ use Rattle.rho_lexer.specs.declared.token.LexFault.TheVariants as lexical
 use Rattle.rho_lexer.specs.Meaning as lexer
 use Rattle.rho_parser.specs.declared.parse_fault.ParseFault.{ParseFault}
 use Rattle.rho_parser.specs.declared.parse_fault.ParseFault.TheVariants as grammatical
-use Rattle.scope_check.specs.Faults.{broken_rule}
-use Rattle.scope_check.specs.declared.fault.ScopeFault.TheVariants as scopes
+use Rattle.scope_faults.specs.Faults.{broken_rule}
+use Rattle.scope_faults.specs.declared.fault.ScopeFault.TheVariants as scopes
 use Rattle.sources.specs.Sources.{Refusal, no_tokens, too_deep, ill_formed, out_of_scope}
 use Rattle.sources.specs.declared.fault.SourceFault.{SourceFault}
 use Rattle.sources.specs.declared.fault.SourceFault.TheVariants as faults

@@ -1,6 +1,6 @@
 use rho_lexer::LexFault;
 use rho_parser::ParseFault;
-use scope_check::ScopeFault;
+use scope_faults::ScopeFault;
 
 /// Why a source is refused, or that memory is wanted.
 #[derive(Debug, Drop, PartialEq, Eq)]

@@ -12,7 +12,8 @@ use Rattle.rho_term.specs.declared.term.Part.{Part}
 use Rattle.rho_term.specs.declared.term.Part.TheVariants as part
 use Rattle.std.specs.declared.vec.Vec.{Vec}
 use Rattle.std.specs.declared.alloc.Global.{Global}
-use Rattle.spatial_match.specs.Given.{Ready, OwnReady, Tries, IsCompared}
+use Rattle.match_targets.specs.Targets.{Ready}
+use Rattle.spatial_match.specs.Given.{OwnReady, Tries, IsCompared}
 use Rattle.spatial_match.specs.Found.{found}
 use Rattle.calculus.specs.Tree.{bool, int, str, uri, bytes, receive, new, match}
 

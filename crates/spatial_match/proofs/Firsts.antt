@@ -7,8 +7,8 @@ use Rattle.std.specs.declared.alloc.Global.{Global}
 use Rattle.std.specs.declared.vec.Vec.{Vec}
 use Rattle.calculus.specs.declared.plain.TermRest.{TermRest}
 use Rattle.spatial_match.specs.declared.split.Split.{Split}
-use Rattle.spatial_match.specs.Search.{first_way, may_rest, MemberWay}
-use Rattle.spatial_match.specs.Found.{IsFirst, IsFirstWay, IsFirstMembers, Way, may_leave}
+use Rattle.match_targets.specs.Found.{first_way, may_rest, MemberWay, IsFirst, IsFirstMembers}
+use Rattle.spatial_match.specs.Found.{IsFirstWay, Way, may_leave}
 
 -- the one list of bindings and then the other, where both are there
 abbrev pub both_first : Option Bindings → Option Bindings → Option Bindings

@@ -1,16 +1,12 @@
 pub mod Ways
 pub mod Firsts
 pub mod Parallel
-pub mod Leaving
 pub mod Rows
 pub mod Sets
-pub mod Alike
-pub mod Keeping
-pub mod Readying
+pub mod Trying
 pub mod Steps
 pub mod Taking
 pub mod Closing
 pub mod Weighing
 pub mod Compared
 pub mod Shaping
-pub mod Repeating

@@ -5,7 +5,8 @@ use Rattle.calculus.specs.Tree.{Tree}
 use Rattle.calculus.specs.Shape.{process}
 use Rattle.calculus.specs.Normal.{ascending}
 use Rattle.calculus.specs.Matching.{Bindings, Member, Choice, Matcher, both_of, completed, has_wide, is_empty, some_match, first_of_all, ways, parts_match}
-use Rattle.spatial_match.specs.Search.{first_way, woven, IsWhole, WideIs}
+use Rattle.match_targets.specs.Found.{first_way}
+use Rattle.spatial_match.specs.Search.{woven, IsWhole, WideIs}
 use Rattle.spatial_match.specs.Found.{wides_take, may_leave}
 use Rattle.spatial_match.proofs.Firsts.{by_cases, both_first, first-both, none_gives, some_gives}
 

@@ -11,8 +11,8 @@ use Rattle.calculus.specs.Tree.{Tree, par}
 use Rattle.calculus.specs.Shape.{leaf}
 use Rattle.calculus.specs.Normal.{ascending}
 use Rattle.calculus.specs.Matching.{Bindings, Member, Choice, both_of, one_if, first_of_all, ways, rest_match, members_match, items_match, first_items_match}
-use Rattle.spatial_match.specs.Search.{member_at, may_rest}
-use Rattle.spatial_match.specs.Found.{IsFirst, IsFirstMembers}
+use Rattle.spatial_match.specs.Search.{member_at}
+use Rattle.match_targets.specs.Found.{may_rest, IsFirst, IsFirstMembers}
 use Rattle.spatial_match.proofs.Firsts.{both_first, first-both, none_gives, some_gives}
 use Rattle.spatial_match.proofs.Rows.{drop-at}
 

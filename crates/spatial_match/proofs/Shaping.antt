@@ -1,6 +1,6 @@
 -- All matches of the forms of patterns, as they are searched for.
 use Rattle.std.proofs.Common.{◌≡◌, Bool, true, false, List, [], map as each, refl, sym, ap, ◌∙◌, subst}
-use Rattle.std.specs.Prelude.{Option, Result, Ok, Err, IfOk}
+use Rattle.std.specs.Prelude.{Option}
 use Rattle.std.specs.declared.alloc.Global.{Global}
 use Rattle.std.specs.declared.vec.Vec.{Vec}
 use Rattle.calculus.specs.declared.plain.TermRest.{TermRest}
@@ -15,16 +15,12 @@ use Rattle.calculus.proofs.Placing.{listed-trees}
 use Rattle.rho_term.specs.Parts.{pair_tree, part_tree}
 use Rattle.rho_term.specs.declared.term.Part.{Part}
 use Rattle.rho_term.specs.declared.term.Part.TheVariants as part
-use Rattle.spatial_match.specs.Search.{left_from}
-use Rattle.spatial_match.specs.Found.{IsFirst, IsFirstMembers, found, member, tried_pats, tried_pairs}
-use Rattle.spatial_match.proofs.Leaving.{left-all, ascending-same}
+use Rattle.free_places.specs.Places.{left_from}
+use Rattle.match_targets.specs.Found.{IsFirst, IsFirstMembers}
+use Rattle.spatial_match.specs.Found.{found, member, tried_pats, tried_pairs}
+use Rattle.match_targets.proofs.Leaving.{left-all, ascending-same}
 use Rattle.spatial_match.proofs.Rows.{wholes-each, wholes-row}
 use Rattle.spatial_match.proofs.Sets.{items-first, members-first}
-
--- what holds of each good answer
-pub ok_map : {A E : Type 0} (P Q : A → Type 0) → ((a : A) → P a → Q a) → (r : Result A E) → IfOk r P → IfOk r Q
-ok_map P Q f (Ok a) h = f a h
-ok_map P Q f (Err e) h = h
 
 pub list-found : (ps ts : List Tree) (r : TermRest) → first_items_match (tried_pats ps) r of_list ts ≡ found (two list_pattern (many row ps) (leaf (rest r))) (many list ts)
 list-found ps ts r =

@@ -10,13 +10,16 @@ use Rattle.calculus.specs.Matching.{Bindings, Member, Choice, ways, first_of_all
 use Rattle.rho_term.specs.Parts.{pat_part_tree, pat_tree}
 use Rattle.rho_term.specs.declared.term.PatPart.{PatPart}
 use Rattle.spatial_match.specs.declared.split.Split.{Split}
-use Rattle.spatial_match.specs.Search.{has, left_from, first_way, at_place, Repeats, FailedBefore, member_at, woven, WideIs, AtMostOne, no_wide}
-use Rattle.spatial_match.specs.Found.{IsFirstWay, Way, found, tried, may_leave, remaining}
+use Rattle.free_places.specs.Places.{AreUsed, NextFree, has, left_from}
+use Rattle.match_targets.specs.Found.{first_way}
+use Rattle.spatial_match.specs.Search.{at_place, FailedBefore, member_at, woven, WideIs, AtMostOne, no_wide}
+use Rattle.match_targets.specs.Targets.{Repeats, remaining}
+use Rattle.spatial_match.specs.Found.{IsFirstWay, Way, found, tried, may_leave}
 use Rattle.spatial_match.proofs.Firsts.{some-none, some-some}
 use Rattle.spatial_match.proofs.Parallel.{parts_none, parts_some, passes_test}
-use Rattle.spatial_match.proofs.Leaving.{left-ascends, ascending-same, held-remaining}
+use Rattle.match_targets.proofs.Leaving.{left-ascends, ascending-same, held-remaining}
 use Rattle.spatial_match.proofs.Rows.{drop-at, wholes-each, NoneBefore, none-all, may-none, may-one, none_is, one_is, alone-after}
-use Rattle.spatial_match.proofs.Ways.{later, starts, passes, stops, ends, none-failed, next-failed, repeated, taken, refused, dead, alive, around}
+use Rattle.spatial_match.proofs.Ways.{later, starts, passes, stops, reaches, still-failed, finishes, none-failed, next-failed, repeated, taken, refused, dead, alive, around}
 
 module _ (all : List Member) (us : List ℕ) (ts : List Tree) (i : ℕ) (h : i < length all) where
   abbrev m : Member
@@ -61,8 +64,15 @@ module _ (all : List Member) (us : List ℕ) (ts : List Tree) (i : ℕ) (h : i <
       record { bs = w.bs; left = w.left; w = w.w; first = r ∙ stops f m ms us ts j (w.bs, w.left) l w.first; whole = w.whole; wide = w.wide; waits = w.waits; is = w.is }
 
   -- no target is left
-  pub part-ends : (j : ℕ) → length ts ≤ j → Reached j → first_way f (ways (drop i all) (left_from 0 us ts)) ≡ None
-  part-ends j l r = r ∙ ends f m ms us ts j l
+  pub part-ends : (j n : ℕ) → n ≡ length ts → j ≤ n → AreUsed us j n → Reached j → first_way f (ways (drop i all) (left_from 0 us ts)) ≡ None
+  part-ends j n e l a r = r ∙ finishes f m ms us ts j n e l a
+
+  -- the next target that is free
+  pub part-reaches : (k j n : ℕ) → n ≡ length ts → NextFree us k n j → Reached k → Reached j
+  part-reaches k j n e g r = r ∙ reaches f m ms us ts k j n e g
+
+  pub part-still-failed : (k j n : ℕ) → NextFree us k n j → FailedBefore f m ms us ts k → FailedBefore f m ms us ts j
+  part-still-failed k j n g b = still-failed f m ms us ts k j n g b
 
   pub place-taken : (j : ℕ) → has us j ≡ true → first_way f (at_place m ms us ts j) ≡ None
   place-taken j e = taken f m ms us ts j e

@@ -1,17 +1,18 @@
 -- One step of the search for the members of a set or map.
-use Rattle.std.proofs.Common.{◌≡◌, ℕ, ◌+◌, ◌<◌, ◌≤◌, Bool, true, false, cond, List, [], ◌∷◌, ◌++◌, length, drop, get_or, refl, sym, ap, ◌∙◌, append_assoc}
+use Rattle.std.proofs.Common.{◌≡◌, ℕ, ◌+◌, ◌<◌, ◌≤◌, Bool, true, false, List, [], ◌∷◌, ◌++◌, length, drop, get_or, sym, ap, ◌∙◌, append_assoc}
 use Rattle.std.specs.Prelude.{Option, Some, None, is_some, flat_map}
 use Rattle.std.specs.declared.alloc.Global.{Global}
 use Rattle.std.specs.declared.vec.Vec.{Vec}
 use Rattle.calculus.specs.declared.plain.TermRest.{TermRest}
-use Rattle.calculus.specs.declared.plain.TermRest.TheVariants as rests
 use Rattle.calculus.specs.Tree.{Tree, par}
 use Rattle.calculus.specs.Shape.{leaf}
-use Rattle.calculus.specs.Matching.{Bindings, Member, ways, first_of_all, one_if, is_empty, rest_match}
-use Rattle.spatial_match.specs.Search.{has, left_from, first_way, at_place, Repeats, FailedBefore, member_at, may_rest, MemberWay}
-use Rattle.spatial_match.specs.Found.{IsFirst, IsFirstMembers}
+use Rattle.calculus.specs.Matching.{Bindings, Member, ways, first_of_all}
+use Rattle.free_places.specs.Places.{AreUsed, NextFree, has, left_from}
+use Rattle.match_targets.specs.Found.{first_way, may_rest, MemberWay, IsFirstMembers}
+use Rattle.spatial_match.specs.Search.{at_place, FailedBefore, member_at}
+use Rattle.match_targets.specs.Targets.{Repeats}
 use Rattle.spatial_match.proofs.Rows.{drop-at}
-use Rattle.spatial_match.proofs.Ways.{later, starts, passes, stops, ends, none-failed, next-failed, repeated, taken, refused, dead, alive}
+use Rattle.spatial_match.proofs.Ways.{later, starts, passes, stops, reaches, still-failed, finishes, none-failed, next-failed, repeated, taken, refused, dead, alive}
 
 module _ (r : TermRest) (made : List Tree → Tree) (all : List Member) (us : List ℕ) (ts : List Tree) (i : ℕ) (h : i < length all) where
   abbrev m : Member
@@ -48,8 +49,15 @@ module _ (r : TermRest) (made : List Tree → Tree) (all : List Member) (us : Li
   member-stops j None l e q w = cc
   member-stops j (Some v) l e q w = record { bs = w.bs; left = w.left; x = w.x; first = q ∙ stops f m ms us ts j (w.bs, w.left) l w.first; last = w.last; is = w.is }
 
-  pub member-ends : (j : ℕ) → length ts ≤ j → Reached j → first_way f (ways (drop i all) (left_from 0 us ts)) ≡ None
-  member-ends j l q = q ∙ ends f m ms us ts j l
+  pub member-ends : (j n : ℕ) → n ≡ length ts → j ≤ n → AreUsed us j n → Reached j → first_way f (ways (drop i all) (left_from 0 us ts)) ≡ None
+  member-ends j n e l a r = r ∙ finishes f m ms us ts j n e l a
+
+  -- the next target that is free
+  pub member-reaches : (k j n : ℕ) → n ≡ length ts → NextFree us k n j → Reached k → Reached j
+  member-reaches k j n e g r = r ∙ reaches f m ms us ts k j n e g
+
+  pub member-still-failed : (k j n : ℕ) → NextFree us k n j → FailedBefore f m ms us ts k → FailedBefore f m ms us ts j
+  member-still-failed k j n g b = still-failed f m ms us ts k j n g b
 
   pub member-taken : (j : ℕ) → has us j ≡ true → first_way f (at_place m ms us ts j) ≡ None
   member-taken j e = taken f m ms us ts j e
@@ -71,28 +79,3 @@ module _ (r : TermRest) (made : List Tree → Tree) (all : List Member) (us : Li
         last = w.last;
         is = q ∙ ap (λ y. b ++ y) w.is ∙ sym (append_assoc b (flat_map (λ (c : Bindings). c) w.bs) w.x);
       }
-
-one_some : (b : Bool) (v : Bindings) → first_of_all (one_if b) ≡ Some v → b ≡ true
-one_some true v h = refl
-one_some false v h = cc
-
-one_none : (b : Bool) → first_of_all (one_if b) ≡ None → b ≡ false
-one_none true h = cc
-one_none false h = refl
-
--- all members have chosen, and the remainder takes what is left
-module _ (made : List Tree → Tree) (left : List Tree) where
-  rest_some : (r : TermRest) (v : Bindings) → first_of_all (rest_match r made left) ≡ Some v → may_rest r left ≡ true
-  rest_some rests.No v h = one_some (is_empty left) v h
-  rest_some rests.Var v h = refl
-  rest_some rests.Wild v h = refl
-
-  rest_none : (r : TermRest) → first_of_all (rest_match r made left) ≡ None → may_rest r left ≡ false
-  rest_none rests.No h = one_none (is_empty left) h
-  rest_none rests.Var h = cc
-  rest_none rests.Wild h = cc
-
-  -- what the remainder binds is what is found
-  pub rest-ends : (r : TermRest) (o : Option (Vec Tree Global)) → IsFirst (rest_match r made left) o → IsFirstMembers r made (ways [] left) o
-  rest-ends r None h = ap (λ c. cond c (Some ([], left)) None) (rest_none r h)
-  rest-ends r (Some v) h = record { bs = []; left = left; x = v.items; first = ap (λ c. cond c (Some ([], left)) None) (rest_some r v.items h); last = h; is = refl }

@@ -1,5 +1,5 @@
 -- A search among ways, one target after another.
-use Rattle.std.proofs.Common.{◌≡◌, ℕ, zero, suc, ◌+◌, ◌<◌, ◌≤◌, Bool, true, false, cond, List, [], ◌∷◌, ◌++◌, length, map as each, drop, get_or, refl, sym, ap, ◌∙◌, subst, arith, eq-eqb, add-one}
+use Rattle.std.proofs.Common.{◌≡◌, ℕ, zero, suc, ◌+◌, ◌-◌, ◌<◌, ◌≤◌, Bool, true, false, cond, List, [], ◌∷◌, ◌++◌, length, map as each, drop, get_or, refl, sym, ap, ◌∙◌, subst, arith, eq-eqb, add-one}
 use Rattle.std.specs.Prelude.{◌||◌, eqb, Option, Some, None, flat_map, option_map}
 use Rattle.std.proofs.Math.Seq.{drop-cons}
 use Rattle.std.proofs.lemmas.List.{drop_all}
@@ -7,7 +7,10 @@ use Rattle.std.proofs.lemmas.Bool.Decides.{nat_tests}
 use Rattle.calculus.specs.Tree.{Tree, par}
 use Rattle.calculus.specs.Shape.{leaf}
 use Rattle.calculus.specs.Matching.{Bindings, Member, Choice, choices, ways, first_of_all}
-use Rattle.spatial_match.specs.Search.{has, left_from, first_way, trial, at_place, Repeats, FailedBefore}
+use Rattle.free_places.specs.Places.{AreUsed, NextFree, has, left_from}
+use Rattle.match_targets.specs.Found.{first_way}
+use Rattle.spatial_match.specs.Search.{trial, at_place, FailedBefore}
+use Rattle.match_targets.specs.Targets.{Repeats}
 
 -- the one answer, or else the other
 abbrev pub or_else : Option Choice → Option Choice → Option Choice
@@ -230,6 +233,26 @@ module _ (f : List Tree → Bool) (m : Member) (ms : List Member) (us : List ℕ
   alive j b w h k l =
       ap (λ c. first_way f (cond c [] (trial m ms (get_or ts j (leaf par), one_used us 0 ts j)))) h
       ∙ a_match f (ways ms (one_used us 0 ts j)) (m.tries (get_or ts j (leaf par))) b w k l
+
+  -- targets that are used are passed over
+  over : (d i j : ℕ) → j ≡ i + d → j ≤ length ts → AreUsed us i j → first_way f (later i) ≡ first_way f (later j)
+  over zero i j e l a =
+      let q : i ≡ j = omega (arith, e) in
+      ap (λ k. first_way f (later k)) q
+  over (suc d) i j e l a = passes i (omega (arith, e, l)) (taken i (a i (omega (arith, e)) (omega arith))) ∙ over d (i + 1) j (omega (arith, e)) l (λ k m n. a k m (omega (arith, n)))
+
+  failed-over : (d i j : ℕ) → j ≡ i + d → AreUsed us i j → FailedBefore f m ms us ts i → FailedBefore f m ms us ts j
+  failed-over zero i j e a b k q = b k (omega (arith, e, q))
+  failed-over (suc d) i j e a b k q = taken k (a k (omega (arith, q)) (omega (arith, e, q)))
+
+  pub reaches : (i j n : ℕ) → n ≡ length ts → NextFree us i n j → first_way f (later i) ≡ first_way f (later j)
+  reaches i j n e h = over (j - i) i j (omega (arith, h.from)) (omega (arith, e, h.within)) h.before
+
+  pub still-failed : (i j n : ℕ) → NextFree us i n j → FailedBefore f m ms us ts i → FailedBefore f m ms us ts j
+  still-failed i j n h b = failed-over (j - i) i j (omega (arith, h.from)) h.before b
+
+  pub finishes : (i n : ℕ) → n ≡ length ts → i ≤ n → AreUsed us i n → first_way f (later i) ≡ None
+  finishes i n e l a = over (n - i) i n (omega (arith, l)) (omega (arith, e)) a ∙ ends n (omega (arith, e))
 
   -- before the first target there is none
   pub none-failed : FailedBefore f m ms us ts 0

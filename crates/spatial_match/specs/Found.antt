@@ -1,20 +1,13 @@
 -- What the calls answer: the first of all matches, as trees.
-use Rattle.std.specs.Prelude.{◌≡◌, ℕ, Bool, true, cond, ◌||◌, ◌&&◌, List, [], ◌∷◌, Option, Some, None, map as each}
-use Rattle.std.specs.declared.alloc.Global.{Global}
-use Rattle.std.specs.declared.vec.Vec.{Vec}
-use Rattle.calculus.specs.declared.plain.TermRest.{TermRest}
+use Rattle.std.specs.Prelude.{◌≡◌, Bool, true, cond, ◌||◌, ◌&&◌, List, [], ◌∷◌, Option, Some, None, map as each}
 use Rattle.calculus.specs.Tree.{Tree}
-use Rattle.calculus.specs.Shape.{process, held}
-use Rattle.calculus.specs.Matching.{Bindings, Member, Choice, piece, first_of_all, some_match, has_wide, is_empty}
+use Rattle.calculus.specs.Shape.{process}
+use Rattle.calculus.specs.Matching.{Bindings, Member, Choice, piece, some_match, has_wide, is_empty}
 use Rattle.rho_term.specs.Parts.{pat_part_tree, pair_tree}
 use Rattle.rho_term.specs.declared.term.PatPart.{PatPart}
+use Rattle.match_targets.specs.Found.{first_way}
 use Rattle.spatial_match.specs.declared.split.Split.{Split}
-use Rattle.spatial_match.specs.Search.{left_from, first_way, woven, IsWhole, WideIs, no_wide, may_rest, MemberWay}
-
--- these are the bindings of the first of these matches; there is none where there is no match
-abbrev pub IsFirst : List Bindings → Option (Vec Tree Global) → Type 0
-IsFirst bs None = first_of_all bs ≡ None
-IsFirst bs (Some v) = first_of_all bs ≡ Some v.items
+use Rattle.spatial_match.specs.Search.{woven, IsWhole, WideIs, no_wide}
 
 -- what is tried for a tree of a pattern
 abbrev pub member : Tree → Member
@@ -35,10 +28,6 @@ tried_pats ps = each member ps
 -- the pairs of a map pattern, as they are tried
 abbrev pub tried_pairs : List (Tree × Tree) → List Member
 tried_pairs ps = each (λ p. member (pair_tree p)) ps
-
--- the process of the parts whose numbers are not among these
-abbrev pub remaining : List ℕ → Tree → Tree
-remaining us t = process (left_from 0 us (held t))
 
 -- whether each wide member takes a tree
 abbrev pub wides_take : List Member → Tree → Bool
@@ -64,8 +53,3 @@ pub record Way (all later : List Member) (ws : List Choice) (s : Split) : Type 0
 abbrev pub IsFirstWay : List Member → List Member → List Choice → Option Split → Type 0
 IsFirstWay all later ws None = first_way (may_leave all) ws ≡ None
 IsFirstWay all later ws (Some s) = Way all later ws s
-
--- the same for the members of a set or map
-abbrev pub IsFirstMembers : TermRest → (List Tree → Tree) → List Choice → Option (Vec Tree Global) → Type 0
-IsFirstMembers r made ws None = first_way (may_rest r) ws ≡ None
-IsFirstMembers r made ws (Some v) = MemberWay r made ws v.items

@@ -1,21 +1,11 @@
--- What is known of a target and of a pattern that are put together.
+-- What is known of a pattern that is put together with a target.
 use Rattle.std.specs.Prelude.{◌≤◌, length, List, [], ◌∷◌, ⊤, ◌⊎◌, map as each}
 use Rattle.calculus.specs.Tree.{Label, row, bool, int, str, uri, bytes, receive, new, match, tuple, send, bundle, pair, pattern, rest, any, some_process, some_name, simple, same, both, either, not_this, list_pattern, set_pattern, map_pattern, Tree, node, Trees, none, also}
 use Rattle.calculus.specs.Shape.{at, held, only}
-use Rattle.calculus.specs.CodeLaws.{IsShort}
-use Rattle.calculus.specs.Form.{Sort, term, pat, name_pat, wides, Fits}
+use Rattle.calculus.specs.Form.{term, pat, name_pat, wides, Fits}
 use Rattle.rho_term.specs.Parts.{pat_part_tree}
+use Rattle.match_targets.specs.Targets.{Ready}
 use Rattle.rho_term.specs.declared.term.PatPart.{PatPart}
-
--- a closed tree of this sort, whose code has room in four bytes
-pub record Ready (s : Sort) (t : Tree) : Type 0 where
-  pub closed : Fits s [] t
-  pub short : IsShort t
-
--- each of these is so
-abbrev pub AllReady : Sort → List Tree → Type 0
-AllReady s [] = ⊤
-AllReady s (t ∷ ts) = Ready s t × AllReady s ts
 
 -- what is known of a form of a pattern: what is compared, the process of `={P}` and a closed form as a process of one part, is so, and one part at most is wide
 abbrev pub OwnReady : Label → Tree → Type 0

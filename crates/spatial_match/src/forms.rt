@@ -1,22 +1,23 @@
 // The thin parts of a pattern, each against one part of a process.
-ghost use Rattle.std.specs.Prelude.{◌≡◌, ◌≤◌, false, drop, length, map, IfOk};
+ghost use Rattle.std.specs.Prelude.{◌≡◌, false, map, IfOk};
 ghost use Rattle.calculus.specs.Form.{term};
-ghost use Rattle.calculus.specs.Matching.{first_items_match, is_empty, one_if, rest_match};
+ghost use Rattle.calculus.specs.Matching.{first_items_match};
 ghost use Rattle.calculus.specs.Operators.{of_list};
 ghost use Rattle.calculus.specs.Shape.{label_of, leaf, many, one, only, two};
 ghost use Rattle.calculus.specs.Tree.{bundle, list_pattern, map_pattern, par, rest, row, send, set_pattern, tuple};
 ghost use Rattle.calculus.specs.Variables.{is_wide};
 ghost use Rattle.rho_term.specs.Normal.{IsOrdered};
 ghost use Rattle.rho_term.specs.Parts.{pair_tree, part_tree, pat_part_tree};
-ghost use Rattle.spatial_match.specs.Given.{AllReady, AllTries, IsCompared, Ready, Tries};
-ghost use Rattle.spatial_match.specs.Found.{IsFirst, found, tried_pats};
+ghost use Rattle.match_targets.specs.Targets.{AllReady, Ready};
+ghost use Rattle.spatial_match.specs.Given.{AllTries, IsCompared, Tries};
+ghost use Rattle.match_targets.specs.Found.{IsFirst};
+ghost use Rattle.spatial_match.specs.Found.{found, tried_pats};
 
-use crate::compare::{is_of_kind, same_closed, same_ground};
 use crate::members::{SetSearch, find_members};
 use crate::pairs::{MapSearch, find_pairs};
 use crate::parts::find_whole;
-use crate::split::{found_if, found_one, joined};
 use calculus::{Rights, TermRest};
+use match_targets::{found_if, is_of_kind, joined, rest_items, same_closed, same_ground};
 use rho_term::{Part, PatPart, Term, TermPat};
 use std::alloc::{AllocError, Global};
 
@@ -258,44 +259,4 @@ pub(crate) fn find_items(
         None => Ok(None),
         Some(last) => Ok(Some(joined(found, last)?)),
     }
-}
-
-// What a remainder binds of the processes from number i on.
-fn rest_items(
-    alloc: Global,
-    i: usize,
-    remainder: TermRest,
-    terms: &[Term],
-) -> Result<Option<Vec<Term>>, AllocError>
-    ensures { IfOk result (λ o. IsFirst (rest_match remainder of_list (drop i terms.now)) o) }
-{
-    match remainder {
-        TermRest::No => Ok(none_from(alloc, i, terms)),
-        TermRest::Wild => Ok(Some(Vec::new(alloc))),
-        TermRest::Var => {
-            let left = items_from(alloc, i, terms)?;
-            found_one(alloc, Term::from_part(alloc, Part::List(left))?)
-        }
-    }
-}
-
-// One match that binds nothing where no process stands from number i on, and else none.
-fn none_from(alloc: Global, i: usize, terms: &[Term]) -> Option<Vec<Term>>
-    ensures { IsFirst (one_if (is_empty (drop i terms.now))) result }
-{
-    if i < terms.len() {
-        return None;
-    }
-    Some(Vec::new(alloc))
-}
-
-// The processes from number i on.
-fn items_from(alloc: Global, i: usize, terms: &[Term]) -> Result<Vec<Term>, AllocError>
-    ensures { IfOk result (λ v. v.items ≡ drop i terms.now) }
-{
-    let mut left = Vec::new(alloc);
-    for j in i..terms.len() {
-        left.push(terms[j].copy(alloc)?)?;
-    }
-    Ok(left)
 }

@@ -3,14 +3,11 @@
 //! The search borrows the target: what it has taken is a list of numbers of parts or members.
 #![tactic(auto)]
 
-mod compare;
 mod forms;
-mod left;
 pub mod matches;
 mod members;
 mod pairs;
 mod parts;
-mod repeats;
 mod split;
 
 pub use matches::{first_match, match_bind};

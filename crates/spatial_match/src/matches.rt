@@ -4,8 +4,9 @@ ghost use Rattle.calculus.specs.CodeLaws.{IsShort};
 ghost use Rattle.calculus.specs.Form.{a_bind, term, Fits, IsClosed};
 ghost use Rattle.calculus.specs.Matching.{all_matches, bind_matches};
 ghost use Rattle.rho_term.specs.Parts.{bind_tree};
-ghost use Rattle.spatial_match.specs.Given.{AllReady, IsClosedPattern};
-ghost use Rattle.spatial_match.specs.Found.{IsFirst};
+ghost use Rattle.match_targets.specs.Targets.{AllReady};
+ghost use Rattle.spatial_match.specs.Given.{IsClosedPattern};
+ghost use Rattle.match_targets.specs.Found.{IsFirst};
 
 use crate::forms::find_items;
 use crate::parts::find_whole;

@@ -1,21 +1,23 @@
 // The members of a set pattern against those of a set, in the way of thin parts, with a remainder.
-ghost use Rattle.std.specs.Prelude.{◌≡◌, ◌<◌, ◌≤◌, ◌+◌, [], IfOk, drop, length};
+ghost use Rattle.std.specs.Prelude.{◌≡◌, ◌<◌, ◌≤◌, ◌+◌, false, IfOk, drop, length};
 ghost use Rattle.calculus.specs.Code.{codes};
 ghost use Rattle.calculus.specs.Form.{term};
 ghost use Rattle.calculus.specs.Matching.{ways};
 ghost use Rattle.calculus.specs.Order.{IsAscending};
 ghost use Rattle.calculus.specs.Shape.{many, only};
 ghost use Rattle.calculus.specs.Tree.{set, trees};
-ghost use Rattle.spatial_match.specs.Given.{AllReady, AllTries};
-ghost use Rattle.spatial_match.specs.Search.{FailedBefore, at_place, left_from, may_rest, member_at};
-ghost use Rattle.spatial_match.specs.Found.{IsFirstMembers, tried_pats};
+ghost use Rattle.match_targets.specs.Targets.{AllReady};
+ghost use Rattle.spatial_match.specs.Given.{AllTries};
+ghost use Rattle.spatial_match.specs.Search.{FailedBefore, at_place, member_at};
+ghost use Rattle.match_targets.specs.Found.{may_rest, IsFirstMembers};
+ghost use Rattle.free_places.specs.Places.{has, left_from};
+ghost use Rattle.spatial_match.specs.Found.{tried_pats};
 
-use crate::left::{is_free, is_spent, left_terms, with_place};
 use crate::parts::find_whole;
-use crate::repeats::repeats_member;
-use crate::split::{found_if, found_one, joined};
 use calculus::TermRest;
-use rho_term::{Part, Term, TermPat};
+use free_places::{next_free, with_place};
+use match_targets::{joined, repeats_member, rest_members};
+use rho_term::{Term, TermPat};
 use std::alloc::{AllocError, Global};
 
 /// The members of a set pattern and its remainder, and the members of a set.
@@ -46,16 +48,18 @@ pub(crate) fn find_members(
         return rest_members(alloc, rest, terms, used);
     }
     let _given = pats[i].parts();
-    for j in 0..terms.len() {
+    let mut from = 0;
+    while let Some(j) = next_free(used, from, terms.len()) {
         let found = try_member(alloc, search, i, used, j)?;
         if found.is_some() {
             return Ok(found);
         }
+        from = j + 1;
     }
     Ok(None)
 }
 
-// Member number i takes member number j of the target, where that one is not used. It has failed with
+// Member number i takes member number j of the target, which is not used. It has failed with
 // the target's one before that.
 #[cycle(find)]
 fn try_member(
@@ -67,6 +71,7 @@ fn try_member(
 ) -> Result<Option<Vec<Term>>, AllocError>
     requires within { i < length search.pats.now }
     requires target_within { j < length search.terms.now }
+    requires free { has used.now j ≡ false }
     requires failed { FailedBefore (may_rest search.rest) (member_at i (tried_pats search.pats.now))
         (drop (i + 1) (tried_pats search.pats.now)) used.now search.terms.now j }
     requires tries { AllTries search.pats.now }
@@ -77,9 +82,6 @@ fn try_member(
         used.now search.entry.terms.now j) o) }
 {
     let SetSearch { pats, terms, .. } = search;
-    if !is_free(used, j) {
-        return Ok(None);
-    }
     if repeats_member(terms, used, j) {
         return Ok(None);
     }
@@ -91,27 +93,6 @@ fn try_member(
                 None => Ok(None),
                 Some(others) => Ok(Some(joined(found, others)?)),
             }
-        }
-    }
-}
-
-// All members have chosen: the remainder takes what is left, and without one nothing may be left.
-fn rest_members(
-    alloc: Global,
-    rest: TermRest,
-    terms: &[Term],
-    used: &[usize],
-) -> Result<Option<Vec<Term>>, AllocError>
-    requires ready { AllReady term terms.now }
-    requires ordered { IsAscending (codes (trees terms.now)) }
-    ensures { IfOk result (λ o. IsFirstMembers rest (λ vs. only (many set vs)) (ways [] (left_from 0 used.now terms.now)) o) }
-{
-    match rest {
-        TermRest::No => Ok(found_if(alloc, is_spent(terms.len(), used))),
-        TermRest::Wild => Ok(Some(Vec::new(alloc))),
-        TermRest::Var => {
-            let left = left_terms(alloc, terms, used)?;
-            found_one(alloc, Term::from_part(alloc, Part::Set(left))?)
         }
     }
 }

@@ -1,5 +1,5 @@
 // The pairs of a map pattern against those of a map, in the way of thin parts, with a remainder.
-ghost use Rattle.std.specs.Prelude.{◌≡◌, ◌<◌, ◌≤◌, ◌+◌, [], IfOk, drop, length, map};
+ghost use Rattle.std.specs.Prelude.{◌≡◌, ◌<◌, ◌≤◌, ◌+◌, false, IfOk, drop, length, map};
 ghost use Rattle.calculus.specs.Code.{codes};
 ghost use Rattle.calculus.specs.Form.{pair_of, term};
 ghost use Rattle.calculus.specs.Matching.{ways};
@@ -7,16 +7,18 @@ ghost use Rattle.calculus.specs.Order.{IsAscending};
 ghost use Rattle.calculus.specs.Shape.{many, only};
 ghost use Rattle.calculus.specs.Tree.{dict, trees};
 ghost use Rattle.rho_term.specs.Parts.{pair_tree};
-ghost use Rattle.spatial_match.specs.Given.{AllReady, AllTries, Ready, Tries};
-ghost use Rattle.spatial_match.specs.Search.{FailedBefore, at_place, left_from, may_rest, member_at};
-ghost use Rattle.spatial_match.specs.Found.{IsFirst, IsFirstMembers, found, tried_pairs};
+ghost use Rattle.match_targets.specs.Targets.{AllReady, Ready};
+ghost use Rattle.spatial_match.specs.Given.{AllTries, Tries};
+ghost use Rattle.spatial_match.specs.Search.{FailedBefore, at_place, member_at};
+ghost use Rattle.match_targets.specs.Found.{may_rest, IsFirst, IsFirstMembers};
+ghost use Rattle.free_places.specs.Places.{has, left_from};
+ghost use Rattle.spatial_match.specs.Found.{found, tried_pairs};
 
-use crate::left::{is_free, is_spent, left_pairs, with_place};
 use crate::parts::find_whole;
-use crate::repeats::repeats_pair;
-use crate::split::{found_if, found_one, joined};
 use calculus::TermRest;
-use rho_term::{Part, Term, TermPat};
+use free_places::{next_free, with_place};
+use match_targets::{joined, repeats_pair, rest_pairs};
+use rho_term::{Term, TermPat};
 use std::alloc::{AllocError, Global};
 
 /// The pairs of a map pattern and its remainder, and the pairs of a map.
@@ -46,16 +48,18 @@ pub(crate) fn find_pairs(
     if i >= pats.len() {
         return rest_pairs(alloc, rest, pairs, used);
     }
-    for j in 0..pairs.len() {
+    let mut from = 0;
+    while let Some(j) = next_free(used, from, pairs.len()) {
         let found = try_pair(alloc, search, i, used, j)?;
         if found.is_some() {
             return Ok(found);
         }
+        from = j + 1;
     }
     Ok(None)
 }
 
-// Pair number i takes pair number j of the target, where that one is not used. It has failed with
+// Pair number i takes pair number j of the target, which is not used. It has failed with
 // the target's one before that.
 #[cycle(find)]
 fn try_pair(
@@ -67,6 +71,7 @@ fn try_pair(
 ) -> Result<Option<Vec<Term>>, AllocError>
     requires within { i < length search.pats.now }
     requires target_within { j < length search.pairs.now }
+    requires free { has used.now j ≡ false }
     requires failed { FailedBefore (may_rest search.rest) (member_at i (tried_pairs search.pats.now))
         (drop (i + 1) (tried_pairs search.pats.now)) used.now (map pair_tree search.pairs.now) j }
     requires tries { AllTries (map pair_tree search.pats.now) }
@@ -77,9 +82,6 @@ fn try_pair(
         used.now (map pair_tree search.entry.pairs.now) j) o) }
 {
     let MapSearch { pats, pairs, .. } = search;
-    if !is_free(used, j) {
-        return Ok(None);
-    }
     if repeats_pair(pairs, used, j) {
         return Ok(None);
     }
@@ -91,28 +93,6 @@ fn try_pair(
                 None => Ok(None),
                 Some(others) => Ok(Some(joined(found, others)?)),
             }
-        }
-    }
-}
-
-// All pairs have chosen: the remainder takes what is left, and without one nothing may be left.
-fn rest_pairs(
-    alloc: Global,
-    rest: TermRest,
-    pairs: &[(Term, Term)],
-    used: &[usize],
-) -> Result<Option<Vec<Term>>, AllocError>
-    requires ready { AllReady (pair_of term) (map pair_tree pairs.now) }
-    requires ordered { IsAscending (codes (trees (map pair_tree pairs.now))) }
-    ensures { IfOk result (λ o. IsFirstMembers rest (λ vs. only (many dict vs))
-        (ways [] (left_from 0 used.now (map pair_tree pairs.now))) o) }
-{
-    match rest {
-        TermRest::No => Ok(found_if(alloc, is_spent(pairs.len(), used))),
-        TermRest::Wild => Ok(Some(Vec::new(alloc))),
-        TermRest::Var => {
-            let left = left_pairs(alloc, pairs, used)?;
-            found_one(alloc, Term::from_part(alloc, Part::Map(left))?)
         }
     }
 }

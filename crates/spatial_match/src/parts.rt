@@ -7,14 +7,17 @@ ghost use Rattle.calculus.specs.Tree.{trees};
 ghost use Rattle.calculus.specs.Variables.{is_wide};
 ghost use Rattle.rho_term.specs.Normal.{AreNormal};
 ghost use Rattle.rho_term.specs.Parts.{pat_part_tree};
-ghost use Rattle.spatial_match.specs.Given.{PartsTry, Ready, Tries};
-ghost use Rattle.spatial_match.specs.Search.{AtMostOne, FailedBefore, at_place, left_from, member_at};
-ghost use Rattle.spatial_match.specs.Found.{IsFirst, IsFirstWay, found, may_leave, remaining, tried};
+ghost use Rattle.spatial_match.specs.Given.{PartsTry, Tries};
+ghost use Rattle.match_targets.specs.Targets.{Ready, remaining};
+ghost use Rattle.spatial_match.specs.Search.{AtMostOne, FailedBefore, at_place, member_at};
+ghost use Rattle.free_places.specs.Places.{has, left_from};
+ghost use Rattle.match_targets.specs.Found.{IsFirst};
+ghost use Rattle.spatial_match.specs.Found.{IsFirstWay, found, may_leave, tried};
 
 use crate::forms::find_part;
-use crate::left::{is_free, is_spent, left_term, same_left, with_place};
-use crate::repeats::repeats_part;
-use crate::split::{Split, found_if, found_one, joined, with_thin, with_wide};
+use crate::split::{Split, with_thin, with_wide};
+use free_places::{is_spent, next_free, with_place};
+use match_targets::{found_if, found_one, joined, left_term, repeats_part, same_left};
 use rho_term::{PatPart, Term, TermPat};
 use std::alloc::{AllocError, Global};
 
@@ -80,11 +83,14 @@ fn find_parts(
     if is_wide(&pats[i]) {
         return find_around(alloc, pats, i, target, used);
     }
-    for j in 0..target.parts().len() {
+    let count = target.parts().len();
+    let mut from = 0;
+    while let Some(j) = next_free(used, from, count) {
         let found = try_part(alloc, pats, i, target, used, j)?;
         if found.is_some() {
             return Ok(found);
         }
+        from = j + 1;
     }
     Ok(None)
 }
@@ -113,7 +119,7 @@ fn find_around(
     }
 }
 
-// The thin part number i takes part number j of the target, where that one is not used. It has failed with the
+// The thin part number i takes part number j of the target, which is not used. It has failed with the
 // target's part before that one.
 #[cycle(find)]
 fn try_part(
@@ -127,6 +133,7 @@ fn try_part(
     requires within { i < length pats.now }
     requires thin { (member_at i (tried pats.now)).wide ≡ false }
     requires target_within { j < length (held target.now) }
+    requires free { has used.now j ≡ false }
     requires failed { FailedBefore (may_leave (tried pats.now)) (member_at i (tried pats.now))
         (drop (i + 1) (tried pats.now)) used.now (held target.now) j }
     requires tries { PartsTry pats.now }
@@ -136,9 +143,6 @@ fn try_part(
     ensures { IfOk result (λ o. IsFirstWay (tried pats.now) (drop i (tried pats.now))
         (at_place (member_at i (tried pats.now)) (drop (i + 1) (tried pats.now)) used.now (held target.now) j) o) }
 {
-    if !is_free(used, j) {
-        return Ok(None);
-    }
     if repeats_part(target, used, j) {
         return Ok(None);
     }

@@ -1,44 +1,15 @@
 // What a search has found so far, and small steps over it.
-ghost use Rattle.std.specs.Prelude.{◌≡◌, [], ◌∷◌, ◌++◌, IfOk};
-ghost use Rattle.calculus.specs.Matching.{one_if};
-ghost use Rattle.spatial_match.specs.Found.{IsFirst};
+ghost use Rattle.std.specs.Prelude.{◌≡◌, [], ◌++◌, IfOk};
 
+use match_targets::joined;
 use rho_term::Term;
-use std::alloc::{AllocError, Global};
+use std::alloc::AllocError;
 
 // What the wide part binds, until it stands in its place, and what the parts from some place on bind.
 #[derive(Drop)]
 pub(crate) struct Split {
     pub(crate) wide: Vec<Term>,
     pub(crate) rest: Vec<Term>,
-}
-
-// One match that binds nothing, or none.
-pub(crate) fn found_if(alloc: Global, holds: bool) -> Option<Vec<Term>>
-    ensures { IsFirst (one_if holds) result }
-{
-    if holds {
-        return Some(Vec::new(alloc));
-    }
-    None
-}
-
-pub(crate) fn found_one(alloc: Global, value: Term) -> Result<Option<Vec<Term>>, AllocError>
-    ensures { IfOk result (λ o. IsFirst ((value ∷ []) ∷ []) o) }
-{
-    let mut values = Vec::new(alloc);
-    values.push(value)?;
-    Ok(Some(values))
-}
-
-// The one list and then the other.
-pub(crate) fn joined(first: Vec<Term>, second: Vec<Term>) -> Result<Vec<Term>, AllocError>
-    ensures { IfOk result (λ v. v.items ≡ first.items ++ second.items) }
-{
-    let mut all = first;
-    let mut more = second;
-    all.append(&mut more)?;
-    Ok(all)
 }
 
 // What is bound from a wide part on: its own bindings, and then those of the parts after it.

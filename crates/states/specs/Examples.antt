@@ -2,8 +2,7 @@
 use Rattle.std.specs.Prelude.{◌≡◌, ℕ, List, [], ◌∷◌, ◌++◌, length, replicate, codes}
 use Rattle.calculus.specs.Tree.{str}
 use Rattle.calculus.specs.Shape.{leaf, only}
-use Rattle.calculus.specs.Examples.{hex, num, sent}
-use Rattle.calculus.specs.ExamplesSteps.{row_of}
+use Rattle.calculus.specs.Examples.{hex, num, sent, row_of}
 use Rattle.calculus.specs.Rows.{Row}
 use Rattle.states.specs.States.{state_text}
 

@@ -1,11 +1,11 @@
 -- Proofs of the examples of rows that may be stored and of channels that are apart.
 use Rattle.std.proofs.Common.{[], ◌∷◌, refl}
 use Rattle.std.proofs.lemmas.List.Elements.{All-head, All-tail}
-use Rattle.calculus.specs.ExamplesStoring.{join_on}
 use Rattle.calculus.specs.Rows.{stdout, stdout_ack}
 use Rattle.calculus.specs.Storing.{IsStorable}
 use Rattle.calculus.proofs.Opened.{computing}
-use Rattle.calculus.proofs.ExamplesStoring.{storing_examples}
+use Rattle.storable_row_laws.specs.Storing.{join_on}
+use Rattle.storable_row_laws.proofs.Storing.{storing_examples}
 use Rattle.storable_row_laws.specs.Examples.{StorableRowExamples}
 use Rattle.storable_row_laws.proofs.Staying.{all-from}
 

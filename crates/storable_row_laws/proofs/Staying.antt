@@ -18,11 +18,11 @@ use Rattle.calculus.specs.Unfolding.{Product, a_row, a_fresh, rows_of, unfold_wi
 use Rattle.calculus.specs.Steps.{Bag, Meeting, meeting, has_place, but_places, bag_after, stored_rows}
 use Rattle.calculus.specs.Runs.{Deploy, Work, answer_products, work_products, State, body_work, moved, step_from, steps_from, begun, source_seed, first_state, Leads}
 use Rattle.calculus.proofs.Candidates.{and_then-inv, map-inv}
-use Rattle.calculus.proofs.ExamplesStoring.{storing_examples}
 use Rattle.calculus.proofs.Results.{Gives}
 use Rattle.closed_row_laws.specs.Laws.{AreClosedRows}
 use Rattle.closed_row_laws.proofs.Meeting.{IfThere, MeetingCloses, rows-close}
 use Rattle.closed_row_laws.proofs.Staying.{offers_are_closed, bodies_are_closed, closed_rows_stay}
+use Rattle.storable_row_laws.proofs.Storing.{storing_examples}
 use Rattle.storable_row_laws.specs.Laws.{AreStorable, OffersAreStorable, BodiesOfferStorableRows, BuiltInReceiversAreStorable, StorableRowsStay, StorableRowsAreClosed, OffersAreShort}
 use Rattle.storable_row_laws.proofs.Offering.{IsReady, IsReadyThing, OffersReady, under-ready, unfold-ready}
 

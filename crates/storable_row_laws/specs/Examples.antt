@@ -1,8 +1,8 @@
 -- Examples of rows that may be stored and of channels that are apart, and of some that are not.
 use Rattle.std.specs.Prelude.{[], ◌∷◌}
 use Rattle.calculus.specs.Examples.{num}
-use Rattle.calculus.specs.ExamplesStoring.{join_on}
 use Rattle.calculus.specs.Rows.{stdout, stdout_ack}
+use Rattle.storable_row_laws.specs.Storing.{join_on}
 use Rattle.storable_row_laws.specs.Laws.{AreStorable, AreApart}
 
 -- rows that may be stored and channels that are apart, and some that are not

@@ -1,12 +1,9 @@
 //! What stores of rows in shards answer, beside a plain walk through all rows that could meet. A line is a kind and its fields.
 #![tactic(auto)]
 
-mod groups;
 mod meets;
-mod reading;
 mod steps;
 mod store;
-mod walk;
 
 use std::alloc::Global;
 use table_lines::LineFault;
@@ -17,7 +14,7 @@ pub fn answer(alloc: Global, word: &str, fields: &str) -> Result<String, LineFau
         "store" => steps::store_steps(alloc, fields),
         "least" => steps::least_step(alloc, fields),
         "meet" => meets::meet(alloc, fields),
-        "groups" => groups::groups(alloc, fields),
+        "groups" => source_rows::groups_with(alloc, fields),
         _ => Err(LineFault::Kind),
     }
 }

@@ -1,11 +1,11 @@
 //! What is found in large stores.
-use crate::reading::{is_send, read_rows};
 use crate::store::Store;
-use rho_printer::print_term;
-use rho_term::Term;
+use name_seed::EMPTY_ROOT;
+use rho_term::Op;
 use row_search::Found;
 use rspace_table::SpaceTables;
 use shard_tables::ShardTables;
+use source_rows::{put_terms, read_rows};
 use space_row::Row;
 use std::alloc::{AllocError, Global};
 use table_lines::{Answer, LineFault, first_field};
@@ -14,7 +14,7 @@ use table_lines::{Answer, LineFault, first_field};
 /// stands before the source. What is met is left where it is.
 pub fn meet(alloc: Global, fields: &str) -> Result<String, LineFault> {
     let (word, source) = first_field(fields)?;
-    let rows = read_rows(alloc, source)?;
+    let rows = read_rows(alloc, &EMPTY_ROOT, source)?;
     told_meetings(alloc, rows.as_slice(), word == "send")
 }
 
@@ -25,6 +25,14 @@ fn told_meetings(alloc: Global, rows: &[Row], asks_sends: bool) -> Result<String
     let mut answer = Answer::new(alloc);
     tell(alloc, &mut answer, &mut store, rows, asks_sends);
     answer.text()
+}
+
+// Whether a row is a send.
+fn is_send(row: &Row) -> bool {
+    match row.op() {
+        Op::Produce { .. } => true,
+        Op::Consume { .. } => false,
+    }
 }
 
 // Stores the rows that are sends, or those that are receives.
@@ -76,15 +84,4 @@ fn put_found(alloc: Global, answer: &mut Answer, found: &Found) {
     answer.put_made(format!(in alloc; "takes {taken}, binds "));
     put_terms(alloc, answer, found.bound.as_slice());
     answer.put_made(format!(in alloc; ", {gone} leave"));
-}
-
-/// Adds the printed texts of terms in brackets.
-pub fn put_terms(alloc: Global, answer: &mut Answer, terms: &[Term]) {
-    let mut before = "[";
-    for term in terms {
-        answer.put(before);
-        answer.put_utf8_of(print_term(alloc, term));
-        before = ", ";
-    }
-    answer.put(if terms.is_empty() { "[]" } else { "]" });
 }

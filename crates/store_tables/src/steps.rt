@@ -1,13 +1,13 @@
 //! What stores find, beside what the plain walk allows.
 use crate::meets::shown_step;
-use crate::reading::{read_rows, shuffle};
 use crate::store::Store;
-use crate::walk::{allows, allows_nothing, meetings};
 use calculus::Digest;
 use least_step::{LeastStep, built_in_rows, first_reducible};
+use name_seed::EMPTY_ROOT;
 use row_search::Found;
 use rspace_table::SpaceTables;
 use shard_tables::ShardTables;
+use source_rows::{allows, allows_nothing, meetings, read_rows};
 use space_row::Row;
 use std::alloc::{AllocError, Global};
 use std::cmp::Ordering;
@@ -19,9 +19,21 @@ use table_lines::{Fields, LineFault};
 pub fn store_steps(alloc: Global, fields: &str) -> Result<String, LineFault> {
     let mut fields = Fields::new(fields);
     let seed = fields.number();
-    let mut rows = read_rows(alloc, fields.rest()?)?;
+    let mut rows = read_rows(alloc, &EMPTY_ROOT, fields.rest()?)?;
     shuffle(rows.as_mut_slice(), seed);
     told_steps(alloc, rows.as_slice())
+}
+
+// Puts values in an order that a number draws.
+fn shuffle<T>(values: &mut [T], seed: u32) {
+    let mut state = u64::from(seed);
+    for left in (1..=values.len()).rev() {
+        state = state
+            .wrapping_mul(6_364_136_223_846_793_005)
+            .wrapping_add(1_442_695_040_888_963_407);
+        values.swap((state >> 33) as usize % left, left - 1);
+    }
+    values.reverse();
 }
 
 fn told_steps(alloc: Global, rows: &[Row]) -> Result<String, LineFault> {
@@ -150,7 +162,7 @@ fn leave(stored: &mut Vec<&Row>, gone: &[Digest]) {
 /// How many meetings the plain walk finds among the rows of a source and the built-in receivers, and whether the least of them by ids
 /// is what is told of the rows.
 pub fn least_step(alloc: Global, source: &str) -> Result<String, LineFault> {
-    let rows = read_rows(alloc, source)?;
+    let rows = read_rows(alloc, &EMPTY_ROOT, source)?;
     told_least(alloc, rows.as_slice())
 }
 

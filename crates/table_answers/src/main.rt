@@ -28,8 +28,8 @@ fn answer<R: Threads + Wait + Sync + Clock>(
         Table::Stores => store_tables::answer(alloc, word, fields),
         Table::Rigs => rig_tables::answer(alloc, word, fields),
         Table::Hubs => hub_runs::answer(rt, alloc, word, fields, timed),
-        Table::Runs => call_tables::answer(rt, alloc, word, fields),
-        Table::Races => paired_runs::answer(rt, alloc, word, fields),
+        Table::Runs => program_calls::answer(rt, alloc, word, fields),
+        Table::Races => program_calls::paired(rt, alloc, word, fields),
     }
 }
 
@@ -77,7 +77,7 @@ fn main(rt: HostRuntime) -> anyhow::Result<()> {
     let timed = wants_times(&rt)?;
     answer_lines(&rt, timed)?;
     print_lines(&rt, gate_runs::told(&rt, rt.alloc()))?;
-    print_lines(&rt, paired_runs::told(&rt, rt.alloc()))?;
+    print_lines(&rt, program_calls::told(&rt, rt.alloc()))?;
     print_lines(&rt, outside_calls::told(&rt, rt.alloc()))?;
     print_lines(&rt, hub_runs::told(&rt, rt.alloc()))?;
     print_lines(&rt, term_calls::told(rt.alloc()))

@@ -16,8 +16,8 @@ use Rattle.rho_term.specs.declared.term.Part.{Part}
 use Rattle.rho_term.specs.declared.term.Part.TheVariants as part
 use Rattle.rho_term.specs.declared.term.TermBind.{TermBind}
 use Rattle.rho_term.specs.declared.term.TermCase.{TermCase}
-use Rattle.spatial_match.specs.Given.{AllReady, Ready}
-use Rattle.spatial_match.proofs.Readying.{all-ready, bytes-cons, inside, ready-of}
+use Rattle.match_targets.specs.Targets.{AllReady, Ready}
+use Rattle.match_targets.proofs.Readying.{all-ready, bytes-cons, inside, ready-of}
 
 pub binds-ready : (k : Kind) (bs : Vec TermBind Global) (b : Tree) → Ready term (only (part_tree (part.Receive k bs b))) → AllReady a_bind (each bind_tree bs.items)
 binds-ready k bs b h =

@@ -3,7 +3,7 @@ ghost use Rattle.std.specs.Prelude.{map};
 ghost use Rattle.calculus.specs.Form.{IsClosed, a_bind, a_case, term};
 ghost use Rattle.calculus.specs.Shape.{only};
 ghost use Rattle.rho_term.specs.Parts.{bind_tree, case_tree, part_tree};
-ghost use Rattle.spatial_match.specs.Given.{AllReady, Ready};
+ghost use Rattle.match_targets.specs.Targets.{AllReady, Ready};
 
 use rho_term::{Part, Term, TermBind, TermCase};
 use spatial_match::{first_match, match_bind};

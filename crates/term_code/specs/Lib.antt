@@ -1,2 +1,0 @@
-pub mod Outcomes
-pub use Rattle.term_encoder.specs.Sizes

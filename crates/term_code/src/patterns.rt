@@ -1,68 +1,18 @@
 // Reading of patterns in codes.
-ghost use Rattle.std.specs.Prelude.{◌≡◌, ◌∷◌, ◌-◌, ◌≤◌, ◌+◌, ◌<◌, [], cond, map, true, false, List, ℕ, IfOk, IfErr, IfSome, IfNone};
+ghost use Rattle.std.specs.Prelude.{◌≡◌, ◌∷◌, ◌≤◌, ◌+◌, ◌<◌, [], map, true, false};
 ghost use Rattle.calculus.specs.Form.{pat, name_pat, pat_part, pair_of};
 ghost use Rattle.rho_term.specs.Parts.{pat_part_tree, pair_tree};
 ghost use Rattle.code_faults.specs.Scopes.{scope_of, senses_of};
 ghost use Rattle.code_faults.specs.Tags.{is_pat_form_tag};
-ghost use Rattle.code_faults.specs.Wide.{is_wide_tag};
-ghost use Rattle.code_faults.specs.declared.fault.ReadFault.TheVariants.{NotCanonical};
-ghost use Rattle.term_code.specs.Outcomes.{Comes, Fails, FailsRow, ReadsPat, ReadsPatPart, ReadsPats};
+ghost use Rattle.code_parts.specs.Outcomes.{Comes, Fails, FailsRow, ReadsPat, ReadsPatPart, ReadsPats};
 
 use crate::terms::{read_part, read_term};
 use code_faults::{ReadFault, Sense};
 use code_fields::Reader;
-use code_fields::reader::lacks_room;
+use code_parts::leaves::{after_name_variable, leaf_pat, name_variable};
+use code_parts::lists::{keep, paired, with_rest};
+use code_parts::tags::{is_pat_form, pat_tag};
 use rho_term::{PatPart, TermPat};
-
-// Whether the byte is the tag of a part of a pattern that is no leaf.
-fn is_pat_form(tag: u8) -> bool
-    ensures { result ≡ is_pat_form_tag tag }
-{
-    matches!(tag, 0x20..=0x23 | 0x30..=0x34 | 0x53..=0x56)
-}
-
-// The number of wide parts with one more part of this tag, after i parts. At most one part is wide,
-// and at most 8 are not.
-fn more_wide(wide: u32, i: u32, tag: u8, at: usize) -> Result<u32, ReadFault>
-    requires { i < 9 }
-    ensures is { IfOk result (λ n. n ≡ wide + cond (is_wide_tag tag) 1 0) }
-    ensures one { IfOk result (λ n. n ≤ 1) }
-    ensures thin { IfOk result (λ n. i + 1 ≤ 8 + n) }
-    ensures place { IfErr result (λ e. e ≡ NotCanonical at) }
-    ensures many { IfErr result (λ e. wide + cond (is_wide_tag tag) 1 0 ≤ 1 → i + 1 ≤ 8 + (wide + cond (is_wide_tag tag) 1 0) → ⊥) }
-{
-    if 0x50 <= tag && tag <= 0x56 {
-        if 0 < wide {
-            return Err(ReadFault::NotCanonical { at });
-        }
-        return Ok(1);
-    }
-    if wide > 1 || 8 + wide <= i {
-        return Err(ReadFault::NotCanonical { at });
-    }
-    Ok(wide)
-}
-
-// What follows the code of a name variable alone, where one may be bound and these bytes begin with it.
-fn after_name_variable(binds: bool, bytes: &[u8]) -> Option<&[u8]>
-    ensures binds { IfSome result (λ others. binds ≡ true) }
-    ensures some { IfSome result (λ others. bytes.now ≡ 0 ∷ 0 ∷ 0 ∷ 1 ∷ 0x51 ∷ others.now) }
-    ensures none { IfNone result (binds ≡ true → (y : List ℕ) → bytes.now ≡ 0 ∷ 0 ∷ 0 ∷ 1 ∷ 0x51 ∷ y → ⊥) }
-{
-    if !binds {
-        return None;
-    }
-    match bytes {
-        [a, b, c, d, tag, others @ ..] => {
-            if u32::from_be_bytes([*a, *b, *c, *d]) == 1 && *tag == 0x51 {
-                Some(others)
-            } else {
-                None
-            }
-        }
-        _ => None,
-    }
-}
 
 // A pattern of processes. Where `binds` is false it may bind no variable; what it binds is added
 // to `found`.
@@ -82,14 +32,10 @@ pub(crate) fn read_pat(
     let mut parts = reader.list(count);
     let mut wide: u32 = 0;
     for i in 0..count {
-        let at = reader.place();
-        let tag = reader.byte()?;
-        if lacks_room(room, is_pat_form(tag)) {
-            return Err(ReadFault::TooDeep { at });
-        }
-        wide = more_wide(wide, i, tag, at)?;
-        let part = read_pat_part(reader, tag, binds, scope, found, room)?;
-        parts.push(part)?;
+        let next = pat_tag(reader, room, wide, i)?;
+        wide = next.1;
+        let part = read_pat_part(reader, next.0, binds, scope, found, room);
+        keep(&mut parts, part)?;
     }
     Ok(TermPat::new(parts))
 }
@@ -109,10 +55,7 @@ pub(crate) fn read_name_pat(
 {
     match after_name_variable(binds, reader.input) {
         Some(others) => {
-            reader.input = others;
-            found.push(Sense::Name)?;
-            let mut parts = reader.list(1);
-            parts.push(PatPart::NameVar)?;
+            let parts = name_variable(reader, others, found, PatPart::NameVar)?;
             Ok(TermPat::new(parts))
         }
         None => read_pat(reader, binds, scope, found, room),
@@ -135,17 +78,6 @@ fn read_pat_part(
         (Fails binds pat_part (scope_of scope.now.items) room (tag ∷ reader.old.input.now)) }
 {
     match tag {
-        0x50 => {
-            if !binds {
-                return Err(ReadFault::NotCanonical {
-                    at: reader.last_place(),
-                });
-            }
-            found.push(Sense::Process)?;
-            Ok(PatPart::Var)
-        }
-        0x52 => Ok(PatPart::Wild),
-        0x57 => Ok(PatPart::Simple(reader.simple()?)),
         0x31..=0x33 => {
             let outside = Vec::new(reader.alloc);
             Ok(PatPart::Closed(read_part(reader, tag, &outside, room)?))
@@ -154,7 +86,7 @@ fn read_pat_part(
             if is_pat_form(tag) {
                 read_pat_form(reader, tag, binds, scope, found, room - 1)
             } else {
-                Ok(PatPart::Ground(reader.ground(tag)?))
+                leaf_pat(reader, tag, binds, found)
             }
         }
     }
@@ -182,9 +114,9 @@ fn read_pat_form(
     };
     match tag {
         0x20 => {
-            let members = read_pats(reader, any, scope, found, room)?;
-            let rest = reader.bound_remainder(binds, found)?;
-            Ok(PatPart::List(members, rest))
+            let members = read_pats(reader, any, scope, found, room);
+            let both = with_rest(reader, binds, found, members)?;
+            Ok(PatPart::List(both.0, both.1))
         }
         0x21 => {
             let row = PatRow { least: 1, ..any };
@@ -192,14 +124,14 @@ fn read_pat_form(
         }
         0x22 => {
             let row = PatRow { most: 8, ..any };
-            let members = read_pats(reader, row, scope, found, room)?;
-            let rest = reader.bound_remainder(binds, found)?;
-            Ok(PatPart::Set(members, rest))
+            let members = read_pats(reader, row, scope, found, room);
+            let both = with_rest(reader, binds, found, members)?;
+            Ok(PatPart::Set(both.0, both.1))
         }
         0x23 => {
-            let pairs = read_pat_pairs(reader, binds, scope, found, room)?;
-            let rest = reader.bound_remainder(binds, found)?;
-            Ok(PatPart::Map(pairs, rest))
+            let pairs = read_pat_pairs(reader, binds, scope, found, room);
+            let both = with_rest(reader, binds, found, pairs)?;
+            Ok(PatPart::Map(both.0, both.1))
         }
         0x30 => {
             let persistent = reader.boolean()?;
@@ -294,8 +226,8 @@ fn read_pats(
     let count = reader.number(row.least, row.most)?;
     let mut pats = reader.list(count);
     for _i in 0..count {
-        let pat = read_pat(reader, row.binds, scope, found, room)?;
-        pats.push(pat)?;
+        let pat = read_pat(reader, row.binds, scope, found, room);
+        keep(&mut pats, pat)?;
     }
     Ok(pats)
 }
@@ -315,8 +247,8 @@ pub(crate) fn read_name_pats(
     let count = reader.number(0, u32::MAX)?;
     let mut pats = reader.list(count);
     for _i in 0..count {
-        let pat = read_name_pat(reader, true, scope, found, room)?;
-        pats.push(pat)?;
+        let pat = read_name_pat(reader, true, scope, found, room);
+        keep(&mut pats, pat)?;
     }
     Ok(pats)
 }
@@ -339,8 +271,9 @@ fn read_pat_pairs(
     let mut pairs = reader.list(count);
     for _i in 0..count {
         let key = read_pat(reader, binds, scope, found, room)?;
-        let value = read_pat(reader, binds, scope, found, room)?;
-        pairs.push((key, value))?;
+        let value = read_pat(reader, binds, scope, found, room);
+        let pair = paired(key, value);
+        keep(&mut pairs, pair)?;
     }
     Ok(pairs)
 }

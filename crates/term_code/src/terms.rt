@@ -1,19 +1,22 @@
 // Reading of processes: one function for each sort of constituent.
-ghost use Rattle.std.specs.Prelude.{◌≡◌, ◌∷◌, ◌++◌, ◌+◌, ◌≤◌, ◌<◌, map, IfOk, replicate, true, false};
+ghost use Rattle.std.specs.Prelude.{◌≡◌, ◌∷◌, ◌+◌, ◌≤◌, ◌<◌, map, true, false};
 ghost use Rattle.calculus.specs.Form.{term, part, a_bind, a_case, pair_of};
 ghost use Rattle.rho_term.specs.Parts.{part_tree, pair_tree, bind_tree, case_tree};
 ghost use Rattle.code_faults.specs.Scopes.{scope_of, senses_of};
 ghost use Rattle.code_faults.specs.Reading.{Reads, ReadsBag};
 ghost use Rattle.code_faults.specs.Tags.{is_form_tag};
-ghost use Rattle.code_faults.specs.declared.sort.Sense.TheVariants.{Name};
-ghost use Rattle.term_code.specs.Outcomes.{Comes, Fails, FailsBag, FailsRow, ReadsPart, ReadsPats, ReadsRow};
+ghost use Rattle.code_parts.specs.Outcomes.{Comes, Fails, FailsBag, FailsRow, ReadsPart, ReadsPats, ReadsRow};
 
 use crate::patterns::{read_name_pats, read_pat};
-use code_faults::{ReadFault, Sense, TextKind};
-use code_fields::reader::{is_form, lacks_room};
+use code_faults::{ReadFault, Sense};
+use code_fields::reader::is_form;
 use code_fields::{Reader, check_order};
+use code_parts::heads::{Head, read_head};
+use code_parts::leaves::leaf_part;
+use code_parts::lists::{keep, keep_in_order, paired, with_rest};
+use code_parts::scopes::{copy_of, new_head, receive_head};
+use code_parts::tags::part_tag;
 use rho_term::{Part, Term, TermBind, TermCase};
-use std::alloc::{AllocError, Global};
 
 // A process.
 #[cycle(read)]
@@ -30,14 +33,9 @@ pub(crate) fn read_term<'a>(
     let mut last: &'a [u8] = &[];
     for _i in 0..count {
         let start = reader.input;
-        let tag = reader.byte()?;
-        if lacks_room(room, is_form(tag)) {
-            return Err(ReadFault::TooDeep { at: start.len() });
-        }
-        check_order(last, start)?;
-        let part = read_part(reader, tag, scope, room)?;
-        parts.push(part)?;
-        last = reader.read_since(start, last)?;
+        let tag = part_tag(reader, last, room)?;
+        let part = read_part(reader, tag, scope, room);
+        last = keep_in_order(reader, start, last, &mut parts, part)?;
     }
     Ok(Term::from_sorted(parts))
 }
@@ -55,17 +53,10 @@ pub(crate) fn read_part(
         reader.new.input.now (part_tree p)) (Fails true part (scope_of scope.now.items) room
         (tag ∷ reader.old.input.now)) }
 {
-    match tag {
-        0x15 => Ok(Part::Fresh(reader.digest()?)),
-        0x16 => Ok(Part::Var(reader.variable(scope, Sense::Process)?)),
-        0x17 => Ok(Part::NameVar(reader.variable(scope, Sense::Name)?)),
-        _ => {
-            if is_form(tag) {
-                read_form(reader, tag, scope, room - 1)
-            } else {
-                Ok(Part::Ground(reader.ground(tag)?))
-            }
-        }
+    if is_form(tag) {
+        read_form(reader, tag, scope, room - 1)
+    } else {
+        leaf_part(reader, tag, scope)
     }
 }
 
@@ -86,97 +77,79 @@ fn read_form(
         0x21 => Ok(Part::Tuple(read_terms(reader, 1, scope, room)?)),
         0x22 => Ok(Part::Set(read_members(reader, scope, room)?)),
         0x23 => Ok(Part::Map(read_pairs(reader, scope, room)?)),
-        0x30..=0x34 => read_process(reader, tag, scope, room),
-        _ => read_operation(reader, tag, scope, room),
+        0x31..=0x33 => read_binder(reader, tag, scope, room),
+        _ => read_processes(reader, tag, scope, room),
     }
 }
 
-// A send, a receive, a `new`, a `match` or a bundle.
+// A receive, a `new` or a `match`.
 #[cycle(read)]
-fn read_process(
+fn read_binder(
     reader: &mut Reader<'_>,
     tag: u8,
     scope: &Vec<Sense>,
     room: u32,
 ) -> Result<Part, ReadFault>
-    requires low { 0x30 ≤ tag }
-    requires high { tag ≤ 0x34 }
+    requires low { 0x31 ≤ tag }
+    requires high { tag ≤ 0x33 }
     ensures { Comes result (λ p. ReadsPart part (scope_of scope.now.items) (room + 1) (tag ∷ reader.old.input.now)
         reader.new.input.now (part_tree p)) (Fails true part (scope_of scope.now.items) (room + 1)
         (tag ∷ reader.old.input.now)) }
 {
     match tag {
-        0x30 => {
-            let persistent = reader.boolean()?;
-            let channel = read_term(reader, scope, room)?;
-            let args = read_terms(reader, 0, scope, room)?;
-            Ok(Part::Send {
-                channel,
-                args,
-                persistent,
-            })
-        }
         0x31 => {
-            let kind = reader.kind()?;
-            let mut inner = copy_of(reader.alloc, scope)?;
+            let head = receive_head(reader, scope)?;
+            let kind = head.0;
+            let mut inner = head.1;
             let binds = read_binds(reader, scope, &mut inner, room)?;
             let body = read_term(reader, &inner, room)?;
             Ok(Part::Receive { kind, binds, body })
         }
         0x32 => {
-            let names = reader.origins()?;
-            let inner = under_names(reader.alloc, scope, names.len())?;
-            let body = read_term(reader, &inner, room)?;
-            Ok(Part::New { names, body })
+            let head = new_head(reader, scope)?;
+            let body = read_term(reader, &head.1, room)?;
+            Ok(Part::New {
+                names: head.0,
+                body,
+            })
         }
-        0x33 => {
+        _ => {
             let target = read_term(reader, scope, room)?;
             let cases = read_cases(reader, scope, room)?;
             Ok(Part::Match { target, cases })
         }
-        _ => {
-            let rights = reader.rights()?;
-            let body = read_term(reader, scope, room)?;
-            Ok(Part::Bundle { rights, body })
-        }
     }
 }
 
-// An operator or a method.
+// A form of processes alone: a send, a bundle, an operator or a method.
 #[cycle(read)]
-fn read_operation(
+fn read_processes(
     reader: &mut Reader<'_>,
     tag: u8,
     scope: &Vec<Sense>,
     room: u32,
 ) -> Result<Part, ReadFault>
-    requires form { is_form_tag tag ≡ true }
-    requires later { 0x34 < tag }
+    requires { (tag ≡ 0x30 → ⊥) → (tag ≡ 0x34 → ⊥) → (tag ≡ 0x40 → ⊥) → (tag ≡ 0x41 → ⊥) → tag ≡ 0x42 }
     ensures { Comes result (λ p. ReadsPart part (scope_of scope.now.items) (room + 1) (tag ∷ reader.old.input.now)
         reader.new.input.now (part_tree p)) (Fails true part (scope_of scope.now.items) (room + 1)
         (tag ∷ reader.old.input.now)) }
 {
-    match tag {
-        0x40 => {
-            let op = reader.unary_op()?;
-            let arg = read_term(reader, scope, room)?;
-            Ok(Part::Unary { op, arg })
+    let head = read_head(reader, tag)?;
+    match head {
+        Head::Single(single) => {
+            let body = read_term(reader, scope, room)?;
+            Ok(single.over(body))
         }
-        0x41 => {
-            let op = reader.binary_op()?;
+        Head::Binary(op) => {
             let left = read_term(reader, scope, room)?;
             let right = read_term(reader, scope, room)?;
             Ok(Part::Binary { op, left, right })
         }
-        0x42 => {
-            let name = reader.text(TextKind::Word)?;
-            let target = read_term(reader, scope, room)?;
+        Head::Listed(listed) => {
+            let first = read_term(reader, scope, room)?;
             let args = read_terms(reader, 0, scope, room)?;
-            Ok(Part::Method { name, target, args })
+            Ok(listed.over(first, args))
         }
-        _ => Err(ReadFault::NotCanonical {
-            at: reader.last_place(),
-        }),
     }
 }
 
@@ -195,8 +168,8 @@ pub(crate) fn read_terms(
     let count = reader.number(least, u32::MAX)?;
     let mut terms = reader.list(count);
     for _i in 0..count {
-        let term = read_term(reader, scope, room)?;
-        terms.push(term)?;
+        let term = read_term(reader, scope, room);
+        keep(&mut terms, term)?;
     }
     Ok(terms)
 }
@@ -217,9 +190,8 @@ fn read_members<'a>(
     for _i in 0..count {
         let start = reader.input;
         check_order(last, start)?;
-        let term = read_term(reader, scope, room)?;
-        terms.push(term)?;
-        last = reader.read_since(start, last)?;
+        let term = read_term(reader, scope, room);
+        last = keep_in_order(reader, start, last, &mut terms, term)?;
     }
     Ok(terms)
 }
@@ -242,9 +214,9 @@ fn read_pairs<'a>(
         let start = reader.input;
         check_order(last, start)?;
         let key = read_term(reader, scope, room)?;
-        let value = read_term(reader, scope, room)?;
-        pairs.push((key, value))?;
-        last = reader.read_since(start, last)?;
+        let value = read_term(reader, scope, room);
+        let pair = paired(key, value);
+        last = keep_in_order(reader, start, last, &mut pairs, pair)?;
     }
     Ok(pairs)
 }
@@ -265,11 +237,11 @@ fn read_binds(
     let mut binds = reader.list(count);
     for _i in 0..count {
         let channel = read_term(reader, scope, room)?;
-        let pats = read_name_pats(reader, scope, found, room)?;
-        let rest = reader.bound_remainder(true, found)?;
+        let pats = read_name_pats(reader, scope, found, room);
+        let both = with_rest(reader, true, found, pats)?;
         binds.push(TermBind {
-            pats,
-            rest,
+            pats: both.0,
+            rest: both.1,
             channel,
         })?;
     }
@@ -296,21 +268,4 @@ fn read_cases(
         cases.push(TermCase { pat, body })?;
     }
     Ok(cases)
-}
-
-fn copy_of(alloc: Global, scope: &Vec<Sense>) -> Result<Vec<Sense>, AllocError>
-    ensures { IfOk result (λ v. v.items ≡ scope.now.items) }
-{
-    Vec::from_slice(alloc, scope.as_slice())
-}
-
-// The scope of the body of a `new` of so many names.
-fn under_names(alloc: Global, scope: &Vec<Sense>, count: usize) -> Result<Vec<Sense>, AllocError>
-    ensures { IfOk result (λ v. v.items ≡ scope.now.items ++ replicate count Name) }
-{
-    let mut inner = copy_of(alloc, scope)?;
-    for _i in 0..count {
-        inner.push(Sense::Name)?;
-    }
-    Ok(inner)
 }

@@ -2,8 +2,7 @@
 use Rattle.std.specs.Prelude.{[], ◌∷◌}
 use Rattle.calculus.specs.Tree.{Tree}
 use Rattle.calculus.specs.Shape.{process}
-use Rattle.calculus.specs.Examples.{whole, less, num, list_of, set_of, map_of, entry}
-use Rattle.calculus.specs.ExamplesCongruence.{one_two, two_one}
+use Rattle.calculus.specs.Examples.{whole, less, num, list_of, set_of, map_of, entry, one_two, two_one}
 use Rattle.rho_term.specs.Normal.{IsNormal}
 
 -- a process is not in normal order

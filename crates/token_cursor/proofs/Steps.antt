@@ -1,6 +1,6 @@
 -- The steps of descent, as the parser takes them.
 use Rattle.std.proofs.Common.{◌≡◌, not, refl, Option, map, ◌++◌, inl, inr, ℕ, List, ◌∷◌, [], Result, Ok, Err, subst, sym, ap, ◌∙◌, Bool, true, false}
-use Rattle.std.specs.Prelude.{IfOk, MatchResult}
+use Rattle.std.specs.Prelude.{IfOk, MatchResult, cond}
 use Rattle.std.specs.Result.{IsErrAnd}
 use Rattle.std.specs.declared.alloc.Global.{Global}
 use Rattle.std.specs.declared.vec.Vec.{Vec}
@@ -11,16 +11,18 @@ use Rattle.calculus.specs.declared.plain.Decl.{Decl}
 use Rattle.grammar.specs.declared.dialect.Dialect.TheVariants.{Tutorial}
 use Rattle.grammar.specs.declared.fault.Fault.{Fault}
 use Rattle.grammar.specs.declared.fault.Fault.TheVariants.{NoMemory}
+use Rattle.grammar.specs.declared.mark.Mark.{Mark}
 use Rattle.grammar.specs.declared.mark.Mark.TheVariants as marks
 use Rattle.std.proofs.lemmas.Bool.{false≢true}
-use Rattle.grammar.specs.Choice.{after, sees_text}
-use Rattle.grammar.specs.Descent.{Outcome, read, fault, Runs, Takes, runs_done, runs_last, no_text, no_memory}
+use Rattle.grammar.specs.Choice.{after, choose, sees_text}
+use Rattle.grammar.specs.Descent.{Outcome, read, fault, Runs, Stuck, Takes, runs_at, runs_done, runs_last, runs_sign, no_at, no_sign, no_text, no_memory}
 use Rattle.grammar.specs.Grammar.{rule}
 use Rattle.grammar.specs.Productions.{Prod}
-use Rattle.grammar.specs.Rules.{Bracket, Sort, Rule, done, last, holds}
+use Rattle.grammar.specs.Rules.{Bracket, Sort, Rule, at, done, last, holds, sign}
 use Rattle.grammar.specs.Terminals.{Holding, Terminal, sees}
 use Rattle.grammar.specs.Values.{Spelt, spelt}
 use Rattle.syntax_forms.specs.declared.part.Part.{Part}
+use Rattle.token_cursor.specs.Cursors.{end_rule, rest_rule}
 use Rattle.token_cursor.specs.Meaning.{Missing}
 use Rattle.token_cursor.specs.Reading.{Makes, Turns, sees_member}
 
@@ -123,3 +125,51 @@ sequence_closed b ps h e r = runs_last (rw e r)
 pub pairs_closed : {free : ℕ} {ts : List Terminal} {out : Outcome} (ps : List Written) (h : ℕ) → sees marks.Ellipsis ts ≡ true
     → Runs Tutorial free (rule Tutorial (Prod.ppairs_rest ps h)) ts out → Runs Tutorial free (last (Sort.PPairsNext ps h)) ts out
 pairs_closed ps h e r = runs_last (rw e r)
+
+-- the value is what was made, once the mark after it is taken
+pub closes : {T : Type 0} {free : ℕ} {m : Mark} {ts : List Terminal} (us : List Terminal) (of : T → Spelt) (made : T) (w : Spelt) (res : Result T Fault)
+    → MatchResult res (λ v. (v ≡ made) × Takes m ts us) (λ e. Stuck (sees m ts) ts e us) → (of made).tree ≡ w.tree → (of made).height ≡ w.height
+    → Makes free (sign m (done w)) of ts res us
+closes {T} us of made w (Ok v) r e g = runs_sign r.1 (ends w (of v) (ap (λ (x : T). (of x).tree) r.0 ∙ e) (ap (λ (x : T). (of x).height) r.0 ∙ g))
+closes us of made w (Err d) r e g = no_sign r
+
+-- the same where the mark is an equal one
+pub closes_as : {T : Type 0} {free : ℕ} {n m : Mark} {ts : List Terminal} (us : List Terminal) (of : T → Spelt) (made : T) (w : Spelt) (res : Result T Fault) → n ≡ m
+    → MatchResult res (λ v. (v ≡ made) × Takes n ts us) (λ e. Stuck (sees n ts) ts e us) → (of made).tree ≡ w.tree → (of made).height ≡ w.height
+    → Makes free (sign m (done w)) of ts res us
+closes_as {T} {free} {n} {m} {ts} us of made w res q r e g = subst (λ (k : Mark). Makes free (sign k (done w)) of ts res us) q (closes us of made w res r e g)
+
+-- and where the rule goes on
+pub closes_on : {T : Type 0} (free : ℕ) (m : Mark) (ts us : List Terminal) (after : T → Rule) (made : T) (res : Result T Fault)
+    → MatchResult res (λ v. (v ≡ made) × Takes m ts us) (λ e. Stuck (sees m ts) ts e us) → Turns free (sign m (after made)) after ts res us
+closes_on {T} free m ts us after made (Ok v) r = λ out h. runs_sign r.1 (subst (λ (x : T). Runs Tutorial free (after x) us out) r.0 h)
+closes_on free m ts us after made (Err d) r = no_sign r
+
+-- what was made is as high as it was
+pub made_height : {T : Type 0} (m : Mark) (ts us : List Terminal) (h : ℕ) (made : Part T) (res : Result (Part T) Fault)
+    → MatchResult res (λ v. (v ≡ made) × Takes m ts us) (λ e. Stuck (sees m ts) ts e us) → made.height ≡ h → IfOk res (λ p. p.height ≡ h)
+made_height {T} m ts us h made (Ok v) r g = ap (λ (p : Part T). p.height) r.0 ∙ g
+made_height m ts us h made (Err d) r g = tt
+
+-- a constituent that was read, and where the rule goes on
+pub reads_at : {T : Type 0} {free : ℕ} (s : Sort) {ts : List Terminal} (us : List Terminal) (of : T → Spelt) (g : Spelt → Rule) (res : Result T Fault)
+    → Makes free (rule Tutorial (choose s ts)) of ts res us → Turns free (at s g) (λ x. g (of x)) ts res us
+reads_at s us of g (Ok x) m = λ out h. runs_at m h
+reads_at s us of g (Err e) m = no_at m
+
+-- the rule of the production that two tests choose
+pub chosen : {s : Sort} {free : ℕ} {ts : List Terminal} {out : Outcome} (p q r : Prod s) (a b : Bool)
+    → Runs Tutorial free (cond a (rule Tutorial p) (cond b (rule Tutorial q) (rule Tutorial r))) ts out → Runs Tutorial free (rule Tutorial (cond a p (cond b q r))) ts out
+chosen p q r true b h = h
+chosen p q r false true h = h
+chosen p q r false false h = h
+
+-- a remainder and an equal mark
+pub rest_as : {free : ℕ} {n m : Mark} {ts : List Terminal} {out : Outcome} (f : Written → Spelt) → n ≡ m
+    → Runs Tutorial free (rest_rule n f) ts out → Runs Tutorial free (rest_rule m f) ts out
+rest_as {free} {n} {m} {ts} {out} f q r = subst (λ (k : Mark). Runs Tutorial free (rest_rule k f) ts out) q r
+
+-- the end of a row and an equal mark
+pub end_as : {free : ℕ} {n m : Mark} {ts : List Terminal} {out : Outcome} (us : List Terminal) (f : Written → Spelt) (more : Rule) → n ≡ m
+    → Runs Tutorial free (end_rule n f more us) ts out → Runs Tutorial free (end_rule m f more us) ts out
+end_as {free} {n} {m} {ts} {out} us f more q r = subst (λ (k : Mark). Runs Tutorial free (end_rule k f more us) ts out) q r

@@ -1,17 +1,21 @@
 -- What the methods of a cursor promise: of the cursor before, the result and the cursor after.
-use Rattle.std.specs.Prelude.{ℕ, ◌≡◌, ◌<◌, ◌≤◌, Bool, true, List, MatchResult, Option, Result, length, string_bytes}
+use Rattle.std.specs.Prelude.{ℕ, ◌≡◌, ◌<◌, ◌≤◌, Bool, true, cond, List, MatchResult, Option, Result, length, string_bytes}
 use Rattle.std.specs.declared.alloc.Global.{Global}
 use Rattle.std.specs.declared.string.String.{String}
+use Rattle.calculus.specs.Meaning.{rest_written}
+use Rattle.calculus.specs.Written.{Written}
+use Rattle.calculus.specs.declared.plain.Rest.{Rest}
 use Rattle.grammar.specs.declared.dialect.Dialect.TheVariants.{Tutorial}
 use Rattle.grammar.specs.declared.fault.Fault.{Fault}
 use Rattle.grammar.specs.declared.mark.Mark.{Mark}
+use Rattle.grammar.specs.declared.mark.Mark.TheVariants as marks
 use Rattle.grammar.specs.Choice.{choose, sees_text}
-use Rattle.grammar.specs.Descent.{Stuck, Takes, TakesInteger, TakesOpening, TakesText, sees_integer, shows}
+use Rattle.grammar.specs.Descent.{Outcome, Runs, Stuck, Takes, TakesInteger, TakesOpening, TakesText, sees_integer, shows}
 use Rattle.grammar.specs.Grammar.{rule}
 use Rattle.grammar.specs.Productions.{Prod}
-use Rattle.grammar.specs.Rules.{Rule, Sort}
+use Rattle.grammar.specs.Rules.{Rule, Sort, at, done, sign}
 use Rattle.grammar.specs.Terminals.{Holding, Terminal, sees}
-use Rattle.grammar.specs.Values.{Spelt}
+use Rattle.grammar.specs.Values.{Spelt, no_rest}
 use Rattle.token_cursor.specs.Meaning.{Missing, Refused, view}
 use Rattle.token_cursor.specs.Reading.{Gives, Makes, Turns, after_uri}
 use Rattle.token_cursor.specs.declared.cursor.Cursor.{Cursor}
@@ -31,6 +35,10 @@ ShortensAs passes old result new = MatchResult result (passes (length new.rest.n
 -- the mark that is next is taken; where another terminal is next, that is the fault
 abbrev pub ReadsMark : {T : Type 0} → Cursor → Mark → Result T Fault → Cursor → Type 0
 ReadsMark old m result new = MatchResult result (λ _. Takes m (ahead old) (ahead new)) (λ e. Stuck (sees m (ahead old)) (ahead old) e (ahead new))
+
+-- the result is what was made, once the mark that is next is taken; where another terminal is next, that is the fault
+abbrev pub ReadsMarkAfter : {T : Type 0} → Cursor → T → Mark → Result T Fault → Cursor → Type 0
+ReadsMarkAfter old made m result new = MatchResult result (λ v. (v ≡ made) × Takes m (ahead old) (ahead new)) (λ e. Stuck (sees m (ahead old)) (ahead old) e (ahead new))
 
 -- the mark is taken and opens a form, to whose left a part of height h stands; it is a fault too where there is no room for the form
 abbrev pub ReadsOpening : {T : Type 0} → Cursor → Mark → ℕ → ℕ → Result T Fault → Cursor → Type 0
@@ -83,3 +91,45 @@ Continues old r after result new = (free : ℕ) → ContinuesWithin free old r a
 -- the URI that may follow a declared name is read, whichever names stand before
 abbrev pub ReadsDeclaredUri : Cursor → Result (Option (String Global)) Fault → Cursor → Type 0
 ReadsDeclaredUri old result new = (free : ℕ) (ds : List (List ℕ × Option (List ℕ))) (w : List ℕ) → BeginsWithin free old (Sort.DeclUri ds w) (after_uri ds w) result new
+
+-- dots, a remainder and this mark, whose value is made of the remainder
+abbrev pub rest_rule : Mark → (Written → Spelt) → Rule
+rest_rule m f = sign marks.Ellipsis (at Sort.Remainder (λ r. sign m (done (f r.tree))))
+
+-- dots, "@" and a remainder
+abbrev pub name_rest_rule : (Written → Spelt) → Rule
+name_rest_rule f = sign marks.Ellipsis (sign marks.At (at Sort.Remainder (λ r. done (f r.tree))))
+
+-- the remainder that may follow members, also after a comma where `more` goes on, and this mark
+abbrev pub end_rule : Mark → (Written → Spelt) → Rule → List Terminal → Rule
+end_rule m f more ts = cond (sees marks.Comma ts) (sign marks.Comma more) (cond (sees marks.Ellipsis ts) (rest_rule m f) (sign m (done (f no_rest))))
+
+-- the remainder that may follow patterns of names, also after a comma where `more` goes on
+abbrev pub names_end_rule : (Written → Spelt) → Rule → List Terminal → Rule
+names_end_rule f more ts = cond (sees marks.Ellipsis ts) (name_rest_rule f) (cond (sees marks.Comma ts) (sign marks.Comma more) (done (f no_rest)))
+
+-- the value that is made of a remainder
+abbrev pub value_of : (Written → Spelt) → Rest → Rule
+value_of f r = done (f (rest_written r))
+
+-- where a remainder comes next, the rule reads it
+abbrev pub IsRest : ℕ → Rule → Rule → Type 0
+IsRest free rest more = (us : List Terminal) (out : Outcome) → sees marks.Ellipsis us ≡ true → Runs Tutorial free rest us out → Runs Tutorial free more us out
+
+-- dots, a remainder and this mark are read
+abbrev pub ReadsRest : Cursor → Mark → Result Rest Fault → Cursor → Type 0
+ReadsRest old m result new = (free : ℕ) (f : Written → Spelt) → ContinuesWithin free old (rest_rule m f) (value_of f) result new
+
+-- dots, "@" and a remainder are read
+abbrev pub ReadsNameRest : Cursor → Result Rest Fault → Cursor → Type 0
+ReadsNameRest old result new = (free : ℕ) (f : Written → Spelt) → ContinuesWithin free old (name_rest_rule f) (value_of f) result new
+
+-- the remainder that may follow members, also after a comma, and this mark are read
+abbrev pub ReadsEnd : Cursor → Mark → Result Rest Fault → Cursor → Type 0
+ReadsEnd old m result new = (free : ℕ) (f : Written → Spelt) (more : Rule) → IsRest free (rest_rule m f) more
+    → ContinuesWithin free old (end_rule m f more (ahead old)) (value_of f) result new
+
+-- the remainder that may follow patterns of names, also after a comma, is read
+abbrev pub ReadsNamesEnd : Cursor → Result Rest Fault → Cursor → Type 0
+ReadsNamesEnd old result new = (free : ℕ) (f : Written → Spelt) (more : Rule) → IsRest free (name_rest_rule f) more
+    → ContinuesWithin free old (names_end_rule f more (ahead old)) (value_of f) result new

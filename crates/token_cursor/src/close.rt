@@ -5,11 +5,11 @@ ghost use Rattle.token_cursor.specs.Cursors.{Reads};
 ghost use Rattle.token_cursor.specs.Reading.{bracket_of, of_pat, of_pat_row, of_proc, of_row, of_sequence, pairs_written};
 ghost use Rattle.std.specs.Prelude.{◌≡◌, ◌+◌, ◌<◌, ◌≤◌, ◌^◌, IfOk, length, map};
 
-use crate::cursor::Cursor;
+use crate::cursor::{Cursor, closed, closing_mark};
 use calculus::{Pat, Proc};
 use grammar::{Fault, Mark};
 use syntax_forms::part::{Bracket, Part, Sequence};
-use syntax_forms::{parts, pattern_forms, process_forms};
+use syntax_forms::{pattern_forms, process_forms};
 
 impl<'a> Cursor<'a> {
     /// The end of parentheses.
@@ -19,10 +19,8 @@ impl<'a> Cursor<'a> {
         ensures height { IfOk result (λ p. p.height ≡ inner.height + 1) }
         ensures shorter { length self.new.rest.now ≤ length self.old.rest.now }
     {
-        match self.expect(Mark::Close) {
-            Ok(()) => Ok(process_forms::opened(inner)),
-            Err(fault) => parts::give_up(inner, fault),
-        }
+        let form = process_forms::opened(inner);
+        closed(self, form, Mark::Close)
     }
 
     /// The end of a block.
@@ -32,10 +30,8 @@ impl<'a> Cursor<'a> {
         ensures height { IfOk result (λ p. p.height ≡ inner.height + 1) }
         ensures shorter { length self.new.rest.now ≤ length self.old.rest.now }
     {
-        match self.expect(Mark::CloseBrace) {
-            Ok(()) => Ok(process_forms::opened(inner)),
-            Err(fault) => parts::give_up(inner, fault),
-        }
+        let form = process_forms::opened(inner);
+        closed(self, form, Mark::CloseBrace)
     }
 
     /// The end of a map.
@@ -45,8 +41,8 @@ impl<'a> Cursor<'a> {
         ensures height { IfOk result (λ p. p.height ≡ pairs.height + 1) }
         ensures shorter { length self.new.rest.now ≤ length self.old.rest.now }
     {
-        self.expect(Mark::CloseBrace)?;
-        Ok(process_forms::map(pairs))
+        let form = process_forms::map(pairs);
+        closed(self, form, Mark::CloseBrace)
     }
 
     /// No members.
@@ -55,8 +51,8 @@ impl<'a> Cursor<'a> {
         ensures height { IfOk result (λ p. p.height ≡ 0) }
         ensures shorter { length self.new.rest.now ≤ length self.old.rest.now }
     {
-        self.expect_closing(bracket)?;
-        Ok(process_forms::no_members(self.alloc))
+        let form = process_forms::no_members(self.alloc);
+        closed(self, form, closing_mark(bracket))
     }
 
     /// The parenthesis that closes a pattern.
@@ -66,10 +62,8 @@ impl<'a> Cursor<'a> {
         ensures height { IfOk result (λ p. p.height ≡ first.height + 1) }
         ensures shorter { length self.new.rest.now ≤ length self.old.rest.now }
     {
-        match self.expect(Mark::Close) {
-            Ok(()) => Ok(pattern_forms::opened_pat(first)),
-            Err(fault) => parts::give_up(first, fault),
-        }
+        let form = pattern_forms::opened_pat(first);
+        closed(self, form, Mark::Close)
     }
 
     /// No members.
@@ -78,8 +72,8 @@ impl<'a> Cursor<'a> {
         ensures height { IfOk result (λ p. p.height ≡ 0) }
         ensures shorter { length self.new.rest.now ≤ length self.old.rest.now }
     {
-        self.expect_closing(bracket)?;
-        Ok(pattern_forms::no_pats(self.alloc))
+        let form = pattern_forms::no_pats(self.alloc);
+        closed(self, form, closing_mark(bracket))
     }
 
     /// A remainder without members.
@@ -88,8 +82,9 @@ impl<'a> Cursor<'a> {
         ensures height { IfOk result (λ p. p.height ≡ 0) }
         ensures shorter { length self.new.rest.now ≤ length self.old.rest.now }
     {
+        let rest = self.rest_closed(closing_mark(bracket))?;
         let none = pattern_forms::no_pats(self.alloc);
-        self.sequence_rest(bracket, none)
+        Ok(pattern_forms::sequence(none, rest))
     }
 
     /// The brace that closes a pattern.
@@ -99,9 +94,7 @@ impl<'a> Cursor<'a> {
         ensures height { IfOk result (λ p. p.height ≡ first.height + 1) }
         ensures shorter { length self.new.rest.now ≤ length self.old.rest.now }
     {
-        match self.expect(Mark::CloseBrace) {
-            Ok(()) => Ok(pattern_forms::opened_pat(first)),
-            Err(fault) => parts::give_up(first, fault),
-        }
+        let form = pattern_forms::opened_pat(first);
+        closed(self, form, Mark::CloseBrace)
     }
 }

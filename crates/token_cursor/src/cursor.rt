@@ -1,13 +1,13 @@
 //! The tokens that are left, and the steps that take one of them.
 ghost use Rattle.grammar.specs.Choice.{after, choose, sees_any_send, sees_bang, sees_bundle, sees_name_pattern, sees_number, sees_prefix, sees_send, sees_text};
 ghost use Rattle.grammar.specs.Descent.{shows};
-ghost use Rattle.grammar.specs.Grammar.{arrow_mark, bang, begins_operand, bundle_mark, is_no_minus, type_mark};
+ghost use Rattle.grammar.specs.Grammar.{bang, begins_operand, bundle_mark, is_no_minus, type_mark};
 ghost use Rattle.grammar.specs.Productions.{Prod};
 ghost use Rattle.grammar.specs.declared.mark.Mark.TheVariants as marks;
 ghost use Rattle.grammar.specs.Rules.{Sort, closing, separator_mark};
 ghost use Rattle.grammar.specs.Values.{Side, Spelt};
 ghost use Rattle.grammar.specs.Terminals.{a_string, a_uri, a_word, sees};
-ghost use Rattle.token_cursor.specs.Cursors.{OpensBefore, ReadsInteger, ReadsMark, ReadsOpening, ReadsText, Shortens, StaysBefore};
+ghost use Rattle.token_cursor.specs.Cursors.{OpensBefore, ReadsInteger, ReadsMark, ReadsMarkAfter, ReadsOpening, ReadsText, Shortens, StaysBefore};
 ghost use Rattle.token_cursor.specs.Meaning.{most_height, sees_key_operand, sees_sign_operand, sees_text_operand, view};
 ghost use Rattle.token_cursor.specs.Reading.{bracket_of, sees_bind, sees_member, separator_of};
 ghost use Rattle.std.specs.Prelude.{◌≡◌, ◌<◌, ◌≤◌, IfOk, length, true};
@@ -18,6 +18,7 @@ use grammar::{Fault, Mark};
 use rho_lexer::{Token, TokenKind};
 use std::alloc::Global;
 use syntax_forms::part::{Bracket, Separator};
+use syntax_forms::parts;
 
 /// The tokens that are left of a source. After a fault `rest` begins where the fault shows, unless memory ran out.
 #[derive(Drop)]
@@ -50,6 +51,63 @@ fn begins_number(rest: &[Token]) -> bool
     match rest.split_first() {
         Some((token, _)) => matches!(token.kind, TokenKind::Int(_)),
         None => false,
+    }
+}
+
+/// The sign that closes a bracket.
+pub(crate) fn closing_mark(bracket: Bracket) -> Mark
+    ensures { result ≡ closing (bracket_of bracket) }
+{
+    match bracket {
+        Bracket::Round => Mark::Close,
+        Bracket::Square => Mark::CloseSquare,
+    }
+}
+
+/// The key of a simple type.
+pub(crate) fn type_mark(simple: Simple) -> Mark
+    ensures { result ≡ type_mark simple }
+{
+    match simple {
+        Simple::Bool => Mark::Bool,
+        Simple::Int => Mark::Int,
+        Simple::Str => Mark::String,
+        Simple::Uri => Mark::Uri,
+        Simple::Bytes => Mark::ByteArray,
+    }
+}
+
+/// The mark of a send.
+fn bang_mark(persistent: bool) -> Mark
+    ensures { result ≡ bang persistent }
+{
+    if persistent {
+        Mark::DoubleBang
+    } else {
+        Mark::Bang
+    }
+}
+
+/// The key of a bundle of these rights.
+fn bundle_mark(rights: Rights) -> Mark
+    ensures { result ≡ bundle_mark rights }
+{
+    match rights {
+        Rights::Neither => Mark::BundleNeither,
+        Rights::Write => Mark::BundleWrite,
+        Rights::Read => Mark::BundleRead,
+        Rights::Both => Mark::Bundle,
+    }
+}
+
+/// What was made, and this mark after it, which is taken; where the mark is missing, what was made is let go.
+pub(crate) fn closed<T: Drop>(cursor: &mut Cursor<'_>, made: T, mark: Mark) -> Result<T, Fault>
+    ensures reads { ReadsMarkAfter cursor.old made mark result cursor.new }
+    ensures shorter { length cursor.new.rest.now ≤ length cursor.old.rest.now }
+{
+    match cursor.expect(mark) {
+        Ok(()) => Ok(made),
+        Err(fault) => parts::give_up(made, fault),
     }
 }
 
@@ -324,10 +382,7 @@ impl<'a> Cursor<'a> {
     pub fn sees_closing(&self, bracket: Bracket) -> bool
         ensures { result ≡ sees (closing (bracket_of bracket)) (view self.now.rest.now) }
     {
-        match bracket {
-            Bracket::Round => self.sees(Mark::Close),
-            Bracket::Square => self.sees(Mark::CloseSquare),
-        }
+        self.sees(closing_mark(bracket))
     }
 
     /// Is this separator of binds next?
@@ -369,64 +424,12 @@ impl<'a> Cursor<'a> {
         Rights::Both
     }
 
-    /// Takes the sign that closes this bracket.
-    pub fn expect_closing(&mut self, bracket: Bracket) -> Result<(), Fault>
-        ensures reads { ReadsMark self.old (closing (bracket_of bracket)) result self.new }
-        ensures shorter { Shortens self.old result self.new }
-    {
-        match bracket {
-            Bracket::Round => self.expect(Mark::Close),
-            Bracket::Square => self.expect(Mark::CloseSquare),
-        }
-    }
-
-    /// Takes this separator of binds.
-    pub fn expect_separator(&mut self, separator: Separator) -> Result<(), Fault>
-        ensures reads { ReadsMark self.old (separator_mark (separator_of separator)) result self.new }
-        ensures shorter { Shortens self.old result self.new }
-    {
-        match separator {
-            Separator::Semicolon => self.expect(Mark::Semicolon),
-            Separator::Ampersand => self.expect(Mark::Ampersand),
-        }
-    }
-
-    /// Takes the arrow of this kind.
-    pub fn expect_arrow(&mut self, kind: Kind) -> Result<(), Fault>
-        ensures reads { ReadsMark self.old (arrow_mark kind) result self.new }
-        ensures shorter { Shortens self.old result self.new }
-    {
-        match kind {
-            Kind::Linear => self.expect(Mark::Arrow),
-            Kind::Persistent => self.expect(Mark::LessEqual),
-            Kind::Peek => self.expect(Mark::PeekArrow),
-        }
-    }
-
-    /// Takes the key of this simple type.
-    pub fn expect_type(&mut self, simple: Simple) -> Result<(), Fault>
-        ensures reads { ReadsMark self.old (type_mark simple) result self.new }
-        ensures shorter { Shortens self.old result self.new }
-    {
-        match simple {
-            Simple::Bool => self.expect(Mark::Bool),
-            Simple::Int => self.expect(Mark::Int),
-            Simple::Str => self.expect(Mark::String),
-            Simple::Uri => self.expect(Mark::Uri),
-            Simple::Bytes => self.expect(Mark::ByteArray),
-        }
-    }
-
     /// Takes the mark of a send.
     pub fn expect_bang(&mut self, persistent: bool) -> Result<(), Fault>
         ensures reads { ReadsMark self.old (bang persistent) result self.new }
         ensures shorter { Shortens self.old result self.new }
     {
-        if persistent {
-            self.expect(Mark::DoubleBang)
-        } else {
-            self.expect(Mark::Bang)
-        }
+        self.expect(bang_mark(persistent))
     }
 
     /// Takes the mark of a send, which opens it.
@@ -435,11 +438,7 @@ impl<'a> Cursor<'a> {
         ensures shorter { Shortens self.old result self.new }
         ensures room { IfOk result (λ _. 0 < free) }
     {
-        if persistent {
-            self.opens(Mark::DoubleBang, 0, free)
-        } else {
-            self.opens(Mark::Bang, 0, free)
-        }
+        self.opens(bang_mark(persistent), 0, free)
     }
 
     /// Takes the key of a bundle of these rights, which opens it.
@@ -448,11 +447,6 @@ impl<'a> Cursor<'a> {
         ensures shorter { Shortens self.old result self.new }
         ensures room { IfOk result (λ _. 0 < free) }
     {
-        match rights {
-            Rights::Neither => self.opens(Mark::BundleNeither, 0, free),
-            Rights::Write => self.opens(Mark::BundleWrite, 0, free),
-            Rights::Read => self.opens(Mark::BundleRead, 0, free),
-            Rights::Both => self.opens(Mark::Bundle, 0, free),
-        }
+        self.opens(bundle_mark(rights), 0, free)
     }
 }

@@ -5,12 +5,12 @@ ghost use Rattle.grammar.specs.Productions.{Prod};
 ghost use Rattle.grammar.specs.Rules.{Sort, last};
 ghost use Rattle.grammar.specs.Values.{Side};
 ghost use Rattle.grammar.specs.declared.dialect.Dialect.TheVariants.{Tutorial};
-ghost use Rattle.token_cursor.specs.Cursors.{Continues, Reads, ReadsDeclaredUri, ReadsSort, Shortens};
+ghost use Rattle.token_cursor.specs.Cursors.{Continues, Reads, ReadsDeclaredUri, ReadsEnd, ReadsNameRest, ReadsNamesEnd, ReadsRest, ReadsSort, Shortens};
 ghost use Rattle.token_cursor.specs.Meaning.{view};
 ghost use Rattle.token_cursor.specs.Reading.{after_names, body_after, bracket_of, of_ground, of_left, of_name, of_name_pat, of_pat, of_proc, of_rest, of_sequence, pat_pairs_written, sees_member};
 ghost use Rattle.std.specs.Prelude.{◌≡◌, ◌+◌, ◌<◌, ◌≤◌, ◌^◌, [], IfOk, false, length, map};
 
-use crate::cursor::Cursor;
+use crate::cursor::{Cursor, closed, closing_mark, type_mark};
 use calculus::{Decl, Ground, Name, NamePat, Pat, Proc, Rest, Simple};
 use grammar::{Fault, Mark};
 use syntax_forms::part::{Bracket, Left, Part, Sequence};
@@ -36,8 +36,8 @@ impl<'a> Cursor<'a> {
         ensures height { IfOk result (λ p. p.height ≡ 0) }
         ensures shorter { length self.new.rest.now ≤ length self.old.rest.now }
     {
-        self.expect(Mark::Nil)?;
-        Ok(process_forms::nil(self.alloc))
+        let form = process_forms::nil(self.alloc);
+        closed(self, form, Mark::Nil)
     }
 
     /// A ground value.
@@ -76,8 +76,8 @@ impl<'a> Cursor<'a> {
         ensures height { IfOk result (λ p. p.height ≡ 1) }
         ensures shorter { length self.new.rest.now ≤ length self.old.rest.now }
     {
-        self.expect(Mark::CloseBrace)?;
-        Ok(process_forms::empty_map(self.alloc))
+        let form = process_forms::empty_map(self.alloc);
+        closed(self, form, Mark::CloseBrace)
     }
 
     /// A variable that is bound here.
@@ -96,8 +96,8 @@ impl<'a> Cursor<'a> {
         ensures height { IfOk result (λ p. p.height ≡ 0) }
         ensures shorter { length self.new.rest.now ≤ length self.old.rest.now }
     {
-        self.expect(Mark::Underscore)?;
-        Ok(pattern_forms::any())
+        let form = pattern_forms::any();
+        closed(self, form, Mark::Underscore)
     }
 
     /// The pattern `Nil`.
@@ -106,8 +106,8 @@ impl<'a> Cursor<'a> {
         ensures height { IfOk result (λ p. p.height ≡ 0) }
         ensures shorter { length self.new.rest.now ≤ length self.old.rest.now }
     {
-        self.expect(Mark::Nil)?;
-        Ok(pattern_forms::nil_pat(self.alloc))
+        let form = pattern_forms::nil_pat(self.alloc);
+        closed(self, form, Mark::Nil)
     }
 
     /// A ground value as a pattern.
@@ -126,8 +126,8 @@ impl<'a> Cursor<'a> {
         ensures height { IfOk result (λ p. p.height ≡ 0) }
         ensures shorter { length self.new.rest.now ≤ length self.old.rest.now }
     {
-        self.expect_type(simple)?;
-        Ok(pattern_forms::simple(simple))
+        let form = pattern_forms::simple(simple);
+        closed(self, form, type_mark(simple))
     }
 
     /// Any name.
@@ -136,8 +136,8 @@ impl<'a> Cursor<'a> {
         ensures height { IfOk result (λ p. p.height ≡ 0) }
         ensures shorter { length self.new.rest.now ≤ length self.old.rest.now }
     {
-        self.expect(Mark::Underscore)?;
-        Ok(pattern_forms::any_channel())
+        let form = pattern_forms::any_channel();
+        closed(self, form, Mark::Underscore)
     }
 
     /// A name that is bound here.
@@ -173,16 +173,56 @@ impl<'a> Cursor<'a> {
         pattern_forms::same(self.alloc, body)
     }
 
-    /// "..." "@" and a remainder, after these patterns.
-    pub fn left_rest(&mut self, pats: Part<Vec<NamePat>>) -> Result<Part<Left>, Fault>
-        ensures reads { Reads self.old (Prod.left_end_rest (map name_pat_written pats.value.items) pats.height) of_left result self.new }
-        ensures height { IfOk result (λ p. p.height ≡ pats.height) }
+    /// "..." "@" and a remainder.
+    pub(crate) fn name_rest(&mut self) -> Result<Rest, Fault>
+        ensures reads { ReadsNameRest self.old result self.new }
         ensures shorter { length self.new.rest.now ≤ length self.old.rest.now }
     {
         self.expect(Mark::Ellipsis)?;
         self.expect(Mark::At)?;
+        self.remainder()
+    }
+
+    /// "..." and a remainder, and this mark after it.
+    pub(crate) fn rest_closed(&mut self, mark: Mark) -> Result<Rest, Fault>
+        ensures reads { ReadsRest self.old mark result self.new }
+        ensures shorter { length self.new.rest.now ≤ length self.old.rest.now }
+    {
+        self.expect(Mark::Ellipsis)?;
         let rest = self.remainder()?;
-        Ok(pattern_forms::left(pats, rest))
+        closed(self, rest, mark)
+    }
+
+    /// The remainder that may follow members, also after a comma, and this mark after it.
+    fn members_end(&mut self, mark: Mark) -> Result<Rest, Fault>
+        requires { sees_member (view self.old.rest.now) ≡ false }
+        ensures reads { ReadsEnd self.old mark result self.new }
+        ensures shorter { length self.new.rest.now ≤ length self.old.rest.now }
+    {
+        if self.sees(Mark::Comma) {
+            self.expect(Mark::Comma)?;
+            return self.rest_closed(mark);
+        }
+        if self.sees(Mark::Ellipsis) {
+            return self.rest_closed(mark);
+        }
+        closed(self, Rest::No, mark)
+    }
+
+    /// The remainder that may follow patterns of names, also after a comma.
+    fn names_end(&mut self) -> Result<Rest, Fault>
+        requires { sees_member (view self.old.rest.now) ≡ false }
+        ensures reads { ReadsNamesEnd self.old result self.new }
+        ensures shorter { length self.new.rest.now ≤ length self.old.rest.now }
+    {
+        if self.sees(Mark::Ellipsis) {
+            return self.name_rest();
+        }
+        if self.sees(Mark::Comma) {
+            self.expect(Mark::Comma)?;
+            return self.name_rest();
+        }
+        Ok(Rest::No)
     }
 
     /// No pattern and no remainder.
@@ -191,65 +231,9 @@ impl<'a> Cursor<'a> {
         ensures height { IfOk result (λ p. p.height ≡ 0) }
         ensures shorter { length self.new.rest.now ≤ length self.old.rest.now }
     {
-        self.expect_closing(bracket)?;
         let pats = pattern_forms::no_pats(self.alloc);
-        Ok(pattern_forms::sequence(pats, Rest::No))
-    }
-
-    /// "..." and a remainder, after these patterns.
-    pub fn sequence_rest(
-        &mut self,
-        bracket: Bracket,
-        pats: Part<Vec<Pat>>,
-    ) -> Result<Part<Sequence>, Fault>
-        ensures reads { Reads self.old (Prod.seq_end_rest (bracket_of bracket) (map pat_written pats.value.items)
-            pats.height) of_sequence result self.new }
-        ensures height { IfOk result (λ p. p.height ≡ pats.height) }
-        ensures shorter { length self.new.rest.now ≤ length self.old.rest.now }
-    {
-        self.expect(Mark::Ellipsis)?;
-        let rest = self.remainder()?;
-        self.expect_closing(bracket)?;
-        Ok(pattern_forms::sequence(pats, rest))
-    }
-
-    /// No remainder, after these patterns.
-    pub fn sequence_close(
-        &mut self,
-        bracket: Bracket,
-        pats: Part<Vec<Pat>>,
-    ) -> Result<Part<Sequence>, Fault>
-        ensures reads { Reads self.old (Prod.seq_end (bracket_of bracket) (map pat_written pats.value.items)
-            pats.height) of_sequence result self.new }
-        ensures height { IfOk result (λ p. p.height ≡ pats.height) }
-        ensures shorter { length self.new.rest.now ≤ length self.old.rest.now }
-    {
-        self.expect_closing(bracket)?;
-        Ok(pattern_forms::sequence(pats, Rest::No))
-    }
-
-    /// "..." and a remainder, after these pairs.
-    pub fn pairs_rest(&mut self, pairs: Part<Vec<(Pat, Pat)>>) -> Result<Part<Pat>, Fault>
-        requires { pairs.height + 1 < 2 ^ 32 }
-        ensures reads { Reads self.old (Prod.ppairs_rest (pat_pairs_written pairs.value.items) pairs.height) of_pat result self.new }
-        ensures height { IfOk result (λ p. p.height ≡ pairs.height + 1) }
-        ensures shorter { length self.new.rest.now ≤ length self.old.rest.now }
-    {
-        self.expect(Mark::Ellipsis)?;
-        let rest = self.remainder()?;
-        self.expect(Mark::CloseBrace)?;
-        Ok(pattern_forms::map_pat(pairs, rest))
-    }
-
-    /// No remainder, after these pairs.
-    pub fn pairs_close(&mut self, pairs: Part<Vec<(Pat, Pat)>>) -> Result<Part<Pat>, Fault>
-        requires { pairs.height + 1 < 2 ^ 32 }
-        ensures reads { Reads self.old (Prod.ppairs_end (pat_pairs_written pairs.value.items) pairs.height) of_pat result self.new }
-        ensures height { IfOk result (λ p. p.height ≡ pairs.height + 1) }
-        ensures shorter { length self.new.rest.now ≤ length self.old.rest.now }
-    {
-        self.expect(Mark::CloseBrace)?;
-        Ok(pattern_forms::map_pat(pairs, Rest::No))
+        let form = pattern_forms::sequence(pats, Rest::No);
+        closed(self, form, closing_mark(bracket))
     }
 
     /// The remainder that may follow these patterns.
@@ -259,14 +243,8 @@ impl<'a> Cursor<'a> {
         ensures height { IfOk result (λ p. p.height ≡ pats.height) }
         ensures shorter { length self.new.rest.now ≤ length self.old.rest.now }
     {
-        if self.sees(Mark::Ellipsis) {
-            return self.left_rest(pats);
-        }
-        if self.sees(Mark::Comma) {
-            self.expect(Mark::Comma)?;
-            return self.left_rest(pats);
-        }
-        Ok(pattern_forms::left(pats, Rest::No))
+        let rest = self.names_end()?;
+        Ok(pattern_forms::left(pats, rest))
     }
 
     /// The remainder that may follow these patterns.
@@ -281,14 +259,8 @@ impl<'a> Cursor<'a> {
         ensures height { IfOk result (λ p. p.height ≡ pats.height) }
         ensures shorter { length self.new.rest.now ≤ length self.old.rest.now }
     {
-        if self.sees(Mark::Ellipsis) {
-            return self.sequence_rest(bracket, pats);
-        }
-        if self.sees(Mark::Comma) {
-            self.expect(Mark::Comma)?;
-            return self.sequence_rest(bracket, pats);
-        }
-        self.sequence_close(bracket, pats)
+        let rest = self.members_end(closing_mark(bracket))?;
+        Ok(pattern_forms::sequence(pats, rest))
     }
 
     /// The remainder that may follow these pairs.
@@ -299,14 +271,8 @@ impl<'a> Cursor<'a> {
         ensures height { IfOk result (λ p. p.height ≡ pairs.height + 1) }
         ensures shorter { length self.new.rest.now ≤ length self.old.rest.now }
     {
-        if self.sees(Mark::Ellipsis) {
-            return self.pairs_rest(pairs);
-        }
-        if self.sees(Mark::Comma) {
-            self.expect(Mark::Comma)?;
-            return self.pairs_rest(pairs);
-        }
-        self.pairs_close(pairs)
+        let rest = self.members_end(Mark::CloseBrace)?;
+        Ok(pattern_forms::map_pat(pairs, rest))
     }
 
     /// The empty map of patterns.
@@ -315,7 +281,9 @@ impl<'a> Cursor<'a> {
         ensures height { IfOk result (λ p. p.height ≡ 1) }
         ensures shorter { length self.new.rest.now ≤ length self.old.rest.now }
     {
-        self.pairs_close(pattern_forms::no_pairs(self.alloc))
+        let none = pattern_forms::no_pairs(self.alloc);
+        let form = pattern_forms::map_pat(none, Rest::No);
+        closed(self, form, Mark::CloseBrace)
     }
 
     /// A map of patterns that is a remainder.
@@ -324,7 +292,9 @@ impl<'a> Cursor<'a> {
         ensures height { IfOk result (λ p. p.height ≡ 1) }
         ensures shorter { length self.new.rest.now ≤ length self.old.rest.now }
     {
-        self.pairs_rest(pattern_forms::no_pairs(self.alloc))
+        let rest = self.rest_closed(Mark::CloseBrace)?;
+        let none = pattern_forms::no_pairs(self.alloc);
+        Ok(pattern_forms::map_pat(none, rest))
     }
 
     /// Remainder ::= Word | "_"
@@ -333,8 +303,7 @@ impl<'a> Cursor<'a> {
         ensures shorter { length self.new.rest.now ≤ length self.old.rest.now }
     {
         if self.sees(Mark::Underscore) {
-            self.expect(Mark::Underscore)?;
-            return Ok(Rest::Wild);
+            return closed(self, Rest::Wild, Mark::Underscore);
         }
         let name = self.word()?;
         Ok(Rest::Var(name))
@@ -425,8 +394,7 @@ impl<'a> Cursor<'a> {
         }
         self.expect(Mark::Open)?;
         let uri = self.uri()?;
-        self.expect(Mark::Close)?;
-        Ok(Some(uri))
+        closed(self, Some(uri), Mark::Close)
     }
 
     /// Decl ::= Word [ "(" Uri ")" ], after these names

@@ -44,7 +44,8 @@ impl<'a> Cursor<'a> {
         ensures height { IfOk result (λ p. p.height ≡ 0) }
         ensures shorter { length self.new.rest.now ≤ length self.old.rest.now }
     {
+        let rest = self.name_rest()?;
         let none = pattern_forms::no_name_pats(self.alloc);
-        self.left_rest(none)
+        Ok(pattern_forms::left(none, rest))
     }
 }

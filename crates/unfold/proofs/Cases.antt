@@ -26,7 +26,7 @@ use Rattle.capped_work.specs.declared.stop.EvalStop.{EvalStop}
 use Rattle.capped_work.specs.declared.stop.EvalStop.TheVariants.{Over}
 use Rattle.capped_work.specs.Outcomes.{Came, Stopped}
 use Rattle.capped_work.proofs.Outcomes.{came-pure, later}
-use Rattle.spatial_match.specs.Found.{IsFirst}
+use Rattle.match_targets.specs.Found.{IsFirst}
 use Rattle.rho_term.specs.declared.term.TermCase.{TermCase}
 use Rattle.rho_term.specs.Parts.{case_tree}
 use Rattle.rho_term.specs.Sizes.{in_u64, size, sizes}

@@ -41,11 +41,16 @@ pub(crate) fn inner_process(
     ensures closed { IfOk result (λ p. IsClosed p.value) }
 {
     let price = budget.price;
-    match part {
-        Part::New { names, body } => new_body(alloc, &names, &body, seed, budget),
-        Part::Match { target, cases } => match_body(alloc, target, cases, bytes, budget),
-        Part::Bundle { body, .. } => Ok(Priced { value: body, price }),
-        other => value_inside(alloc, &other, budget),
+    if let Part::New { names, body } = &part {
+        return new_body(alloc, names, body, seed, budget);
+    }
+    let part = match part.into_match() {
+        Ok((target, cases)) => return match_body(alloc, target, cases, bytes, budget),
+        Err(part) => part,
+    };
+    match part.into_bundled() {
+        Ok(body) => Ok(Priced { value: body, price }),
+        Err(other) => value_inside(alloc, &other, budget),
     }
 }
 
@@ -152,10 +157,10 @@ fn bound_body(
     requires { Fits a_case [] (case_tree case) }
     ensures { ComesTo result budget.entry (free (within_limits (put values.now case.body))) }
 {
-    let TermCase { pat, body } = case;
-    if pat_bound(&pat) > 0 {
-        return put_within(alloc, &body, values, budget);
+    if pat_bound(&case.pat) > 0 {
+        return put_within(alloc, &case.body, values, budget);
     }
+    let body = case.into_body();
     // What has a height is known to be in normal order.
     let _height = body.height();
     limited(body, budget.price, budget.cap)

@@ -96,31 +96,31 @@ fn seeded_turn(
 {
     let price = work.price;
     let budget = Budget { prices, cap, price };
-    match part {
+    match &part {
         Part::Send {
             channel,
             args,
             persistent,
         } => {
-            let done = send_offer(alloc, &channel, &args, persistent, seed, budget)?;
+            let done = send_offer(alloc, channel, args, *persistent, seed, budget)?;
             work.offers.push(done.value)?;
             work.price = done.price;
             Ok(())
         }
         Part::Receive { kind, binds, body } => {
             let receive = Receive {
-                kind,
-                binds: &binds,
-                body: &body,
+                kind: *kind,
+                binds,
+                body,
             };
             let done = receive_offer(alloc, receive, seed, budget)?;
             work.offers.push(done.value)?;
             work.price = done.price;
             Ok(())
         }
-        other => {
-            let bytes = other.code_len();
-            let done = inner_process(alloc, other, bytes, seed, budget)?;
+        _ => {
+            let bytes = part.code_len();
+            let done = inner_process(alloc, part, bytes, seed, budget)?;
             let inner = seed.body();
             push_parts(&mut work.left, done.value, &inner)?;
             work.price = done.price;

@@ -1,4 +1,4 @@
-use Rattle.std.proofs.Common.{◌≡◌, ◌≤◌, cond, eqb, ltb, [], ◌*◌, ◌+◌, ◌++◌, map, length, max, codes, sym, ap, subst, ◌∙◌, arith, le_trans, le_refl}
+use Rattle.std.proofs.Common.{◌≡◌, ◌≤◌, cond, eqb, ltb, [], ◌+◌, ◌++◌, map, length, max, codes, sym, ap, subst, ◌∙◌, arith, le_trans, le_refl}
 use Rattle.std.proofs.lemmas.List.{length-map}
 use Rattle.std.proofs.lemmas.Bool.{eqb-true, eqb-false}
 use Rattle.std.proofs.lemmas.Result.{IfOk-weaker}
@@ -9,19 +9,20 @@ use Rattle.rho_term.specs.Parts.{part_tree, pat_part_tree, pair_tree, bind_tree,
 use Rattle.calculus.proofs.Formed.{Formed, Holds}
 use Rattle.calculus.proofs.Tails.{IsFine}
 use Rattle.rho_term.proofs.Trees.{weight-at, tree-at, ordered-at}
-use Rattle.rho_printer.specs.Texts.{text_of, texts_of, bind_text_of, members_text, left_text}
+use Rattle.printed_leaves.specs.Texts.{text_of, texts_of, bind_text_of, members_text, left_text}
 use Rattle.calculus.specs.Shape.{leaf, held, one, two, many}
 use Rattle.calculus.specs.Variables.{bound, bound_all}
 use Rattle.calculus.specs.Printed.{braced, operand_text, separated, variable_text, marks, rights_text}
 use Rattle.calculus.specs.Texts.{to_hex}
-use Rattle.rho_printer.proofs.Forms.{after, shown, nil-writes, process-writes, list-writes, tuple-writes, set-writes, map-writes, pair-writes, send-writes, receive-writes, new-writes, match-writes, bundle-writes, not-writes, neg-writes, binary-writes, method-writes}
-use Rattle.rho_printer.proofs.PatternForms.{pat_formed, nil_pattern-text, nil_pattern-bound, pattern-parts, pattern-text, pattern-bound, name_pattern-text, two-bound, one-bound, both-text, either-text, not-text, same-text, list_pattern-text, set_pattern-text, map_pattern-text, pair_pattern-writes, tuple_pattern-writes, tuple_pattern-bound, members-writes, left-writes, pattern_send-text, pattern_bundle-text}
-use Rattle.rho_printer.proofs.BindForms.{bind-writes, bind-bound, case-writes, closed-writes, closed-bound, ground-text, ground_pattern-text, ground-bound}
-use Rattle.rho_printer.proofs.Rows.{nothing_more}
-use Rattle.rho_printer.proofs.Moving.{same_writes, same_part, same_pattern, same_next}
-use Rattle.rho_printer.proofs.Singles.{name-others, name-quoted, name_variable-text, fresh_name-text}
-use Rattle.rho_printer.proofs.Lists.{at_start, goes_on, at_end, at_start_from, goes_on_from, at_end_from, taken_at, taken_of, none_left, none_left_of}
-use Rattle.rho_printer.proofs.Growing.{longer, no_shorter, no_less, room-later, room-same, room-one, room-rest}
+use Rattle.printed_leaves.proofs.Forms.{after, shown, nil-writes, process-writes, list-writes, tuple-writes, set-writes, map-writes, pair-writes, send-writes, receive-writes, new-writes, match-writes, bundle-writes, not-writes, neg-writes, binary-writes, method-writes}
+use Rattle.printed_leaves.proofs.PatternForms.{pat_formed, nil_pattern-text, nil_pattern-bound, pattern-parts, pattern-text, pattern-bound, name_pattern-text, two-bound, one-bound, both-text, either-text, not-text, same-text, list_pattern-text, set_pattern-text, map_pattern-text, pair_pattern-writes, tuple_pattern-writes, tuple_pattern-bound, members-writes, left-writes, pattern_send-text, pattern_bundle-text}
+use Rattle.printed_leaves.proofs.BindForms.{bind-writes, bind-bound, case-writes, closed-writes, closed-bound, ground-text, ground_pattern-text, ground-bound}
+use Rattle.printed_leaves.proofs.Rows.{nothing_more}
+use Rattle.printed_leaves.proofs.Moving.{same_writes, same_part, same_pattern, same_next}
+use Rattle.printed_leaves.proofs.Singles.{name-others, name-quoted, name_variable-text, fresh_name-text}
+use Rattle.printed_leaves.proofs.Lists.{at_start, goes_on, at_end, at_start_from, goes_on_from, at_end_from, taken_at, taken_of, none_left, none_left_of}
+use Rattle.printed_leaves.proofs.Growing.{longer, no_shorter, room-at, room-later, room-same, room-one, room-rest}
+use Rattle.printed_leaves.proofs.Answered.{given, given-past, given-number, given-room, handed, handed-number, handed-value}
 use Rattle.rho_printer.proofs.+print.Goals as goal
 
 pub terms::put_parts-loop-i-init : goal.terms::put_parts-loop-i-init
@@ -193,10 +194,10 @@ pub terms::put_operand-returns : goal.terms::put_operand-returns
 terms::put_operand-returns t c = record { text = IfOk-weaker c.put_braced.result _ _ (λ v e. λ h n. shown c.args.out.now.items (c.is_atom.ensures (text_of term c.args.t.now c.args.depth n) ∙ ap (λ b. cond b (text_of term c.args.t.now c.args.depth n) (braced (text_of term c.args.t.now c.args.depth n))) c.if-is_atom.false) (e h n)) c.put_braced.ensures.text; grows = c.put_braced.ensures.grows }
 
 pub terms::put_braced-returns : goal.terms::put_braced-returns
-terms::put_braced-returns t c = record { text = IfOk-weaker c.put-2.result _ _ (λ v e. λ h n. after c.args.out.now.items (codes "{") ((text_of term c.args.t.now c.args.depth n) ++ (codes "}")) (c.in_ok-put.ensures.text) (after c.put.new.out.items (text_of term c.args.t.now c.args.depth n) (codes "}") (c.in_ok-put_term.ensures.text h n) (e))) c.put-2.ensures.text; grows = longer c.put-2.result _ (le_trans c.in_ok-put.ensures.grows c.in_ok-put_term.ensures.grows) c.put-2.ensures.grows }
+terms::put_braced-returns t c = record { text = handed c.put_term.result c.put_then.result _ _ _ c.put_then.ensures.done c.put_term.ensures.text c.put_then.ensures.text (λ w e. λ h n. after c.args.out.now.items (codes "{") ((text_of term c.args.t.now c.args.depth n) ++ (codes "}")) (c.in_ok-put.ensures.text) (after c.put.new.out.items (text_of term c.args.t.now c.args.depth n) (codes "}") (w h n) (e))); grows = handed c.put_term.result c.put_then.result _ _ _ c.put_then.ensures.done c.put_term.ensures.grows c.put_then.ensures.grows (λ p q. le_trans c.in_ok-put.ensures.grows (le_trans p q)) }
 
 pub terms::put_block-returns : goal.terms::put_block-returns
-terms::put_block-returns t c = record { text = IfOk-weaker c.put-2.result _ _ (λ v e. λ h n. after c.args.out.now.items (codes "{ ") ((text_of term c.args.t.now c.args.depth n) ++ (codes " }")) (c.in_ok-put.ensures.text) (after c.put.new.out.items (text_of term c.args.t.now c.args.depth n) (codes " }") (c.in_ok-put_term.ensures.text h n) (e))) c.put-2.ensures.text; grows = longer c.put-2.result _ (le_trans c.in_ok-put.ensures.grows c.in_ok-put_term.ensures.grows) c.put-2.ensures.grows }
+terms::put_block-returns t c = record { text = handed c.put_term.result c.put_then.result _ _ _ c.put_then.ensures.done c.put_term.ensures.text c.put_then.ensures.text (λ w e. λ h n. after c.args.out.now.items (codes "{ ") ((text_of term c.args.t.now c.args.depth n) ++ (codes " }")) (c.in_ok-put.ensures.text) (after c.put.new.out.items (text_of term c.args.t.now c.args.depth n) (codes " }") (w h n) (e))); grows = handed c.put_term.result c.put_then.result _ _ _ c.put_then.ensures.done c.put_term.ensures.grows c.put_then.ensures.grows (λ p q. le_trans c.in_ok-put.ensures.grows (le_trans p q)) }
 
 pub terms::put_quoted-returns : goal.terms::put_quoted-returns
 terms::put_quoted-returns t c = record { text = IfOk-weaker c.put_operand.result _ _ (λ v e. λ h n. after c.args.out.now.items (codes "@") (operand_text (held c.args.t.now) (text_of term c.args.t.now c.args.depth n)) c.in_ok-put.ensures.text (e h n)) c.put_operand.ensures.text; grows = longer c.put_operand.result _ c.in_ok-put.ensures.grows c.put_operand.ensures.grows }
@@ -217,52 +218,52 @@ pub terms::put_name_of-returns-in_default : goal.terms::put_name_of-returns-in_d
 terms::put_name_of-returns-in_default t c = record { text = IfOk-weaker c.put_quoted.result _ _ (λ v e. λ h n. shown c.args.out.now.items (name-quoted c.args.p.now c.args.t.now c.requires.is (λ i z. c.in_default.not-NameVar i z) (λ d z. c.in_default.not-Fresh d z) (text_of term c.args.t.now c.args.depth n)) (e h n)) c.put_quoted.ensures.text; grows = c.put_quoted.ensures.grows }
 
 pub terms::put_pair-returns : goal.terms::put_pair-returns
-terms::put_pair-returns t c = record { text = IfOk-weaker c.put_term-2.result _ _ (λ v e. pair-writes c.args.pair.now.0 c.args.pair.now.1 c.args.depth _ _ _ _ c.in_ok-put_term.ensures.text c.in_ok-put.ensures.text e) c.put_term-2.ensures.text; grows = longer c.put_term-2.result _ (le_trans c.in_ok-put_term.ensures.grows c.in_ok-put.ensures.grows) c.put_term-2.ensures.grows }
+terms::put_pair-returns t c = record { text = IfOk-weaker c.put_term-2.result _ _ (λ v e. pair-writes c.args.pair.now.0 c.args.pair.now.1 c.args.depth _ _ _ _ (given _ c.put_term.result c.in_ok-put_then.ensures.done c.put_term.ensures.text) c.in_ok-put_then.ensures.text e) c.put_term-2.ensures.text; grows = longer c.put_term-2.result _ (le_trans (given _ c.put_term.result c.in_ok-put_then.ensures.done c.put_term.ensures.grows) c.in_ok-put_then.ensures.grows) c.put_term-2.ensures.grows }
 
 pub parts::put_members-returns : goal.parts::put_members-returns
-parts::put_members-returns t c = record { text = IfOk-weaker c.put-2.result _ _ (λ v e. λ h n. after c.args.out.now.items c.args.opening.now (separated (codes ", ") (texts_of term c.args.members.now c.args.depth n) ++ c.args.closing.now) c.in_ok-put.ensures.text (after c.put.new.out.items (separated (codes ", ") (texts_of term c.args.members.now c.args.depth n)) c.args.closing.now (c.in_ok-put_terms.ensures.text h n) e)) c.put-2.ensures.text; grows = longer c.put-2.result _ (le_trans c.in_ok-put.ensures.grows c.in_ok-put_terms.ensures.grows) c.put-2.ensures.grows }
+parts::put_members-returns t c = record { text = handed c.put_terms.result c.put_then.result _ _ _ c.put_then.ensures.done c.put_terms.ensures.text c.put_then.ensures.text (λ w e. λ h n. after c.args.out.now.items c.args.opening.now (separated (codes ", ") (texts_of term c.args.members.now c.args.depth n) ++ c.args.closing.now) c.in_ok-put.ensures.text (after c.put.new.out.items (separated (codes ", ") (texts_of term c.args.members.now c.args.depth n)) c.args.closing.now (w h n) e)); grows = handed c.put_terms.result c.put_then.result _ _ _ c.put_then.ensures.done c.put_terms.ensures.grows c.put_then.ensures.grows (λ p q. le_trans c.in_ok-put.ensures.grows (le_trans p q)) }
 
 pub parts::put_map-returns : goal.parts::put_map-returns
-parts::put_map-returns t c = record { text = IfOk-weaker c.put-2.result _ _ (λ v e. map-writes (map pair_tree c.args.pairs.now) c.args.depth _ _ _ _ c.requires.ordered c.in_ok-put.ensures.text c.in_ok-put_pairs.ensures.text e) c.put-2.ensures.text; grows = longer c.put-2.result _ (le_trans c.in_ok-put.ensures.grows c.in_ok-put_pairs.ensures.grows) c.put-2.ensures.grows }
+parts::put_map-returns t c = record { text = handed c.put_pairs.result c.put_then.result _ _ _ c.put_then.ensures.done c.put_pairs.ensures.text c.put_then.ensures.text (λ w e. map-writes (map pair_tree c.args.pairs.now) c.args.depth _ _ _ _ c.requires.ordered c.in_ok-put.ensures.text w e); grows = handed c.put_pairs.result c.put_then.result _ _ _ c.put_then.ensures.done c.put_pairs.ensures.grows c.put_then.ensures.grows (λ p q. le_trans c.in_ok-put.ensures.grows (le_trans p q)) }
 
 pub parts::put_send-returns : goal.parts::put_send-returns
-parts::put_send-returns t c = record { text = IfOk-weaker c.put-2.result _ _ (λ v e. send-writes c.args.persistent c.args.channel.now c.args.args.now c.args.depth _ _ _ _ _ c.in_ok-put_name.ensures.text (shown c.put_name.new.out.items (sym c.send_marks.ensures) c.in_ok-put.ensures.text) c.in_ok-put_terms.ensures.text e) c.put-2.ensures.text; grows = longer c.put-2.result _ (le_trans c.in_ok-put_name.ensures.grows (le_trans c.in_ok-put.ensures.grows c.in_ok-put_terms.ensures.grows)) c.put-2.ensures.grows }
+parts::put_send-returns t c = record { text = handed c.put_terms.result c.put_then-2.result _ _ _ c.put_then-2.ensures.done c.put_terms.ensures.text c.put_then-2.ensures.text (λ w e. send-writes c.args.persistent c.args.channel.now c.args.args.now c.args.depth _ _ _ _ _ (given _ c.put_name.result c.in_ok-put_then.ensures.done c.put_name.ensures.text) (shown c.put_name.new.out.items (sym c.send_marks.ensures) c.in_ok-put_then.ensures.text) w e); grows = handed c.put_terms.result c.put_then-2.result _ _ _ c.put_then-2.ensures.done c.put_terms.ensures.grows c.put_then-2.ensures.grows (λ p q. le_trans (given _ c.put_name.result c.in_ok-put_then.ensures.done c.put_name.ensures.grows) (le_trans c.in_ok-put_then.ensures.grows (le_trans p q))) }
 
 pub parts::put_receive-returns : goal.parts::put_receive-returns
-parts::put_receive-returns t c = record { text = IfOk-weaker c.put_block.result _ _ (λ v e. receive-writes c.args.kind (map bind_tree c.args.binds.now) c.args.body.now c.args.depth _ _ _ _ _ _ c.in_ok-put.ensures.text c.in_ok-inner.ensures.text c.in_ok-inner.ensures.next c.in_ok-put-2.ensures.text e) c.put_block.ensures.text; grows = longer c.put_block.result _ (le_trans c.in_ok-put.ensures.grows (le_trans c.in_ok-inner.ensures.grows c.in_ok-put-2.ensures.grows)) c.put_block.ensures.grows }
+parts::put_receive-returns t c = record { text = IfOk-weaker c.put_block.result _ _ (λ v e. receive-writes c.args.kind (map bind_tree c.args.binds.now) c.args.body.now c.args.depth _ _ _ _ _ _ c.in_ok-put.ensures.text (given-past _ c.put_binds.result _ c.in_ok-inner.ensures.next c.put_binds.ensures.text) (given-number _ c.put_binds.result _ c.in_ok-inner.ensures.next c.put_binds.ensures.next) c.in_ok-inner.ensures.text e) c.put_block.ensures.text; grows = longer c.put_block.result _ (le_trans c.in_ok-put.ensures.grows (le_trans (given-past _ c.put_binds.result _ c.in_ok-inner.ensures.next c.put_binds.ensures.grows) c.in_ok-inner.ensures.grows)) c.put_block.ensures.grows }
 
 pub parts::put_new-returns : goal.parts::put_new-returns
-parts::put_new-returns t c = record { text = IfOk-weaker c.put_block.result _ _ (λ v e. new-writes c.args.names.now c.args.body.now c.args.depth _ _ _ _ _ _ c.in_ok-put.ensures.text c.in_ok-inner.ensures.text c.in_ok-inner.ensures.next c.in_ok-put-2.ensures.text e) c.put_block.ensures.text; grows = longer c.put_block.result _ (le_trans c.in_ok-put.ensures.grows (le_trans c.in_ok-inner.ensures.grows c.in_ok-put-2.ensures.grows)) c.put_block.ensures.grows }
+parts::put_new-returns t c = record { text = IfOk-weaker c.put_block.result _ _ (λ v e. new-writes c.args.names.now c.args.body.now c.args.depth _ _ _ _ _ _ c.in_ok-put.ensures.text (given-past _ c.put_declared.result _ c.in_ok-inner.ensures.next c.put_declared.ensures.text) (given-number _ c.put_declared.result _ c.in_ok-inner.ensures.next c.put_declared.ensures.next) c.in_ok-inner.ensures.text e) c.put_block.ensures.text; grows = longer c.put_block.result _ (le_trans c.in_ok-put.ensures.grows (le_trans (given-past _ c.put_declared.result _ c.in_ok-inner.ensures.next c.put_declared.ensures.grows) c.in_ok-inner.ensures.grows)) c.put_block.ensures.grows }
 
 pub parts::put_match-returns : goal.parts::put_match-returns
-parts::put_match-returns t c = record { text = IfOk-weaker c.put-3.result _ _ (λ v e. match-writes c.args.target.now (map case_tree c.args.cases.now) c.args.depth _ _ _ _ _ _ c.in_ok-put.ensures.text c.in_ok-put_term.ensures.text c.in_ok-put-2.ensures.text c.in_ok-put_cases.ensures.text e) c.put-3.ensures.text; grows = longer c.put-3.result _ (le_trans c.in_ok-put.ensures.grows (le_trans c.in_ok-put_term.ensures.grows (le_trans c.in_ok-put-2.ensures.grows c.in_ok-put_cases.ensures.grows))) c.put-3.ensures.grows }
+parts::put_match-returns t c = record { text = handed c.put_cases.result c.put_then-2.result _ _ _ c.put_then-2.ensures.done c.put_cases.ensures.text c.put_then-2.ensures.text (λ w e. match-writes c.args.target.now (map case_tree c.args.cases.now) c.args.depth _ _ _ _ _ _ c.in_ok-put.ensures.text (given _ c.put_term.result c.in_ok-put_then.ensures.done c.put_term.ensures.text) c.in_ok-put_then.ensures.text w e); grows = handed c.put_cases.result c.put_then-2.result _ _ _ c.put_then-2.ensures.done c.put_cases.ensures.grows c.put_then-2.ensures.grows (λ p q. le_trans c.in_ok-put.ensures.grows (le_trans (given _ c.put_term.result c.in_ok-put_then.ensures.done c.put_term.ensures.grows) (le_trans c.in_ok-put_then.ensures.grows (le_trans p q)))) }
 
 pub parts::put_bundle-returns : goal.parts::put_bundle-returns
 parts::put_bundle-returns t c = record { text = IfOk-weaker c.put_block.result _ _ (λ v e. bundle-writes c.args.rights c.args.body.now c.args.depth _ _ _ (shown c.args.out.now.items (sym c.rights_word.ensures) c.in_ok-put.ensures.text) e) c.put_block.ensures.text; grows = longer c.put_block.result _ c.in_ok-put.ensures.grows c.put_block.ensures.grows }
 
 pub parts::put_binary-returns : goal.parts::put_binary-returns
-parts::put_binary-returns t c = record { text = IfOk-weaker c.put-3.result _ _ (λ v e. binary-writes c.args.op c.args.left.now c.args.right.now c.args.depth _ _ _ _ _ _ c.in_ok-put.ensures.text c.in_ok-put_operand.ensures.text (shown c.put_operand.new.out.items (sym c.op_word.ensures) c.in_ok-put-2.ensures.text) c.in_ok-put_operand-2.ensures.text e) c.put-3.ensures.text; grows = longer c.put-3.result _ (le_trans c.in_ok-put.ensures.grows (le_trans c.in_ok-put_operand.ensures.grows (le_trans c.in_ok-put-2.ensures.grows c.in_ok-put_operand-2.ensures.grows))) c.put-3.ensures.grows }
+parts::put_binary-returns t c = record { text = handed c.put_operand-2.result c.put_then-2.result _ _ _ c.put_then-2.ensures.done c.put_operand-2.ensures.text c.put_then-2.ensures.text (λ w e. binary-writes c.args.op c.args.left.now c.args.right.now c.args.depth _ _ _ _ _ _ c.in_ok-put.ensures.text (given _ c.put_operand.result c.in_ok-put_then.ensures.done c.put_operand.ensures.text) (shown c.put_operand.new.out.items (sym c.op_word.ensures) c.in_ok-put_then.ensures.text) w e); grows = handed c.put_operand-2.result c.put_then-2.result _ _ _ c.put_then-2.ensures.done c.put_operand-2.ensures.grows c.put_then-2.ensures.grows (λ p q. le_trans c.in_ok-put.ensures.grows (le_trans (given _ c.put_operand.result c.in_ok-put_then.ensures.done c.put_operand.ensures.grows) (le_trans c.in_ok-put_then.ensures.grows (le_trans p q)))) }
 
 pub parts::put_method-returns : goal.parts::put_method-returns
-parts::put_method-returns t c = record { text = IfOk-weaker c.put-5.result _ _ (λ v e. method-writes c.args.name.now c.args.target.now c.args.args.now c.args.depth _ _ _ _ _ _ _ _ c.in_ok-put.ensures.text c.in_ok-put_operand.ensures.text c.in_ok-put-2.ensures.text (shown c.put-2.new.out.items (sym c.as_bytes.ensures.value) c.in_ok-put-3.ensures.text) c.in_ok-put-4.ensures.text c.in_ok-put_terms.ensures.text e) c.put-5.ensures.text; grows = longer c.put-5.result _ (le_trans c.in_ok-put.ensures.grows (le_trans c.in_ok-put_operand.ensures.grows (le_trans c.in_ok-put-2.ensures.grows (le_trans c.in_ok-put-3.ensures.grows (le_trans c.in_ok-put-4.ensures.grows c.in_ok-put_terms.ensures.grows))))) c.put-5.ensures.grows }
+parts::put_method-returns t c = record { text = handed c.put_terms.result c.put_then-3.result _ _ _ c.put_then-3.ensures.done c.put_terms.ensures.text c.put_then-3.ensures.text (λ w e. method-writes c.args.name.now c.args.target.now c.args.args.now c.args.depth _ _ _ _ _ _ _ _ c.in_ok-put.ensures.text (given _ c.put_operand.result c.in_ok-put_then.ensures.done c.put_operand.ensures.text) c.in_ok-put_then.ensures.text (shown c.put_then.new.out.items (sym c.as_bytes.ensures.value) (given _ c.put-2.result c.in_ok-put_then-2.ensures.done c.put-2.ensures.text)) c.in_ok-put_then-2.ensures.text w e); grows = handed c.put_terms.result c.put_then-3.result _ _ _ c.put_then-3.ensures.done c.put_terms.ensures.grows c.put_then-3.ensures.grows (λ p q. le_trans c.in_ok-put.ensures.grows (le_trans (given _ c.put_operand.result c.in_ok-put_then.ensures.done c.put_operand.ensures.grows) (le_trans c.in_ok-put_then.ensures.grows (le_trans (given _ c.put-2.result c.in_ok-put_then-2.ensures.done c.put-2.ensures.grows) (le_trans c.in_ok-put_then-2.ensures.grows (le_trans p q)))))) }
 
 pub binds::put_bind-returns : goal.binds::put_bind-returns
 binds::put_bind-returns t c = record {
-  text = let w = subst (λ us. Holds IsFine (all name_pat) (trees us) → c.put_left.new.out.items ≡ c.args.out.now.items ++ left_text us c.args.bind.now.rest c.args.depth c.args.next) c.deref.ensures.value c.in_ok-after.ensures.text in let z : c.len-start.result ≡ length c.args.out.now.items = omega arith in bind-writes c.args.kind c.args.bind.now c.args.depth c.args.next c.args.out.now.items c.put_left.new.out.items _ _ _ (omega (arith, c.requires.0)) w (shown c.put_left.new.out.items (ap (λ k. cond (ltb k (length c.put_left.new.out.items)) (codes " ") []) (sym z)) c.in_ok-put_space_since.ensures.text) (shown c.put_space_since.new.out.items (sym c.arrow.ensures) c.in_ok-put.ensures.text) c.in_ok-put_name.ensures.text;
-  next = λ h. c.in_ok-after.ensures.next (subst (λ us. Holds IsFine (all name_pat) (trees us)) (sym c.deref.ensures.value) h.1.1.0.1) ∙ ap (λ us. c.args.next + length (bound_all (trees us)) + length (bound (leaf (rest c.args.bind.now.rest)))) c.deref.ensures.value ∙ sym (bind-bound c.args.bind.now.channel c.args.bind.now.pats.items c.args.bind.now.rest c.args.next h.1.0);
-  room = (c.in_ok-after.ensures.room.0, le_trans c.in_ok-after.ensures.room.1 (le_trans c.in_ok-put_space_since.ensures.grows (le_trans c.in_ok-put.ensures.grows c.in_ok-put_name.ensures.grows)));
-  grows = le_trans c.in_ok-after.ensures.grows (le_trans c.in_ok-put_space_since.ensures.grows (le_trans c.in_ok-put.ensures.grows c.in_ok-put_name.ensures.grows));
+  text = let w = subst (λ us. Holds IsFine (all name_pat) (trees us) → c.put_left.new.out.items ≡ c.args.out.now.items ++ left_text us c.args.bind.now.rest c.args.depth c.args.next) c.deref.ensures.value c.in_ok-after.ensures.text in let z : c.len-start.result ≡ length c.args.out.now.items = omega arith in handed-value c.put_name.result c.numbered.result _ _ _ c.numbered.ensures.done c.put_name.ensures.text c.numbered.ensures.next (λ m v e. bind-writes c.args.kind c.args.bind.now c.args.depth c.args.next c.args.out.now.items c.put_left.new.out.items _ _ _ (omega (arith, c.requires.0)) w (shown c.put_left.new.out.items (ap (λ k. cond (ltb k (length c.put_left.new.out.items)) (codes " ") []) (sym z)) (given _ c.put_space_since.result c.in_ok-put_then.ensures.done c.put_space_since.ensures.text)) (shown c.put_space_since.new.out.items (sym c.arrow.ensures) c.in_ok-put_then.ensures.text) v);
+  next = IfOk-weaker c.numbered.result _ _ (λ m e. λ h. e ∙ c.in_ok-after.ensures.next (subst (λ us. Holds IsFine (all name_pat) (trees us)) (sym c.deref.ensures.value) h.1.1.0.1) ∙ ap (λ us. c.args.next + length (bound_all (trees us)) + length (bound (leaf (rest c.args.bind.now.rest)))) c.deref.ensures.value ∙ sym (bind-bound c.args.bind.now.channel c.args.bind.now.pats.items c.args.bind.now.rest c.args.next h.1.0)) c.numbered.ensures.next;
+  room = handed-value c.put_name.result c.numbered.result _ _ _ c.numbered.ensures.done c.put_name.ensures.grows c.numbered.ensures.next (λ m p e. room-at c.in_ok-after.ensures.room.0 (le_trans c.in_ok-after.ensures.room.1 (le_trans (given _ c.put_space_since.result c.in_ok-put_then.ensures.done c.put_space_since.ensures.grows) (le_trans c.in_ok-put_then.ensures.grows p))) e);
+  grows = handed-value c.put_name.result c.numbered.result _ _ _ c.numbered.ensures.done c.put_name.ensures.grows c.numbered.ensures.next (λ m p e. le_trans c.in_ok-after.ensures.grows (le_trans (given _ c.put_space_since.result c.in_ok-put_then.ensures.done c.put_space_since.ensures.grows) (le_trans c.in_ok-put_then.ensures.grows p)));
 }
 
 pub binds::put_case-returns : goal.binds::put_case-returns
-binds::put_case-returns t c = record { text = IfOk-weaker c.put_block.result _ _ (λ v e. case-writes c.args.case.now c.args.depth _ _ _ _ _ _ c.in_ok-put.ensures.text c.in_ok-inner.ensures.text c.in_ok-inner.ensures.next c.in_ok-put-2.ensures.text e) c.put_block.ensures.text; grows = longer c.put_block.result _ (le_trans c.in_ok-put.ensures.grows (le_trans c.in_ok-inner.ensures.grows c.in_ok-put-2.ensures.grows)) c.put_block.ensures.grows }
+binds::put_case-returns t c = record { text = IfOk-weaker c.put_block.result _ _ (λ v e. case-writes c.args.case.now c.args.depth _ _ _ _ _ _ c.in_ok-put.ensures.text (given-past _ c.put_pat.result _ c.in_ok-inner.ensures.next c.put_pat.ensures.text) (given-number _ c.put_pat.result _ c.in_ok-inner.ensures.next c.put_pat.ensures.next) c.in_ok-inner.ensures.text e) c.put_block.ensures.text; grows = longer c.put_block.result _ (le_trans c.in_ok-put.ensures.grows (le_trans (given-past _ c.put_pat.result _ c.in_ok-inner.ensures.next c.put_pat.ensures.grows) c.in_ok-inner.ensures.grows)) c.put_block.ensures.grows }
 
 pub patterns::put_pat-returns-then-is_empty : goal.patterns::put_pat-returns-then-is_empty
 patterns::put_pat-returns-then-is_empty t c = record {
-  text = λ h. shown c.args.out.now.items (nil_pattern-text c.parts-parts.result.now c.args.t.now c.args.depth c.args.next c.parts-parts.ensures.parts (eqb-true _ _ (sym c.is_empty.ensures ∙ c.if-is_empty.true))) c.in_ok-put.ensures.text;
-  next = λ h. omega (arith, nil_pattern-bound c.parts-parts.result.now c.args.t.now c.parts-parts.ensures.parts (eqb-true _ _ (sym c.is_empty.ensures ∙ c.if-is_empty.true)));
-  room = (le_refl c.args.next, le_trans c.requires.1 c.in_ok-put.ensures.grows);
-  grows = c.in_ok-put.ensures.grows;
+  text = IfOk-weaker c.put_and.result _ _ (λ v e. λ h. shown c.args.out.now.items (nil_pattern-text c.parts-parts.result.now c.args.t.now c.args.depth c.args.next c.parts-parts.ensures.parts (eqb-true _ _ (sym c.is_empty.ensures ∙ c.if-is_empty.true))) e) c.put_and.ensures.text;
+  next = IfOk-weaker c.put_and.result _ _ (λ m e. λ h. omega (arith, e, nil_pattern-bound c.parts-parts.result.now c.args.t.now c.parts-parts.ensures.parts (eqb-true _ _ (sym c.is_empty.ensures ∙ c.if-is_empty.true)))) c.put_and.ensures.next;
+  room = room-same c.put_and.result _ c.requires.1 c.put_and.ensures.next c.put_and.ensures.grows;
+  grows = c.put_and.ensures.grows;
 }
 
 pub patterns::put_pat-returns : goal.patterns::put_pat-returns
@@ -286,10 +287,10 @@ patterns::put_pat_operand-returns-then-is_pattern_atom t c = record {
 
 pub patterns::put_pat_operand-returns : goal.patterns::put_pat_operand-returns
 patterns::put_pat_operand-returns t c = record {
-  text = λ h. shown c.args.out.now.items (c.is_pattern_atom.ensures (text_of pat c.args.t.now c.args.depth c.args.next) ∙ ap (λ b. cond b (text_of pat c.args.t.now c.args.depth c.args.next) (braced (text_of pat c.args.t.now c.args.depth c.args.next))) c.if-is_pattern_atom.false) (after c.args.out.now.items (codes "{") (((text_of pat c.args.t.now c.args.depth c.args.next)) ++ (codes "}")) (c.in_ok-put.ensures.text) (after c.put.new.out.items ((text_of pat c.args.t.now c.args.depth c.args.next)) (codes "}") (c.in_ok-after.ensures.text h) (c.in_ok-put-2.ensures.text)));
-  next = c.in_ok-after.ensures.next;
-  room = (c.in_ok-after.ensures.room.0, le_trans c.in_ok-after.ensures.room.1 c.in_ok-put-2.ensures.grows);
-  grows = le_trans c.in_ok-put.ensures.grows (le_trans c.in_ok-after.ensures.grows c.in_ok-put-2.ensures.grows);
+  text = handed-number c.put_pat-inner.result c.put_past.result _ _ _ c.put_past.ensures.next c.put_pat-inner.ensures.text c.put_past.ensures.text (λ m w e. λ h. shown c.args.out.now.items (c.is_pattern_atom.ensures (text_of pat c.args.t.now c.args.depth c.args.next) ∙ ap (λ b. cond b (text_of pat c.args.t.now c.args.depth c.args.next) (braced (text_of pat c.args.t.now c.args.depth c.args.next))) c.if-is_pattern_atom.false) (after c.args.out.now.items (codes "{") (((text_of pat c.args.t.now c.args.depth c.args.next)) ++ (codes "}")) (c.in_ok-put.ensures.text) (after c.put.new.out.items ((text_of pat c.args.t.now c.args.depth c.args.next)) (codes "}") (w h) (e))));
+  next = handed-number c.put_pat-inner.result c.put_past.result _ _ _ c.put_past.ensures.next c.put_pat-inner.ensures.next c.put_past.ensures.text (λ m w e. w);
+  room = handed-number c.put_pat-inner.result c.put_past.result _ _ _ c.put_past.ensures.next c.put_pat-inner.ensures.room c.put_past.ensures.grows (λ m p q. (p.0, le_trans p.1 q));
+  grows = handed-number c.put_pat-inner.result c.put_past.result _ _ _ c.put_past.ensures.next c.put_pat-inner.ensures.grows c.put_past.ensures.grows (λ m p q. le_trans c.in_ok-put.ensures.grows (le_trans p q));
 }
 
 pub patterns::put_name_pat-returns-then-is_bare : goal.patterns::put_name_pat-returns-then-is_bare
@@ -310,18 +311,18 @@ patterns::put_name_pat-returns t c = record {
 
 pub patterns::put_pat_pair-returns : goal.patterns::put_pat_pair-returns
 patterns::put_pat_pair-returns t c = record {
-  text = IfOk-weaker c.put_pat-2.result _ _ (λ v e. λ h. pair_pattern-writes c.args.pair.now.0 c.args.pair.now.1 c.args.depth c.args.next _ _ _ _ _ (omega arith) (c.in_ok-after.ensures.text (pat_formed _ h.1.0)) (c.in_ok-after.ensures.next (pat_formed _ h.1.0)) c.in_ok-put.ensures.text (e (pat_formed _ h.1.1.0))) c.put_pat-2.ensures.text;
-  next = IfOk-weaker c.put_pat-2.result _ _ (λ v e. λ h. e (pat_formed _ h.1.1.0) ∙ ap (λ m. m + length (bound c.args.pair.now.1)) (c.in_ok-after.ensures.next (pat_formed _ h.1.0)) ∙ sym (two-bound (bound c.args.pair.now.0) (bound c.args.pair.now.1) c.args.next)) c.put_pat-2.ensures.next;
-  room = room-later c.put_pat-2.result _ c.in_ok-after.ensures.room.0 c.put_pat-2.ensures.room;
-  grows = longer c.put_pat-2.result _ (le_trans c.in_ok-after.ensures.grows c.in_ok-put.ensures.grows) c.put_pat-2.ensures.grows;
+  text = IfOk-weaker c.put_pat-2.result _ _ (λ v e. λ h. pair_pattern-writes c.args.pair.now.0 c.args.pair.now.1 c.args.depth c.args.next _ _ _ _ _ (omega arith) (given-past _ c.put_pat.result _ c.in_ok-after.ensures.next c.put_pat.ensures.text (pat_formed _ h.1.0)) (given-number _ c.put_pat.result _ c.in_ok-after.ensures.next c.put_pat.ensures.next (pat_formed _ h.1.0)) c.in_ok-after.ensures.text (e (pat_formed _ h.1.1.0))) c.put_pat-2.ensures.text;
+  next = IfOk-weaker c.put_pat-2.result _ _ (λ v e. λ h. e (pat_formed _ h.1.1.0) ∙ ap (λ m. m + length (bound c.args.pair.now.1)) (given-number _ c.put_pat.result _ c.in_ok-after.ensures.next c.put_pat.ensures.next (pat_formed _ h.1.0)) ∙ sym (two-bound (bound c.args.pair.now.0) (bound c.args.pair.now.1) c.args.next)) c.put_pat-2.ensures.next;
+  room = room-later c.put_pat-2.result _ (given-room c.put_pat.result _ c.in_ok-after.ensures.next c.put_pat.ensures.room).0 c.put_pat-2.ensures.room;
+  grows = longer c.put_pat-2.result _ (le_trans (given-past _ c.put_pat.result _ c.in_ok-after.ensures.next c.put_pat.ensures.grows) c.in_ok-after.ensures.grows) c.put_pat-2.ensures.grows;
 }
 
 pub pattern_parts::put_joined-returns : goal.pattern_parts::put_joined-returns
 pattern_parts::put_joined-returns t c = record {
-  text = λ f g. after c.args.out.now.items (codes "(") ((operand_text (held c.args.left.now) (text_of pat c.args.left.now c.args.depth c.args.next)) ++ ((c.args.sign.now) ++ ((operand_text (held c.args.right.now) (text_of pat c.args.right.now c.args.depth (c.args.next + length (bound c.args.left.now)))) ++ (codes ")")))) (c.in_ok-put.ensures.text) (after c.put.new.out.items (operand_text (held c.args.left.now) (text_of pat c.args.left.now c.args.depth c.args.next)) ((c.args.sign.now) ++ ((operand_text (held c.args.right.now) (text_of pat c.args.right.now c.args.depth (c.args.next + length (bound c.args.left.now)))) ++ (codes ")"))) (c.in_ok-middle.ensures.text (pat_formed _ f)) (after c.put_pat_operand.new.out.items (c.args.sign.now) ((operand_text (held c.args.right.now) (text_of pat c.args.right.now c.args.depth (c.args.next + length (bound c.args.left.now)))) ++ (codes ")")) (c.in_ok-put-2.ensures.text) (after c.put-2.new.out.items (operand_text (held c.args.right.now) (text_of pat c.args.right.now c.args.depth (c.args.next + length (bound c.args.left.now)))) (codes ")") (shown c.put-2.new.out.items (ap (λ m. operand_text (held c.args.right.now) (text_of pat c.args.right.now c.args.depth m)) (sym (c.in_ok-middle.ensures.next (pat_formed _ f)))) (c.in_ok-after.ensures.text (pat_formed _ g))) (c.in_ok-put-3.ensures.text))));
-  next = λ f g. c.in_ok-after.ensures.next (pat_formed _ g) ∙ ap (λ m. m + length (bound c.args.right.now)) (c.in_ok-middle.ensures.next (pat_formed _ f));
-  room = (le_trans c.in_ok-middle.ensures.room.0 c.in_ok-after.ensures.room.0, le_trans c.in_ok-after.ensures.room.1 c.in_ok-put-3.ensures.grows);
-  grows = le_trans c.in_ok-put.ensures.grows (le_trans c.in_ok-middle.ensures.grows (le_trans c.in_ok-put-2.ensures.grows (le_trans c.in_ok-after.ensures.grows c.in_ok-put-3.ensures.grows)));
+  text = handed-number c.put_pat_operand-2.result c.put_past-2.result _ _ _ c.put_past-2.ensures.next c.put_pat_operand-2.ensures.text c.put_past-2.ensures.text (λ m w e. λ f g. after c.args.out.now.items (codes "(") ((operand_text (held c.args.left.now) (text_of pat c.args.left.now c.args.depth c.args.next)) ++ ((c.args.sign.now) ++ ((operand_text (held c.args.right.now) (text_of pat c.args.right.now c.args.depth (c.args.next + length (bound c.args.left.now)))) ++ (codes ")")))) (c.in_ok-put.ensures.text) (after c.put.new.out.items (operand_text (held c.args.left.now) (text_of pat c.args.left.now c.args.depth c.args.next)) ((c.args.sign.now) ++ ((operand_text (held c.args.right.now) (text_of pat c.args.right.now c.args.depth (c.args.next + length (bound c.args.left.now)))) ++ (codes ")"))) (given-past _ c.put_pat_operand.result _ c.in_ok-middle.ensures.next c.put_pat_operand.ensures.text (pat_formed _ f)) (after c.put_pat_operand.new.out.items (c.args.sign.now) ((operand_text (held c.args.right.now) (text_of pat c.args.right.now c.args.depth (c.args.next + length (bound c.args.left.now)))) ++ (codes ")")) (c.in_ok-middle.ensures.text) (after c.put_past.new.out.items (operand_text (held c.args.right.now) (text_of pat c.args.right.now c.args.depth (c.args.next + length (bound c.args.left.now)))) (codes ")") (shown c.put_past.new.out.items (ap (λ m. operand_text (held c.args.right.now) (text_of pat c.args.right.now c.args.depth m)) (sym (given-number _ c.put_pat_operand.result _ c.in_ok-middle.ensures.next c.put_pat_operand.ensures.next (pat_formed _ f)))) (w (pat_formed _ g))) (e)))));
+  next = handed-number c.put_pat_operand-2.result c.put_past-2.result _ _ _ c.put_past-2.ensures.next c.put_pat_operand-2.ensures.next c.put_past-2.ensures.text (λ m w e. λ f g. w (pat_formed _ g) ∙ ap (λ j. j + length (bound c.args.right.now)) (given-number _ c.put_pat_operand.result _ c.in_ok-middle.ensures.next c.put_pat_operand.ensures.next (pat_formed _ f)));
+  room = handed-number c.put_pat_operand-2.result c.put_past-2.result _ _ _ c.put_past-2.ensures.next c.put_pat_operand-2.ensures.room c.put_past-2.ensures.grows (λ m p q. (le_trans (given-room c.put_pat_operand.result _ c.in_ok-middle.ensures.next c.put_pat_operand.ensures.room).0 p.0, le_trans p.1 q));
+  grows = handed-number c.put_pat_operand-2.result c.put_past-2.result _ _ _ c.put_past-2.ensures.next c.put_pat_operand-2.ensures.grows c.put_past-2.ensures.grows (λ m p q. le_trans c.in_ok-put.ensures.grows (le_trans (given-past _ c.put_pat_operand.result _ c.in_ok-middle.ensures.next c.put_pat_operand.ensures.grows) (le_trans c.in_ok-middle.ensures.grows (le_trans p q))));
 }
 
 pub binds::put_left-returns : goal.binds::put_left-returns
@@ -334,42 +335,42 @@ binds::put_left-returns t c = record {
 
 pub pattern_parts::put_pat_list-returns : goal.pattern_parts::put_pat_list-returns
 pattern_parts::put_pat_list-returns t c = record {
-  text = λ h. members-writes pat c.args.members.now c.args.brackets.ending c.args.depth c.args.next _ _ _ _ _ _ _ _ _ c.in_ok-put.ensures.text (c.in_ok-middle.ensures.text h) (c.in_ok-middle.ensures.next h) (omega arith) c.in_ok-after.ensures.text c.in_ok-put-2.ensures.text;
-  next = λ h. c.in_ok-after.ensures.next ∙ ap (λ m. m + length (bound (leaf (rest c.args.brackets.ending)))) (c.in_ok-middle.ensures.next h);
-  room = (no_less (length (bound (leaf (rest c.args.brackets.ending)))) c.in_ok-middle.ensures.room.0 c.in_ok-after.ensures.next, le_trans c.in_ok-after.ensures.room c.in_ok-put-2.ensures.grows);
-  grows = le_trans c.in_ok-put.ensures.grows (le_trans c.in_ok-middle.ensures.grows (le_trans c.in_ok-after.ensures.grows c.in_ok-put-2.ensures.grows));
+  text = handed-number c.put_rest-after.result c.put_past.result _ _ _ c.put_past.ensures.next c.put_rest-after.ensures.text c.put_past.ensures.text (λ m w e. λ h. members-writes pat c.args.members.now c.args.brackets.ending c.args.depth c.args.next _ _ _ _ _ _ _ _ _ c.in_ok-put.ensures.text (c.in_ok-middle.ensures.text h) (c.in_ok-middle.ensures.next h) (omega arith) w e);
+  next = handed-number c.put_rest-after.result c.put_past.result _ _ _ c.put_past.ensures.next c.put_rest-after.ensures.next c.put_past.ensures.text (λ m w e. λ h. w ∙ ap (λ j. j + length (bound (leaf (rest c.args.brackets.ending)))) (c.in_ok-middle.ensures.next h));
+  room = handed-number c.put_rest-after.result c.put_past.result _ _ _ c.put_past.ensures.next (room-rest c.put_rest-after.result (length (bound (leaf (rest c.args.brackets.ending)))) _ c.in_ok-middle.ensures.room.0 c.put_rest-after.ensures.next c.put_rest-after.ensures.room) c.put_past.ensures.grows (λ m p q. (p.0, le_trans p.1 q));
+  grows = handed-number c.put_rest-after.result c.put_past.result _ _ _ c.put_past.ensures.next c.put_rest-after.ensures.grows c.put_past.ensures.grows (λ m p q. le_trans c.in_ok-put.ensures.grows (le_trans c.in_ok-middle.ensures.grows (le_trans p q)));
 }
 
 pub pattern_parts::put_pat_map-returns : goal.pattern_parts::put_pat_map-returns
 pattern_parts::put_pat_map-returns t c = record {
-  text = λ h. members-writes (pair_of pat) (map pair_tree c.args.pairs.now) c.args.ending c.args.depth c.args.next _ _ _ _ _ _ _ _ _ c.in_ok-put.ensures.text (c.in_ok-middle.ensures.text h) (c.in_ok-middle.ensures.next h) (omega (arith, length-map c.args.pairs.now pair_tree)) c.in_ok-after.ensures.text c.in_ok-put-2.ensures.text;
-  next = λ h. c.in_ok-after.ensures.next ∙ ap (λ m. m + length (bound (leaf (rest c.args.ending)))) (c.in_ok-middle.ensures.next h);
-  room = (no_less (length (bound (leaf (rest c.args.ending)))) c.in_ok-middle.ensures.room.0 c.in_ok-after.ensures.next, le_trans c.in_ok-after.ensures.room c.in_ok-put-2.ensures.grows);
-  grows = le_trans c.in_ok-put.ensures.grows (le_trans c.in_ok-middle.ensures.grows (le_trans c.in_ok-after.ensures.grows c.in_ok-put-2.ensures.grows));
+  text = handed-number c.put_rest-after.result c.put_past.result _ _ _ c.put_past.ensures.next c.put_rest-after.ensures.text c.put_past.ensures.text (λ m w e. λ h. members-writes (pair_of pat) (map pair_tree c.args.pairs.now) c.args.ending c.args.depth c.args.next _ _ _ _ _ _ _ _ _ c.in_ok-put.ensures.text (c.in_ok-middle.ensures.text h) (c.in_ok-middle.ensures.next h) (omega (arith, length-map c.args.pairs.now pair_tree)) w e);
+  next = handed-number c.put_rest-after.result c.put_past.result _ _ _ c.put_past.ensures.next c.put_rest-after.ensures.next c.put_past.ensures.text (λ m w e. λ h. w ∙ ap (λ j. j + length (bound (leaf (rest c.args.ending)))) (c.in_ok-middle.ensures.next h));
+  room = handed-number c.put_rest-after.result c.put_past.result _ _ _ c.put_past.ensures.next (room-rest c.put_rest-after.result (length (bound (leaf (rest c.args.ending)))) _ c.in_ok-middle.ensures.room.0 c.put_rest-after.ensures.next c.put_rest-after.ensures.room) c.put_past.ensures.grows (λ m p q. (p.0, le_trans p.1 q));
+  grows = handed-number c.put_rest-after.result c.put_past.result _ _ _ c.put_past.ensures.next c.put_rest-after.ensures.grows c.put_past.ensures.grows (λ m p q. le_trans c.in_ok-put.ensures.grows (le_trans c.in_ok-middle.ensures.grows (le_trans p q)));
 }
 
 pub pattern_parts::put_pat_send-returns : goal.pattern_parts::put_pat_send-returns
 pattern_parts::put_pat_send-returns t c = record {
-  text = λ h. shown c.args.out.now.items (pattern_send-text c.args.persistent c.args.channel.now c.args.args.now c.args.depth c.args.next (omega (arith, c.requires.0))) (after c.args.out.now.items (text_of name_pat c.args.channel.now c.args.depth c.args.next) ((marks c.args.persistent) ++ ((separated (codes ", ") (texts_of pat c.args.args.now c.args.depth (c.args.next + length (bound c.args.channel.now)))) ++ (codes ")"))) (c.in_ok-middle.ensures.text h.1.0) (after c.put_name_pat.new.out.items (marks c.args.persistent) ((separated (codes ", ") (texts_of pat c.args.args.now c.args.depth (c.args.next + length (bound c.args.channel.now)))) ++ (codes ")")) (shown c.put_name_pat.new.out.items (sym c.send_marks.ensures) c.in_ok-put.ensures.text) (after c.put.new.out.items (separated (codes ", ") (texts_of pat c.args.args.now c.args.depth (c.args.next + length (bound c.args.channel.now)))) (codes ")") (shown c.put.new.out.items (ap (λ m. separated (codes ", ") (texts_of pat c.args.args.now c.args.depth m)) (sym (c.in_ok-middle.ensures.next h.1.0))) (c.in_ok-after.ensures.text h.1.1.0.1)) (c.in_ok-put-2.ensures.text))));
-  next = λ h. c.in_ok-after.ensures.next h.1.1.0.1 ∙ ap (λ m. m + length (bound_all (trees c.args.args.now))) (c.in_ok-middle.ensures.next h.1.0) ∙ sym (two-bound (bound c.args.channel.now) (bound_all (trees c.args.args.now)) c.args.next);
-  room = (le_trans c.in_ok-middle.ensures.room.0 c.in_ok-after.ensures.room.0, le_trans c.in_ok-after.ensures.room.1 c.in_ok-put-2.ensures.grows);
-  grows = le_trans c.in_ok-middle.ensures.grows (le_trans c.in_ok-put.ensures.grows (le_trans c.in_ok-after.ensures.grows c.in_ok-put-2.ensures.grows));
+  text = handed-number c.put_pats.result c.put_past-2.result _ _ _ c.put_past-2.ensures.next c.put_pats.ensures.text c.put_past-2.ensures.text (λ m w e. λ h. shown c.args.out.now.items (pattern_send-text c.args.persistent c.args.channel.now c.args.args.now c.args.depth c.args.next (omega (arith, c.requires.0))) (after c.args.out.now.items (text_of name_pat c.args.channel.now c.args.depth c.args.next) ((marks c.args.persistent) ++ ((separated (codes ", ") (texts_of pat c.args.args.now c.args.depth (c.args.next + length (bound c.args.channel.now)))) ++ (codes ")"))) (given-past _ c.put_name_pat.result _ c.in_ok-middle.ensures.next c.put_name_pat.ensures.text h.1.0) (after c.put_name_pat.new.out.items (marks c.args.persistent) ((separated (codes ", ") (texts_of pat c.args.args.now c.args.depth (c.args.next + length (bound c.args.channel.now)))) ++ (codes ")")) (shown c.put_name_pat.new.out.items (sym c.send_marks.ensures) c.in_ok-middle.ensures.text) (after c.put_past.new.out.items (separated (codes ", ") (texts_of pat c.args.args.now c.args.depth (c.args.next + length (bound c.args.channel.now)))) (codes ")") (shown c.put_past.new.out.items (ap (λ m. separated (codes ", ") (texts_of pat c.args.args.now c.args.depth m)) (sym (given-number _ c.put_name_pat.result _ c.in_ok-middle.ensures.next c.put_name_pat.ensures.next h.1.0))) (w h.1.1.0.1)) (e)))));
+  next = handed-number c.put_pats.result c.put_past-2.result _ _ _ c.put_past-2.ensures.next c.put_pats.ensures.next c.put_past-2.ensures.text (λ m w e. λ h. w h.1.1.0.1 ∙ ap (λ j. j + length (bound_all (trees c.args.args.now))) (given-number _ c.put_name_pat.result _ c.in_ok-middle.ensures.next c.put_name_pat.ensures.next h.1.0) ∙ sym (two-bound (bound c.args.channel.now) (bound_all (trees c.args.args.now)) c.args.next));
+  room = handed-number c.put_pats.result c.put_past-2.result _ _ _ c.put_past-2.ensures.next c.put_pats.ensures.room c.put_past-2.ensures.grows (λ m p q. (le_trans (given-room c.put_name_pat.result _ c.in_ok-middle.ensures.next c.put_name_pat.ensures.room).0 p.0, le_trans p.1 q));
+  grows = handed-number c.put_pats.result c.put_past-2.result _ _ _ c.put_past-2.ensures.next c.put_pats.ensures.grows c.put_past-2.ensures.grows (λ m p q. le_trans (given-past _ c.put_name_pat.result _ c.in_ok-middle.ensures.next c.put_name_pat.ensures.grows) (le_trans c.in_ok-middle.ensures.grows (le_trans p q)));
 }
 
 pub pattern_parts::put_pat_bundle-returns : goal.pattern_parts::put_pat_bundle-returns
 pattern_parts::put_pat_bundle-returns t c = record {
-  text = λ h. shown c.args.out.now.items (pattern_bundle-text c.args.rights c.args.body.now c.args.depth c.args.next (omega (arith, c.requires.0))) (after c.args.out.now.items (rights_text c.args.rights) ((codes "{ ") ++ ((text_of pat c.args.body.now c.args.depth c.args.next) ++ (codes " }"))) (shown c.args.out.now.items (sym c.rights_word.ensures) c.in_ok-put.ensures.text) (after c.put.new.out.items (codes "{ ") ((text_of pat c.args.body.now c.args.depth c.args.next) ++ (codes " }")) (c.in_ok-put-2.ensures.text) (after c.put-2.new.out.items (text_of pat c.args.body.now c.args.depth c.args.next) (codes " }") (c.in_ok-after.ensures.text (pat_formed _ h.1.0)) (c.in_ok-put-3.ensures.text))));
-  next = λ h. c.in_ok-after.ensures.next (pat_formed _ h.1.0) ∙ sym (one-bound (bound c.args.body.now) c.args.next);
-  room = (c.in_ok-after.ensures.room.0, le_trans c.in_ok-after.ensures.room.1 c.in_ok-put-3.ensures.grows);
-  grows = le_trans c.in_ok-put.ensures.grows (le_trans c.in_ok-put-2.ensures.grows (le_trans c.in_ok-after.ensures.grows c.in_ok-put-3.ensures.grows));
+  text = handed-number c.put_pat.result c.put_past.result _ _ _ c.put_past.ensures.next c.put_pat.ensures.text c.put_past.ensures.text (λ m w e. λ h. shown c.args.out.now.items (pattern_bundle-text c.args.rights c.args.body.now c.args.depth c.args.next (omega (arith, c.requires.0))) (after c.args.out.now.items (rights_text c.args.rights) ((codes "{ ") ++ ((text_of pat c.args.body.now c.args.depth c.args.next) ++ (codes " }"))) (shown c.args.out.now.items (sym c.rights_word.ensures) (given _ c.put.result c.in_ok-put_then.ensures.done c.put.ensures.text)) (after c.put.new.out.items (codes "{ ") ((text_of pat c.args.body.now c.args.depth c.args.next) ++ (codes " }")) (c.in_ok-put_then.ensures.text) (after c.put_then.new.out.items (text_of pat c.args.body.now c.args.depth c.args.next) (codes " }") (w (pat_formed _ h.1.0)) (e)))));
+  next = handed-number c.put_pat.result c.put_past.result _ _ _ c.put_past.ensures.next c.put_pat.ensures.next c.put_past.ensures.text (λ m w e. λ h. w (pat_formed _ h.1.0) ∙ sym (one-bound (bound c.args.body.now) c.args.next));
+  room = handed-number c.put_pat.result c.put_past.result _ _ _ c.put_past.ensures.next c.put_pat.ensures.room c.put_past.ensures.grows (λ m p q. (p.0, le_trans p.1 q));
+  grows = handed-number c.put_pat.result c.put_past.result _ _ _ c.put_past.ensures.next c.put_pat.ensures.grows c.put_past.ensures.grows (λ m p q. le_trans (given _ c.put.result c.in_ok-put_then.ensures.done c.put.ensures.grows) (le_trans c.in_ok-put_then.ensures.grows (le_trans p q)));
 }
 
 pub pattern_parts::put_closed-returns : goal.pattern_parts::put_closed-returns
 pattern_parts::put_closed-returns t c = record {
-  text = λ h. closed-writes c.args.part.now c.args.depth c.args.next _ _ c.look_inside.ensures c.in_ok-put_part.ensures.text h;
-  next = λ h. omega (arith, ap length (closed-bound c.args.part.now c.look_inside.ensures h));
-  room = (le_refl c.args.next, le_trans c.requires.room.1 c.in_ok-put_part.ensures.grows);
-  grows = c.in_ok-put_part.ensures.grows;
+  text = handed-value c.put_part.result c.numbered.result _ _ _ c.numbered.ensures.done c.put_part.ensures.text c.numbered.ensures.next (λ m w e. λ h. closed-writes c.args.part.now c.args.depth c.args.next _ _ c.look_inside.ensures w h);
+  next = IfOk-weaker c.numbered.result _ _ (λ m e. λ h. omega (arith, e, ap length (closed-bound c.args.part.now c.look_inside.ensures h))) c.numbered.ensures.next;
+  room = handed-value c.put_part.result c.numbered.result _ _ _ c.numbered.ensures.done c.put_part.ensures.grows c.numbered.ensures.next (λ m p e. room-at (le_refl c.args.next) (le_trans c.requires.room.1 p) e);
+  grows = handed-value c.put_part.result c.numbered.result _ _ _ c.numbered.ensures.done c.put_part.ensures.grows c.numbered.ensures.next (λ m p e. p);
 }
 
 pub parts::put_part-returns-in-Ground : goal.parts::put_part-returns-in-Ground
@@ -452,20 +453,20 @@ pattern_parts::put_pat_part-returns-in-Simple t c = record {
   grows = c.put_and-in-Simple.ensures.grows;
 }
 
-pub pattern_parts::put_pat_part-returns-in_ok-put_braced-in-Same : goal.pattern_parts::put_pat_part-returns-in_ok-put_braced-in-Same
-pattern_parts::put_pat_part-returns-in_ok-put_braced-in-Same t c = record {
-  text = λ h. let k = subst (λ q. Formed IsFine name_part (pat_part_tree q)) c.in-Same.is h in shown c.args.out.now.items (ap (λ q. text_of pat_part (pat_part_tree q) c.args.depth c.args.next) c.in-Same.is ∙ same-text c.in-Same.t c.args.depth c.args.next) (after c.args.out.now.items (codes "=") (braced (text_of term c.in-Same.t c.args.depth (max (c.args.depth + 0) c.args.depth))) c.in_ok-put-in-Same.ensures.text (c.in_ok-put_braced-in-Same.ensures.text k.1.0 (max (c.args.depth + 0) c.args.depth)));
-  next = λ h. sym (nothing_more c.args.next) ∙ ap (λ q. c.args.next + length (bound (pat_part_tree q))) (sym c.in-Same.is);
-  room = (le_refl c.args.next, le_trans c.requires.room.1 (le_trans c.in_ok-put-in-Same.ensures.grows c.in_ok-put_braced-in-Same.ensures.grows));
-  grows = le_trans c.in_ok-put-in-Same.ensures.grows c.in_ok-put_braced-in-Same.ensures.grows;
+pub pattern_parts::put_pat_part-returns-in_ok-put-in-Same : goal.pattern_parts::put_pat_part-returns-in_ok-put-in-Same
+pattern_parts::put_pat_part-returns-in_ok-put-in-Same t c = record {
+  text = handed-value c.put_braced.result c.numbered.result _ _ _ c.numbered.ensures.done c.put_braced.ensures.text c.numbered.ensures.next (λ m w e. λ h. let k = subst (λ q. Formed IsFine name_part (pat_part_tree q)) c.in-Same.is h in shown c.args.out.now.items (ap (λ q. text_of pat_part (pat_part_tree q) c.args.depth c.args.next) c.in-Same.is ∙ same-text c.in-Same.t c.args.depth c.args.next) (after c.args.out.now.items (codes "=") (braced (text_of term c.in-Same.t c.args.depth (max (c.args.depth + 0) c.args.depth))) c.in_ok-put-in-Same.ensures.text (w k.1.0 (max (c.args.depth + 0) c.args.depth))));
+  next = IfOk-weaker c.numbered.result _ _ (λ m e. λ h. e ∙ sym (nothing_more c.args.next) ∙ ap (λ q. c.args.next + length (bound (pat_part_tree q))) (sym c.in-Same.is)) c.numbered.ensures.next;
+  room = handed-value c.put_braced.result c.numbered.result _ _ _ c.numbered.ensures.done c.put_braced.ensures.grows c.numbered.ensures.next (λ m p e. room-at (le_refl c.args.next) (le_trans c.requires.room.1 (le_trans c.in_ok-put-in-Same.ensures.grows p)) e);
+  grows = handed-value c.put_braced.result c.numbered.result _ _ _ c.numbered.ensures.done c.put_braced.ensures.grows c.numbered.ensures.next (λ m p e. le_trans c.in_ok-put-in-Same.ensures.grows p);
 }
 
-pub pattern_parts::put_pat_part-returns-in_ok-put_ground-in-Ground : goal.pattern_parts::put_pat_part-returns-in_ok-put_ground-in-Ground
-pattern_parts::put_pat_part-returns-in_ok-put_ground-in-Ground t c = record {
-  text = λ h. shown c.args.out.now.items (ap (λ q. text_of pat_part (pat_part_tree q) c.args.depth c.args.next) c.in-Ground.is ∙ ground_pattern-text c.in-Ground.g c.args.depth c.args.next) c.in_ok-put_ground-in-Ground.ensures.text;
-  next = λ h. sym (nothing_more c.args.next) ∙ ap (λ vs. c.args.next + length vs) (sym (ground-bound c.in-Ground.g)) ∙ ap (λ q. c.args.next + length (bound (pat_part_tree q))) (sym c.in-Ground.is);
-  room = (le_refl c.args.next, le_trans c.requires.room.1 c.in_ok-put_ground-in-Ground.ensures.grows);
-  grows = c.in_ok-put_ground-in-Ground.ensures.grows;
+pub pattern_parts::put_pat_part-returns-in-Ground : goal.pattern_parts::put_pat_part-returns-in-Ground
+pattern_parts::put_pat_part-returns-in-Ground t c = record {
+  text = handed-value c.put_ground.result c.numbered-in-Ground.result _ _ _ c.numbered-in-Ground.ensures.done c.put_ground.ensures.text c.numbered-in-Ground.ensures.next (λ m w e. λ h. shown c.args.out.now.items (ap (λ q. text_of pat_part (pat_part_tree q) c.args.depth c.args.next) c.in-Ground.is ∙ ground_pattern-text c.in-Ground.g c.args.depth c.args.next) w);
+  next = IfOk-weaker c.numbered-in-Ground.result _ _ (λ m e. λ h. e ∙ sym (nothing_more c.args.next) ∙ ap (λ vs. c.args.next + length vs) (sym (ground-bound c.in-Ground.g)) ∙ ap (λ q. c.args.next + length (bound (pat_part_tree q))) (sym c.in-Ground.is)) c.numbered-in-Ground.ensures.next;
+  room = handed-value c.put_ground.result c.numbered-in-Ground.result _ _ _ c.numbered-in-Ground.ensures.done c.put_ground.ensures.grows c.numbered-in-Ground.ensures.next (λ m p e. room-at (le_refl c.args.next) (le_trans c.requires.room.1 p) e);
+  grows = handed-value c.put_ground.result c.numbered-in-Ground.result _ _ _ c.numbered-in-Ground.ensures.done c.put_ground.ensures.grows c.numbered-in-Ground.ensures.next (λ m p e. p);
 }
 
 pub pattern_parts::put_pat_part-returns-in-Both : goal.pattern_parts::put_pat_part-returns-in-Both
@@ -548,11 +549,11 @@ pattern_parts::put_pat_part-returns-in-Closed t c = record {
   grows = c.put_closed.ensures.grows;
 }
 
-pub parts::put_unary-returns-in_ok-put_operand-in-Not : goal.parts::put_unary-returns-in_ok-put_operand-in-Not
-parts::put_unary-returns-in_ok-put_operand-in-Not t c = record { text = IfOk-weaker c.put-in-Not.result _ _ (λ v e. same_writes _ _ c.args.depth c.args.out.now.items _ (not-writes c.args.arg.now c.args.depth c.args.out.now.items _ _ _ c.in_ok-put-in-Not.ensures.text c.in_ok-put_operand-in-Not.ensures.text e) (ap (λ o. one (unary o) c.args.arg.now) (sym c.in-Not.is))) c.put-in-Not.ensures.text; grows = longer c.put-in-Not.result _ (le_trans c.in_ok-put-in-Not.ensures.grows c.in_ok-put_operand-in-Not.ensures.grows) c.put-in-Not.ensures.grows }
+pub parts::put_unary-returns-in_ok-put-in-Not : goal.parts::put_unary-returns-in_ok-put-in-Not
+parts::put_unary-returns-in_ok-put-in-Not t c = record { text = handed c.put_operand.result c.put_then.result _ _ _ c.put_then.ensures.done c.put_operand.ensures.text c.put_then.ensures.text (λ w e. same_writes _ _ c.args.depth c.args.out.now.items _ (not-writes c.args.arg.now c.args.depth c.args.out.now.items _ _ _ c.in_ok-put-in-Not.ensures.text w e) (ap (λ o. one (unary o) c.args.arg.now) (sym c.in-Not.is))); grows = handed c.put_operand.result c.put_then.result _ _ _ c.put_then.ensures.done c.put_operand.ensures.grows c.put_then.ensures.grows (λ p q. le_trans c.in_ok-put-in-Not.ensures.grows (le_trans p q)) }
 
-pub parts::put_unary-returns-in_ok-put_braced-in-Neg : goal.parts::put_unary-returns-in_ok-put_braced-in-Neg
-parts::put_unary-returns-in_ok-put_braced-in-Neg t c = record { text = IfOk-weaker c.put-in-Neg-2.result _ _ (λ v e. same_writes _ _ c.args.depth c.args.out.now.items _ (neg-writes c.args.arg.now c.args.depth c.args.out.now.items _ _ _ c.in_ok-put-in-Neg.ensures.text c.in_ok-put_braced-in-Neg.ensures.text e) (ap (λ o. one (unary o) c.args.arg.now) (sym c.in-Neg.is))) c.put-in-Neg-2.ensures.text; grows = longer c.put-in-Neg-2.result _ (le_trans c.in_ok-put-in-Neg.ensures.grows c.in_ok-put_braced-in-Neg.ensures.grows) c.put-in-Neg-2.ensures.grows }
+pub parts::put_unary-returns-in_ok-put-in-Neg : goal.parts::put_unary-returns-in_ok-put-in-Neg
+parts::put_unary-returns-in_ok-put-in-Neg t c = record { text = handed c.put_braced.result c.put_then-in-Neg.result _ _ _ c.put_then-in-Neg.ensures.done c.put_braced.ensures.text c.put_then-in-Neg.ensures.text (λ w e. same_writes _ _ c.args.depth c.args.out.now.items _ (neg-writes c.args.arg.now c.args.depth c.args.out.now.items _ _ _ c.in_ok-put-in-Neg.ensures.text w e) (ap (λ o. one (unary o) c.args.arg.now) (sym c.in-Neg.is))); grows = handed c.put_braced.result c.put_then-in-Neg.result _ _ _ c.put_then-in-Neg.ensures.done c.put_braced.ensures.grows c.put_then-in-Neg.ensures.grows (λ p q. le_trans c.in_ok-put-in-Neg.ensures.grows (le_trans p q)) }
 
 pub terms::put_operand-put_term-requires : goal.terms::put_operand-put_term-requires
 terms::put_operand-put_term-requires t c = (omega arith, c.requires)
@@ -582,7 +583,7 @@ pub terms::put_pair-put_term-requires : goal.terms::put_pair-put_term-requires
 terms::put_pair-put_term-requires t c = (omega arith, c.requires)
 
 pub terms::put_pair-put_term-requires-2 : goal.terms::put_pair-put_term-requires-2
-terms::put_pair-put_term-requires-2 t c = (omega arith, le_trans c.requires (le_trans c.in_ok-put_term.ensures.grows c.in_ok-put.ensures.grows))
+terms::put_pair-put_term-requires-2 t c = (omega arith, le_trans c.requires (le_trans (given _ c.put_term.result c.in_ok-put_then.ensures.done c.put_term.ensures.grows) c.in_ok-put_then.ensures.grows))
 
 pub parts::put_part-put_members-requires : goal.parts::put_part-put_members-requires
 parts::put_part-put_members-requires t c = (omega (arith, ap (λ q. weight (part_tree q)) c.in-List.is, ap (λ us. weights (trees us)) c.deref.ensures.value), c.requires.room)
@@ -627,22 +628,22 @@ pub parts::put_send-put_name-requires : goal.parts::put_send-put_name-requires
 parts::put_send-put_name-requires t c = (omega arith, c.requires)
 
 pub parts::put_send-put_terms-requires : goal.parts::put_send-put_terms-requires
-parts::put_send-put_terms-requires t c = (omega arith, le_trans c.requires (le_trans c.in_ok-put_name.ensures.grows c.in_ok-put.ensures.grows))
+parts::put_send-put_terms-requires t c = (omega arith, le_trans c.requires (le_trans (given _ c.put_name.result c.in_ok-put_then.ensures.done c.put_name.ensures.grows) c.in_ok-put_then.ensures.grows))
 
 pub parts::put_receive-put_binds-requires : goal.parts::put_receive-put_binds-requires
 parts::put_receive-put_binds-requires t c = (omega arith, le_trans c.requires c.in_ok-put.ensures.grows)
 
 pub parts::put_receive-put_block-requires : goal.parts::put_receive-put_block-requires
-parts::put_receive-put_block-requires t c = (omega arith, le_trans c.in_ok-inner.ensures.room.1 c.in_ok-put-2.ensures.grows)
+parts::put_receive-put_block-requires t c = (omega arith, le_trans (given-room c.put_binds.result _ c.in_ok-inner.ensures.next c.put_binds.ensures.room).1 c.in_ok-inner.ensures.grows)
 
 pub parts::put_new-put_block-requires : goal.parts::put_new-put_block-requires
-parts::put_new-put_block-requires t c = (omega arith, le_trans c.in_ok-inner.ensures.room c.in_ok-put-2.ensures.grows)
+parts::put_new-put_block-requires t c = (omega arith, le_trans (given-number _ c.put_declared.result _ c.in_ok-inner.ensures.next c.put_declared.ensures.room) c.in_ok-inner.ensures.grows)
 
 pub parts::put_match-put_term-requires : goal.parts::put_match-put_term-requires
 parts::put_match-put_term-requires t c = (omega arith, le_trans c.requires c.in_ok-put.ensures.grows)
 
 pub parts::put_match-put_cases-requires : goal.parts::put_match-put_cases-requires
-parts::put_match-put_cases-requires t c = (omega arith, le_trans c.requires (le_trans c.in_ok-put.ensures.grows (le_trans c.in_ok-put_term.ensures.grows c.in_ok-put-2.ensures.grows)))
+parts::put_match-put_cases-requires t c = (omega arith, le_trans c.requires (le_trans c.in_ok-put.ensures.grows (le_trans (given _ c.put_term.result c.in_ok-put_then.ensures.done c.put_term.ensures.grows) c.in_ok-put_then.ensures.grows)))
 
 pub parts::put_bundle-put_block-requires : goal.parts::put_bundle-put_block-requires
 parts::put_bundle-put_block-requires t c = (omega arith, le_trans c.requires c.in_ok-put.ensures.grows)
@@ -651,13 +652,13 @@ pub parts::put_binary-put_operand-requires : goal.parts::put_binary-put_operand-
 parts::put_binary-put_operand-requires t c = (omega arith, le_trans c.requires c.in_ok-put.ensures.grows)
 
 pub parts::put_binary-put_operand-requires-2 : goal.parts::put_binary-put_operand-requires-2
-parts::put_binary-put_operand-requires-2 t c = (omega arith, le_trans c.requires (le_trans c.in_ok-put.ensures.grows (le_trans c.in_ok-put_operand.ensures.grows c.in_ok-put-2.ensures.grows)))
+parts::put_binary-put_operand-requires-2 t c = (omega arith, le_trans c.requires (le_trans c.in_ok-put.ensures.grows (le_trans (given _ c.put_operand.result c.in_ok-put_then.ensures.done c.put_operand.ensures.grows) c.in_ok-put_then.ensures.grows)))
 
 pub binds::put_bind-put_left-requires : goal.binds::put_bind-put_left-requires
 binds::put_bind-put_left-requires t c = (omega (arith, ap (λ us. weights (trees us)) c.deref.ensures.value), c.requires)
 
 pub binds::put_bind-put_name-requires : goal.binds::put_bind-put_name-requires
-binds::put_bind-put_name-requires t c = (omega arith, le_trans c.requires.0 (le_trans c.requires.1 (le_trans c.in_ok-after.ensures.grows (le_trans c.in_ok-put_space_since.ensures.grows c.in_ok-put.ensures.grows))))
+binds::put_bind-put_name-requires t c = (omega arith, le_trans c.requires.0 (le_trans c.requires.1 (le_trans c.in_ok-after.ensures.grows (le_trans (given _ c.put_space_since.result c.in_ok-put_then.ensures.done c.put_space_since.ensures.grows) c.in_ok-put_then.ensures.grows))))
 
 pub binds::put_left-put_name_pats-requires : goal.binds::put_left-put_name_pats-requires
 binds::put_left-put_name_pats-requires t c = (omega arith, c.requires)
@@ -666,13 +667,13 @@ pub binds::put_case-put_pat-requires : goal.binds::put_case-put_pat-requires
 binds::put_case-put_pat-requires t c = (omega arith, (le_refl c.args.depth, le_trans c.requires c.in_ok-put.ensures.grows))
 
 pub binds::put_case-put_block-requires : goal.binds::put_case-put_block-requires
-binds::put_case-put_block-requires t c = (omega arith, le_trans c.in_ok-inner.ensures.room.1 c.in_ok-put-2.ensures.grows)
+binds::put_case-put_block-requires t c = (omega arith, le_trans (given-room c.put_pat.result _ c.in_ok-inner.ensures.next c.put_pat.ensures.room).1 c.in_ok-inner.ensures.grows)
 
 pub patterns::put_pat_operand-put_pat-requires : goal.patterns::put_pat_operand-put_pat-requires
 patterns::put_pat_operand-put_pat-requires t c = (omega arith, c.requires)
 
-pub patterns::put_pat_operand-put_pat-requires-2 : goal.patterns::put_pat_operand-put_pat-requires-2
-patterns::put_pat_operand-put_pat-requires-2 t c = (omega arith, (c.requires.0, le_trans c.requires.1 c.in_ok-put.ensures.grows))
+pub patterns::put_pat_operand-put_pat-inner-requires : goal.patterns::put_pat_operand-put_pat-inner-requires
+patterns::put_pat_operand-put_pat-inner-requires t c = (omega arith, (c.requires.0, le_trans c.requires.1 c.in_ok-put.ensures.grows))
 
 pub patterns::put_name_pat-put_pat-requires : goal.patterns::put_name_pat-put_pat-requires
 patterns::put_name_pat-put_pat-requires t c = (omega arith, c.requires)
@@ -684,13 +685,13 @@ pub patterns::put_pat_pair-put_pat-requires : goal.patterns::put_pat_pair-put_pa
 patterns::put_pat_pair-put_pat-requires t c = (omega arith, c.requires)
 
 pub patterns::put_pat_pair-put_pat-requires-2 : goal.patterns::put_pat_pair-put_pat-requires-2
-patterns::put_pat_pair-put_pat-requires-2 t c = (omega arith, (le_trans c.requires.0 c.in_ok-after.ensures.room.0, le_trans c.in_ok-after.ensures.room.1 c.in_ok-put.ensures.grows))
+patterns::put_pat_pair-put_pat-requires-2 t c = (omega arith, (le_trans c.requires.0 (given-room c.put_pat.result _ c.in_ok-after.ensures.next c.put_pat.ensures.room).0, le_trans (given-room c.put_pat.result _ c.in_ok-after.ensures.next c.put_pat.ensures.room).1 c.in_ok-after.ensures.grows))
 
 pub pattern_parts::put_joined-put_pat_operand-requires : goal.pattern_parts::put_joined-put_pat_operand-requires
 pattern_parts::put_joined-put_pat_operand-requires t c = (omega arith, (c.requires.0, le_trans c.requires.1 c.in_ok-put.ensures.grows))
 
 pub pattern_parts::put_joined-put_pat_operand-requires-2 : goal.pattern_parts::put_joined-put_pat_operand-requires-2
-pattern_parts::put_joined-put_pat_operand-requires-2 t c = (omega arith, (le_trans c.requires.0 c.in_ok-middle.ensures.room.0, le_trans c.in_ok-middle.ensures.room.1 c.in_ok-put-2.ensures.grows))
+pattern_parts::put_joined-put_pat_operand-requires-2 t c = (omega arith, (le_trans c.requires.0 (given-room c.put_pat_operand.result _ c.in_ok-middle.ensures.next c.put_pat_operand.ensures.room).0, le_trans (given-room c.put_pat_operand.result _ c.in_ok-middle.ensures.next c.put_pat_operand.ensures.room).1 c.in_ok-middle.ensures.grows))
 
 pub pattern_parts::put_pat_list-put_pats-requires : goal.pattern_parts::put_pat_list-put_pats-requires
 pattern_parts::put_pat_list-put_pats-requires t c = (omega arith, (c.requires.0, le_trans c.requires.1 c.in_ok-put.ensures.grows))
@@ -702,10 +703,10 @@ pub pattern_parts::put_pat_send-put_name_pat-requires : goal.pattern_parts::put_
 pattern_parts::put_pat_send-put_name_pat-requires t c = (omega arith, c.requires)
 
 pub pattern_parts::put_pat_send-put_pats-requires : goal.pattern_parts::put_pat_send-put_pats-requires
-pattern_parts::put_pat_send-put_pats-requires t c = (omega arith, (le_trans c.requires.0 c.in_ok-middle.ensures.room.0, le_trans c.in_ok-middle.ensures.room.1 c.in_ok-put.ensures.grows))
+pattern_parts::put_pat_send-put_pats-requires t c = (omega arith, (le_trans c.requires.0 (given-room c.put_name_pat.result _ c.in_ok-middle.ensures.next c.put_name_pat.ensures.room).0, le_trans (given-room c.put_name_pat.result _ c.in_ok-middle.ensures.next c.put_name_pat.ensures.room).1 c.in_ok-middle.ensures.grows))
 
 pub pattern_parts::put_pat_bundle-put_pat-requires : goal.pattern_parts::put_pat_bundle-put_pat-requires
-pattern_parts::put_pat_bundle-put_pat-requires t c = (omega arith, (c.requires.0, le_trans c.requires.1 (le_trans c.in_ok-put.ensures.grows c.in_ok-put-2.ensures.grows)))
+pattern_parts::put_pat_bundle-put_pat-requires t c = (omega arith, (c.requires.0, le_trans c.requires.1 (le_trans (given _ c.put.result c.in_ok-put_then.ensures.done c.put.ensures.grows) c.in_ok-put_then.ensures.grows)))
 
 pub pattern_parts::put_pat_part-put_joined-requires : goal.pattern_parts::put_pat_part-put_joined-requires
 pattern_parts::put_pat_part-put_joined-requires t c = (omega (arith, ap (λ q. weight (pat_part_tree q)) c.in-Both.is), c.requires.room)
@@ -733,3 +734,6 @@ pattern_parts::put_pat_part-put_pat_send-requires t c = (omega (arith, ap (λ q.
 
 pub pattern_parts::put_pat_part-put_pat_bundle-requires : goal.pattern_parts::put_pat_part-put_pat_bundle-requires
 pattern_parts::put_pat_part-put_pat_bundle-requires t c = (omega (arith, ap (λ q. weight (pat_part_tree q)) c.in-Bundle.is), c.requires.room)
+
+pub parts::put_method-put_terms-requires : goal.parts::put_method-put_terms-requires
+parts::put_method-put_terms-requires t c = (omega arith, omega (arith, c.in_ok-put.ensures.grows, (given _ c.put_operand.result c.in_ok-put_then.ensures.done c.put_operand.ensures.grows), c.in_ok-put_then.ensures.grows, (given _ c.put-2.result c.in_ok-put_then-2.ensures.done c.put-2.ensures.grows), c.in_ok-put_then-2.ensures.grows))

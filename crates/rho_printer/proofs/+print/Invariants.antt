@@ -2,8 +2,8 @@ use Rattle.std.proofs.Common.{◌≤◌, ◌*◌, ◌+◌, map, length, codes}
 use Rattle.calculus.specs.Form.{term, part, a_bind, a_case, pat, name_pat, pat_part, name_part, pair_of}
 use Rattle.calculus.specs.Tree.{weight, weights, trees}
 use Rattle.rho_term.specs.Parts.{part_tree, pat_part_tree, pair_tree, bind_tree, case_tree}
-use Rattle.rho_printer.specs.Texts.{text_of, bind_text_of, HasRoom}
-use Rattle.rho_printer.proofs.Lists.{StillWrites, StillFrom}
+use Rattle.printed_leaves.specs.Texts.{text_of, bind_text_of, HasRoom}
+use Rattle.printed_leaves.proofs.Lists.{StillWrites, StillFrom}
 use Rattle.rho_printer.proofs.+print.Given as goal
 
 abbrev pub decreases-terms::put_term : goal.decreases-terms::put_term

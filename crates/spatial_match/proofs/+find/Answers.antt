@@ -19,20 +19,26 @@ use Rattle.rho_term.specs.declared.term.Part.{Part}
 use Rattle.rho_term.specs.declared.term.PatPart.{PatPart}
 use Rattle.rho_term.proofs.Trees.{tree-at, ordered-at}
 use Rattle.spatial_match.specs.declared.split.Split.{Split}
-use Rattle.spatial_match.specs.Given.{AllReady, AllTries, Ready, Tries}
-use Rattle.spatial_match.specs.Search.{AtMostOne, has, left_from, first_way, member_at, may_rest, MemberWay}
-use Rattle.spatial_match.specs.Found.{IsFirst, IsFirstWay, IsFirstMembers, Way, found, may_leave, remaining, tried, tried_pats, tried_pairs}
+use Rattle.match_targets.specs.Targets.{AllReady, Ready, remaining}
+use Rattle.spatial_match.specs.Given.{AllTries, Tries}
+use Rattle.spatial_match.specs.Search.{AtMostOne, member_at}
+use Rattle.match_targets.specs.Found.{first_way, may_rest, MemberWay, IsFirst, IsFirstMembers}
+use Rattle.free_places.specs.Places.{left_from}
+use Rattle.spatial_match.specs.Found.{IsFirstWay, Way, found, may_leave, tried, tried_pats, tried_pairs}
 use Rattle.spatial_match.proofs.+find.Goals as goal
 use Rattle.spatial_match.proofs.Firsts.{none-of, some-of, no_way-of, way-of, no_members-of, members-of, both-second-none, both-some, and-no-more}
-use Rattle.spatial_match.proofs.Keeping.{is-free}
-use Rattle.spatial_match.proofs.Leaving.{remaining-all, whole-ready}
-use Rattle.spatial_match.proofs.Readying.{list-ready, tuple-ready, set-ready, map-ready, channel-ready, data-ready, body-ready, part-ready, ready-at, ready-of, tries-at, tries-of, tuple-tries, row-tries}
+use Rattle.free_places.proofs.Counting.{next-of, none-of as none-of-free}
+use Rattle.match_targets.proofs.Leaving.{remaining-all, whole-ready}
+use Rattle.match_targets.proofs.Readying.{list-ready, tuple-ready, set-ready, map-ready, channel-ready, data-ready, body-ready, part-ready, ready-at, ready-of}
+use Rattle.spatial_match.proofs.Trying.{tries-at, tries-of, tuple-tries, row-tries}
 use Rattle.spatial_match.proofs.Rows.{NoneBefore, wide-at, found-at, length-each, length-row, none-next}
 use Rattle.spatial_match.proofs.Sets.{Reaches, reaches-next, reaches-none, reaches-short}
-use Rattle.spatial_match.proofs.Shaping.{ok_map, list-found, tuple-found, set-found, map-found, members-found, send-found}
-use Rattle.spatial_match.proofs.Steps.{part-starts, part-none-failed, part-next-failed, part-repeated, part-passes, part-stops, part-ends, place-refused, place-dead, place-taking, part-around, part-around-none, end-wide-none, end-wide, end-thin-none, end-thin, pattern-none, pattern-some}
-use Rattle.spatial_match.proofs.Taking.{member-starts, member-none-failed, member-next-failed, member-repeated, member-passes, member-stops, member-ends, member-refused, member-dead, member-taking}
-use Rattle.spatial_match.proofs.Weighing.{target_at, held_length, weight-beside, weight-pos, tree-beside, heavy, pat-tries, pat-one, pat-normal, term-ascends, term-normal}
+use Rattle.match_targets.proofs.Ending.{ok_map}
+use Rattle.spatial_match.proofs.Shaping.{list-found, tuple-found, set-found, map-found, members-found, send-found}
+use Rattle.spatial_match.proofs.Steps.{part-starts, part-none-failed, part-next-failed, part-repeated, part-passes, part-stops, part-ends, part-reaches, part-still-failed, place-refused, place-dead, place-taking, part-around, part-around-none, end-wide-none, end-wide, end-thin-none, end-thin, pattern-none, pattern-some}
+use Rattle.spatial_match.proofs.Taking.{member-starts, member-none-failed, member-next-failed, member-repeated, member-passes, member-stops, member-ends, member-reaches, member-still-failed, member-refused, member-dead, member-taking}
+use Rattle.match_targets.proofs.Holding.{target_at, held_length, term-ascends, term-normal}
+use Rattle.spatial_match.proofs.Weighing.{weight-beside, weight-pos, tree-beside, heavy, pat-tries, pat-one, pat-normal}
 
 -- a target of this part
 ready_as : (p q : Part) → p ≡ q → Ready term (only (part_tree p)) → Ready term (only (part_tree q))
@@ -259,37 +265,54 @@ members::find_members-loop-j-init t c =
     let s = c.args.search in
     let l : c.args.i < length s.pats.now = omega arith in (
       member-starts s.rest (λ vs. only (many set vs)) (tried_pats s.pats.now) c.args.used.now s.terms.now c.args.i (omega (arith, length-row s.pats.now)) (row-thin s.pats.now c.args.i c.index-pats-i.result l c.index-pats-i.is (ap label_of c.parts-given.ensures.parts)),
-      member-none-failed s.rest (λ vs. only (many set vs)) (tried_pats s.pats.now) c.args.used.now s.terms.now c.args.i (omega (arith, length-row s.pats.now)),
+      (member-none-failed s.rest (λ vs. only (many set vs)) (tried_pats s.pats.now) c.args.used.now s.terms.now c.args.i (omega (arith, length-row s.pats.now)), omega arith),
     )
 
 pub members::find_members-try_member-requires : goal.members::find_members-try_member-requires
 members::find_members-try_member-requires t c =
     let s = c.args.search in
     let l : c.args.i < length s.pats.now = omega arith in
-    (omega (arith, heavy_row s.pats.now), (l, (c.loop-j-test.true, (c.loop-j.invariant.1, (c.requires.tries, (c.requires.ready, c.requires.ordered))))))
+    let g = next-of c.args.used.now c.loop-j.from (length s.terms.now) c.next_free.result c.in-Some.j c.in-Some.is c.next_free.ensures in
+    let b = member-still-failed s.rest (λ vs. only (many set vs)) (tried_pats s.pats.now) c.args.used.now s.terms.now c.args.i (omega (arith, length-row s.pats.now)) c.loop-j.from c.in-Some.j (length s.terms.now) g c.loop-j.invariant.1.0 in
+    (omega (arith, heavy_row s.pats.now), (l, (g.within, (g.free, (b, (c.requires.tries, (c.requires.ready, c.requires.ordered)))))))
 
 pub members::find_members-returns-then-is_some : goal.members::find_members-returns-then-is_some
 members::find_members-returns-then-is_some t c =
     let s = c.args.search in
     let l : c.args.i < length s.pats.now = omega arith in
-    member-stops s.rest (λ vs. only (many set vs)) (tried_pats s.pats.now) c.args.used.now s.terms.now c.args.i (omega (arith, length-row s.pats.now))
-    c.loop-j.j c.in_ok-found.found c.loop-j-test.true (sym c.is_some.ensures ∙ c.if-is_some.true) c.loop-j.invariant.0 c.in_ok-found.ensures
+    let g = next-of c.args.used.now c.loop-j.from (length s.terms.now) c.next_free.result c.in-Some.j c.in-Some.is c.next_free.ensures in
+    let r = member-reaches s.rest (λ vs. only (many set vs)) (tried_pats s.pats.now) c.args.used.now s.terms.now c.args.i (omega (arith, length-row s.pats.now)) c.loop-j.from c.in-Some.j (length s.terms.now) refl g c.loop-j.invariant.0 in
+    member-stops s.rest (λ vs. only (many set vs)) (tried_pats s.pats.now) c.args.used.now s.terms.now c.args.i (omega (arith, length-row s.pats.now)) c.in-Some.j c.in_ok-found.found g.within (sym c.is_some.ensures ∙ c.if-is_some.true) r c.in_ok-found.ensures
 
 pub members::find_members-loop-j-preserved : goal.members::find_members-loop-j-preserved
 members::find_members-loop-j-preserved t c =
     let s = c.args.search in
-    let l : c.args.i < length s.pats.now = omega arith in (
-      member-passes s.rest (λ vs. only (many set vs)) (tried_pats s.pats.now) c.args.used.now s.terms.now c.args.i (omega (arith, length-row s.pats.now))
-          c.loop-j.j c.in_ok-found.found c.loop-j-test.true (sym c.is_some.ensures ∙ c.if-is_some.false) c.loop-j.invariant.0 c.in_ok-found.ensures,
-      member-next-failed s.rest (λ vs. only (many set vs)) (tried_pats s.pats.now) c.args.used.now s.terms.now c.args.i (omega (arith, length-row s.pats.now))
-          c.loop-j.j c.in_ok-found.found (sym c.is_some.ensures ∙ c.if-is_some.false) c.in_ok-found.ensures,
+    let l : c.args.i < length s.pats.now = omega arith in
+    let g = next-of c.args.used.now c.loop-j.from (length s.terms.now) c.next_free.result c.in-Some.j c.in-Some.is c.next_free.ensures in
+    let r = member-reaches s.rest (λ vs. only (many set vs)) (tried_pats s.pats.now) c.args.used.now s.terms.now c.args.i (omega (arith, length-row s.pats.now)) c.loop-j.from c.in-Some.j (length s.terms.now) refl g c.loop-j.invariant.0 in
+    let o = sym c.is_some.ensures ∙ c.if-is_some.false in (
+      member-passes s.rest (λ vs. only (many set vs)) (tried_pats s.pats.now) c.args.used.now s.terms.now c.args.i (omega (arith, length-row s.pats.now)) c.in-Some.j c.in_ok-found.found g.within o r c.in_ok-found.ensures,
+      (member-next-failed s.rest (λ vs. only (many set vs)) (tried_pats s.pats.now) c.args.used.now s.terms.now c.args.i (omega (arith, length-row s.pats.now)) c.in-Some.j c.in_ok-found.found o c.in_ok-found.ensures, omega (arith, g.within)),
     )
 
 pub members::find_members-returns : goal.members::find_members-returns
 members::find_members-returns t c =
     let s = c.args.search in
     let l : c.args.i < length s.pats.now = omega arith in
-    member-ends s.rest (λ vs. only (many set vs)) (tried_pats s.pats.now) c.args.used.now s.terms.now c.args.i (omega (arith, length-row s.pats.now)) c.loop-j.j c.loop-j-test.false c.loop-j.invariant.0
+    let a = none-of-free c.args.used.now c.loop-j.from (length s.terms.now) c.next_free.result c.in_default.not-Some c.next_free.ensures in
+    member-ends s.rest (λ vs. only (many set vs)) (tried_pats s.pats.now) c.args.used.now s.terms.now c.args.i (omega (arith, length-row s.pats.now)) c.loop-j.from (length s.terms.now) refl c.loop-j.invariant.1.1 a c.loop-j.invariant.0
+
+pub members::find_members-loop-j-smaller : goal.members::find_members-loop-j-smaller
+members::find_members-loop-j-smaller t c =
+    let s = c.args.search in
+    let g = next-of c.args.used.now c.loop-j.from (length s.terms.now) c.next_free.result c.in-Some.j c.in-Some.is c.next_free.ensures in
+    omega (arith, g.from, g.within)
+
+pub members::find_members-overflow_add-from : goal.members::find_members-overflow_add-from
+members::find_members-overflow_add-from t c =
+    let s = c.args.search in
+    let g = next-of c.args.used.now c.loop-j.from (length s.terms.now) c.next_free.result c.in-Some.j c.in-Some.is c.next_free.ensures in
+    omega (arith, g.within)
 
 pub members::try_member-returns-then-repeats_member : goal.members::try_member-returns-then-repeats_member
 members::try_member-returns-then-repeats_member t c =
@@ -346,7 +369,7 @@ members::try_member-returns-in_ok-joined-in-Some-2 t c =
     let a = some-of (found x.result y.result) c.in_ok-find_whole.field-0 c.in-Some.found c.in-Some.is c.in_ok-find_whole.ensures in
     let k = members-of s.rest made (ways (drop (c.args.i + 1) all) (left_from 0 us s.terms.now)) c.in_ok-find_members-in-Some.field-0 c.in-Some-2.others c.in-Some-2.is c.in_ok-find_members-in-Some.ensures in
     member-taking s.rest made all c.args.used.now s.terms.now c.args.i (omega (arith, length-row s.pats.now, c.requires.within)) c.args.j
-    c.in-Some.found.items c.in-Some-2.others.items c.in_ok-joined-in-Some-2.field-0.items (is-free (has c.args.used.now c.args.j) (sym c.if-not-is_free.false ∙ c.is_free.ensures))
+    c.in-Some.found.items c.in-Some-2.others.items c.in_ok-joined-in-Some-2.field-0.items c.requires.free
     (ap first_of_all (at_two s.pats.now s.terms.now c.args.i c.args.j x.result y.result c.requires.within c.requires.target_within x.is y.is) ∙ a)
     (subst (λ (vs : List ℕ). MemberWay s.rest made (ways (drop (c.args.i + 1) all) (left_from 0 vs s.terms.now)) c.in-Some-2.others.items) e k)
     c.in_ok-joined-in-Some-2.ensures
@@ -383,37 +406,54 @@ pairs::find_pairs-loop-j-init t c =
     let s = c.args.search in
     let l : c.args.i < length s.pats.now = omega arith in (
       member-starts s.rest (λ vs. only (many dict vs)) (tried_pairs s.pats.now) c.args.used.now (map pair_tree s.pairs.now) c.args.i (omega (arith, length-each pair_tree s.pats.now)) (pair_thin s.pats.now c.args.i l),
-      member-none-failed s.rest (λ vs. only (many dict vs)) (tried_pairs s.pats.now) c.args.used.now (map pair_tree s.pairs.now) c.args.i (omega (arith, length-each pair_tree s.pats.now)),
+      (member-none-failed s.rest (λ vs. only (many dict vs)) (tried_pairs s.pats.now) c.args.used.now (map pair_tree s.pairs.now) c.args.i (omega (arith, length-each pair_tree s.pats.now)), omega arith),
     )
 
 pub pairs::find_pairs-try_pair-requires : goal.pairs::find_pairs-try_pair-requires
 pairs::find_pairs-try_pair-requires t c =
     let s = c.args.search in
     let l : c.args.i < length s.pats.now = omega arith in
-    (omega (arith, heavy pair_tree s.pats.now), (l, (c.loop-j-test.true, (c.loop-j.invariant.1, (c.requires.tries, (c.requires.ready, c.requires.ordered))))))
+    let g = next-of c.args.used.now c.loop-j.from (length s.pairs.now) c.next_free.result c.in-Some.j c.in-Some.is c.next_free.ensures in
+    let b = member-still-failed s.rest (λ vs. only (many dict vs)) (tried_pairs s.pats.now) c.args.used.now (map pair_tree s.pairs.now) c.args.i (omega (arith, length-each pair_tree s.pats.now)) c.loop-j.from c.in-Some.j (length s.pairs.now) g c.loop-j.invariant.1.0 in
+    (omega (arith, heavy pair_tree s.pats.now), (l, (g.within, (g.free, (b, (c.requires.tries, (c.requires.ready, c.requires.ordered)))))))
 
 pub pairs::find_pairs-returns-then-is_some : goal.pairs::find_pairs-returns-then-is_some
 pairs::find_pairs-returns-then-is_some t c =
     let s = c.args.search in
     let l : c.args.i < length s.pats.now = omega arith in
-    member-stops s.rest (λ vs. only (many dict vs)) (tried_pairs s.pats.now) c.args.used.now (map pair_tree s.pairs.now) c.args.i (omega (arith, length-each pair_tree s.pats.now))
-    c.loop-j.j c.in_ok-found.found (omega (arith, length-map s.pairs.now pair_tree)) (sym c.is_some.ensures ∙ c.if-is_some.true) c.loop-j.invariant.0 c.in_ok-found.ensures
+    let g = next-of c.args.used.now c.loop-j.from (length s.pairs.now) c.next_free.result c.in-Some.j c.in-Some.is c.next_free.ensures in
+    let r = member-reaches s.rest (λ vs. only (many dict vs)) (tried_pairs s.pats.now) c.args.used.now (map pair_tree s.pairs.now) c.args.i (omega (arith, length-each pair_tree s.pats.now)) c.loop-j.from c.in-Some.j (length s.pairs.now) (sym (length-map s.pairs.now pair_tree)) g c.loop-j.invariant.0 in
+    member-stops s.rest (λ vs. only (many dict vs)) (tried_pairs s.pats.now) c.args.used.now (map pair_tree s.pairs.now) c.args.i (omega (arith, length-each pair_tree s.pats.now)) c.in-Some.j c.in_ok-found.found (omega (arith, length-map s.pairs.now pair_tree, g.within)) (sym c.is_some.ensures ∙ c.if-is_some.true) r c.in_ok-found.ensures
 
 pub pairs::find_pairs-loop-j-preserved : goal.pairs::find_pairs-loop-j-preserved
 pairs::find_pairs-loop-j-preserved t c =
     let s = c.args.search in
-    let l : c.args.i < length s.pats.now = omega arith in (
-      member-passes s.rest (λ vs. only (many dict vs)) (tried_pairs s.pats.now) c.args.used.now (map pair_tree s.pairs.now) c.args.i (omega (arith, length-each pair_tree s.pats.now))
-          c.loop-j.j c.in_ok-found.found (omega (arith, length-map s.pairs.now pair_tree)) (sym c.is_some.ensures ∙ c.if-is_some.false) c.loop-j.invariant.0 c.in_ok-found.ensures,
-      member-next-failed s.rest (λ vs. only (many dict vs)) (tried_pairs s.pats.now) c.args.used.now (map pair_tree s.pairs.now) c.args.i (omega (arith, length-each pair_tree s.pats.now))
-          c.loop-j.j c.in_ok-found.found (sym c.is_some.ensures ∙ c.if-is_some.false) c.in_ok-found.ensures,
+    let l : c.args.i < length s.pats.now = omega arith in
+    let g = next-of c.args.used.now c.loop-j.from (length s.pairs.now) c.next_free.result c.in-Some.j c.in-Some.is c.next_free.ensures in
+    let r = member-reaches s.rest (λ vs. only (many dict vs)) (tried_pairs s.pats.now) c.args.used.now (map pair_tree s.pairs.now) c.args.i (omega (arith, length-each pair_tree s.pats.now)) c.loop-j.from c.in-Some.j (length s.pairs.now) (sym (length-map s.pairs.now pair_tree)) g c.loop-j.invariant.0 in
+    let o = sym c.is_some.ensures ∙ c.if-is_some.false in (
+      member-passes s.rest (λ vs. only (many dict vs)) (tried_pairs s.pats.now) c.args.used.now (map pair_tree s.pairs.now) c.args.i (omega (arith, length-each pair_tree s.pats.now)) c.in-Some.j c.in_ok-found.found (omega (arith, length-map s.pairs.now pair_tree, g.within)) o r c.in_ok-found.ensures,
+      (member-next-failed s.rest (λ vs. only (many dict vs)) (tried_pairs s.pats.now) c.args.used.now (map pair_tree s.pairs.now) c.args.i (omega (arith, length-each pair_tree s.pats.now)) c.in-Some.j c.in_ok-found.found o c.in_ok-found.ensures, omega (arith, g.within)),
     )
 
 pub pairs::find_pairs-returns : goal.pairs::find_pairs-returns
 pairs::find_pairs-returns t c =
     let s = c.args.search in
     let l : c.args.i < length s.pats.now = omega arith in
-    member-ends s.rest (λ vs. only (many dict vs)) (tried_pairs s.pats.now) c.args.used.now (map pair_tree s.pairs.now) c.args.i (omega (arith, length-each pair_tree s.pats.now)) c.loop-j.j (omega (arith, length-map s.pairs.now pair_tree)) c.loop-j.invariant.0
+    let a = none-of-free c.args.used.now c.loop-j.from (length s.pairs.now) c.next_free.result c.in_default.not-Some c.next_free.ensures in
+    member-ends s.rest (λ vs. only (many dict vs)) (tried_pairs s.pats.now) c.args.used.now (map pair_tree s.pairs.now) c.args.i (omega (arith, length-each pair_tree s.pats.now)) c.loop-j.from (length s.pairs.now) (sym (length-map s.pairs.now pair_tree)) c.loop-j.invariant.1.1 a c.loop-j.invariant.0
+
+pub pairs::find_pairs-loop-j-smaller : goal.pairs::find_pairs-loop-j-smaller
+pairs::find_pairs-loop-j-smaller t c =
+    let s = c.args.search in
+    let g = next-of c.args.used.now c.loop-j.from (length s.pairs.now) c.next_free.result c.in-Some.j c.in-Some.is c.next_free.ensures in
+    omega (arith, g.from, g.within)
+
+pub pairs::find_pairs-overflow_add-from : goal.pairs::find_pairs-overflow_add-from
+pairs::find_pairs-overflow_add-from t c =
+    let s = c.args.search in
+    let g = next-of c.args.used.now c.loop-j.from (length s.pairs.now) c.next_free.result c.in-Some.j c.in-Some.is c.next_free.ensures in
+    omega (arith, g.within)
 
 pub pairs::try_pair-returns-then-repeats_pair : goal.pairs::try_pair-returns-then-repeats_pair
 pairs::try_pair-returns-then-repeats_pair t c =
@@ -470,7 +510,7 @@ pairs::try_pair-returns-in_ok-joined-in-Some-2 t c =
     let a = some-of (found (pair_tree x.result) (pair_tree y.result)) c.in_ok-find_pair.field-0 c.in-Some.found c.in-Some.is c.in_ok-find_pair.ensures in
     let k = members-of s.rest made (ways (drop (c.args.i + 1) all) (left_from 0 us (map pair_tree s.pairs.now))) c.in_ok-find_pairs-in-Some.field-0 c.in-Some-2.others c.in-Some-2.is c.in_ok-find_pairs-in-Some.ensures in
     member-taking s.rest made all c.args.used.now (map pair_tree s.pairs.now) c.args.i (omega (arith, length-each pair_tree s.pats.now, c.requires.within)) c.args.j
-    c.in-Some.found.items c.in-Some-2.others.items c.in_ok-joined-in-Some-2.field-0.items (is-free (has c.args.used.now c.args.j) (sym c.if-not-is_free.false ∙ c.is_free.ensures))
+    c.in-Some.found.items c.in-Some-2.others.items c.in_ok-joined-in-Some-2.field-0.items c.requires.free
     (ap first_of_all (at_pairs s.pats.now s.pairs.now c.args.i c.args.j x.result y.result c.requires.within c.requires.target_within x.is y.is) ∙ a)
     (subst (λ (vs : List ℕ). MemberWay s.rest made (ways (drop (c.args.i + 1) all) (left_from 0 vs (map pair_tree s.pairs.now))) c.in-Some-2.others.items) e k)
     c.in_ok-joined-in-Some-2.ensures
@@ -589,20 +629,23 @@ parts::find_parts-loop-j-init t c =
     let l : c.args.i < length c.args.pats.now = omega arith in (
       part-starts (tried c.args.pats.now) c.args.used.now (held c.args.target.now) c.args.i (omega (arith, length-each pat_part_tree c.args.pats.now))
           (part_wide c.args.pats.now c.args.i c.index-pats-i.result false l c.index-pats-i.is (sym c.is_wide.ensures ∙ c.if-is_wide.false)),
-      part-none-failed (tried c.args.pats.now) c.args.used.now (held c.args.target.now) c.args.i (omega (arith, length-each pat_part_tree c.args.pats.now)),
+      (part-none-failed (tried c.args.pats.now) c.args.used.now (held c.args.target.now) c.args.i (omega (arith, length-each pat_part_tree c.args.pats.now)), omega arith),
     )
 
 pub parts::find_parts-try_part-requires : goal.parts::find_parts-try_part-requires
 parts::find_parts-try_part-requires t c =
     let l : c.args.i < length c.args.pats.now = omega arith in
-    let h = held_length c.args.target.now c.parts-j-end.result.now c.parts-j-end.ensures.parts in
-    let m : c.loop-j.j < length (held c.args.target.now) = omega (arith, h) in (
+    let us = c.parts-count.result.now in
+    let h = sym (held_length c.args.target.now us c.parts-count.ensures.parts) in
+    let g = next-of c.args.used.now c.loop-j.from (length us) c.next_free.result c.in-Some.j c.in-Some.is c.next_free.ensures in
+    let m : c.in-Some.j < length (held c.args.target.now) = omega (arith, h, g.within) in
+    let b = part-still-failed (tried c.args.pats.now) c.args.used.now (held c.args.target.now) c.args.i (omega (arith, length-each pat_part_tree c.args.pats.now)) c.loop-j.from c.in-Some.j (length us) g c.loop-j.invariant.1.0 in (
       omega (arith, heavy pat_part_tree c.args.pats.now),
       (
         l,
         (
           part_wide c.args.pats.now c.args.i c.index-pats-i.result false l c.index-pats-i.is (sym c.is_wide.ensures ∙ c.if-is_wide.false),
-          (m, (c.loop-j.invariant.1, (c.requires.tries, (c.requires.normal, (c.requires.one_wide, c.requires.ready))))),
+          (m, (g.free, (b, (c.requires.tries, (c.requires.normal, (c.requires.one_wide, c.requires.ready)))))),
         ),
       ),
     )
@@ -610,28 +653,45 @@ parts::find_parts-try_part-requires t c =
 pub parts::find_parts-returns-then-is_some : goal.parts::find_parts-returns-then-is_some
 parts::find_parts-returns-then-is_some t c =
     let l : c.args.i < length c.args.pats.now = omega arith in
-    let h = held_length c.args.target.now c.parts-j-end.result.now c.parts-j-end.ensures.parts in
-    let m : c.loop-j.j < length (held c.args.target.now) = omega (arith, h) in
-    part-stops (tried c.args.pats.now) c.args.used.now (held c.args.target.now) c.args.i (omega (arith, length-each pat_part_tree c.args.pats.now))
-    c.loop-j.j c.in_ok-found.found m (sym c.is_some.ensures ∙ c.if-is_some.true) c.loop-j.invariant.0 c.in_ok-found.ensures
+    let us = c.parts-count.result.now in
+    let h = sym (held_length c.args.target.now us c.parts-count.ensures.parts) in
+    let g = next-of c.args.used.now c.loop-j.from (length us) c.next_free.result c.in-Some.j c.in-Some.is c.next_free.ensures in
+    let m : c.in-Some.j < length (held c.args.target.now) = omega (arith, h, g.within) in
+    let r = part-reaches (tried c.args.pats.now) c.args.used.now (held c.args.target.now) c.args.i (omega (arith, length-each pat_part_tree c.args.pats.now)) c.loop-j.from c.in-Some.j (length us) h g c.loop-j.invariant.0 in
+    part-stops (tried c.args.pats.now) c.args.used.now (held c.args.target.now) c.args.i (omega (arith, length-each pat_part_tree c.args.pats.now)) c.in-Some.j c.in_ok-found.found m (sym c.is_some.ensures ∙ c.if-is_some.true) r c.in_ok-found.ensures
 
 pub parts::find_parts-loop-j-preserved : goal.parts::find_parts-loop-j-preserved
 parts::find_parts-loop-j-preserved t c =
     let l : c.args.i < length c.args.pats.now = omega arith in
-    let h = held_length c.args.target.now c.parts-j-end.result.now c.parts-j-end.ensures.parts in
-    let m : c.loop-j.j < length (held c.args.target.now) = omega (arith, h) in (
-      part-passes (tried c.args.pats.now) c.args.used.now (held c.args.target.now) c.args.i (omega (arith, length-each pat_part_tree c.args.pats.now))
-          c.loop-j.j c.in_ok-found.found m (sym c.is_some.ensures ∙ c.if-is_some.false) c.loop-j.invariant.0 c.in_ok-found.ensures,
-      part-next-failed (tried c.args.pats.now) c.args.used.now (held c.args.target.now) c.args.i (omega (arith, length-each pat_part_tree c.args.pats.now))
-          c.loop-j.j c.in_ok-found.found (sym c.is_some.ensures ∙ c.if-is_some.false) c.in_ok-found.ensures,
+    let us = c.parts-count.result.now in
+    let h = sym (held_length c.args.target.now us c.parts-count.ensures.parts) in
+    let g = next-of c.args.used.now c.loop-j.from (length us) c.next_free.result c.in-Some.j c.in-Some.is c.next_free.ensures in
+    let m : c.in-Some.j < length (held c.args.target.now) = omega (arith, h, g.within) in
+    let r = part-reaches (tried c.args.pats.now) c.args.used.now (held c.args.target.now) c.args.i (omega (arith, length-each pat_part_tree c.args.pats.now)) c.loop-j.from c.in-Some.j (length us) h g c.loop-j.invariant.0 in
+    let o = sym c.is_some.ensures ∙ c.if-is_some.false in (
+      part-passes (tried c.args.pats.now) c.args.used.now (held c.args.target.now) c.args.i (omega (arith, length-each pat_part_tree c.args.pats.now)) c.in-Some.j c.in_ok-found.found m o r c.in_ok-found.ensures,
+      (part-next-failed (tried c.args.pats.now) c.args.used.now (held c.args.target.now) c.args.i (omega (arith, length-each pat_part_tree c.args.pats.now)) c.in-Some.j c.in_ok-found.found o c.in_ok-found.ensures, omega (arith, m)),
     )
 
 pub parts::find_parts-returns : goal.parts::find_parts-returns
 parts::find_parts-returns t c =
     let l : c.args.i < length c.args.pats.now = omega arith in
-    let h = held_length c.args.target.now c.parts-j-end.result.now c.parts-j-end.ensures.parts in
-    let m : length (held c.args.target.now) ≤ c.loop-j.j = omega (arith, h) in
-    part-ends (tried c.args.pats.now) c.args.used.now (held c.args.target.now) c.args.i (omega (arith, length-each pat_part_tree c.args.pats.now)) c.loop-j.j m c.loop-j.invariant.0
+    let us = c.parts-count.result.now in
+    let h = sym (held_length c.args.target.now us c.parts-count.ensures.parts) in
+    let a = none-of-free c.args.used.now c.loop-j.from (length us) c.next_free.result c.in_default.not-Some c.next_free.ensures in
+    part-ends (tried c.args.pats.now) c.args.used.now (held c.args.target.now) c.args.i (omega (arith, length-each pat_part_tree c.args.pats.now)) c.loop-j.from (length us) h (omega (arith, h, c.loop-j.invariant.1.1)) a c.loop-j.invariant.0
+
+pub parts::find_parts-loop-j-smaller : goal.parts::find_parts-loop-j-smaller
+parts::find_parts-loop-j-smaller t c =
+    let us = c.parts-count.result.now in
+    let g = next-of c.args.used.now c.loop-j.from (length us) c.next_free.result c.in-Some.j c.in-Some.is c.next_free.ensures in
+    omega (arith, g.from, g.within)
+
+pub parts::find_parts-overflow_add-from : goal.parts::find_parts-overflow_add-from
+parts::find_parts-overflow_add-from t c =
+    let us = c.parts-count.result.now in
+    let g = next-of c.args.used.now c.loop-j.from (length us) c.next_free.result c.in-Some.j c.in-Some.is c.next_free.ensures in
+    omega (arith, g.within)
 
 pub parts::find_pat-find_parts-requires : goal.parts::find_pat-find_parts-requires
 parts::find_pat-find_parts-requires t c =
@@ -752,7 +812,7 @@ parts::try_part-returns-in_ok-with_thin-in-Some-2 t c =
     let a = some-of (found (pat_part_tree x.result) (part_tree y.result)) c.in_ok-find_part.field-0 c.in-Some.found c.in-Some.is c.in_ok-find_part.ensures in
     let k = way-of all (drop (c.args.i + 1) all) (ways (drop (c.args.i + 1) all) (left_from 0 c.deref.result.now ts)) c.in_ok-find_parts-in-Some.field-0 c.in-Some-2.split c.in-Some-2.is c.in_ok-find_parts-in-Some.ensures in
     place-taking all c.args.used.now ts c.args.i (omega (arith, length-each pat_part_tree ps, c.requires.within)) c.args.j c.in-Some.found.items c.in-Some-2.split c.in_ok-with_thin-in-Some-2.field-0 c.requires.thin
-    (is-free (has c.args.used.now c.args.j) (sym c.if-not-is_free.false ∙ c.is_free.ensures))
+    c.requires.free
     (ap first_of_all (tried_at ps c.args.i x.result u us c.args.j y.result c.requires.within x.is e l y.is) ∙ a)
     (subst (λ (vs : List ℕ). Way all (drop (c.args.i + 1) all) (ways (drop (c.args.i + 1) all) (left_from 0 vs ts)) c.in-Some-2.split) d k)
     c.in_ok-with_thin-in-Some-2.ensures.wide c.in_ok-with_thin-in-Some-2.ensures.rest

@@ -1,10 +1,12 @@
-use Rattle.std.proofs.Common.{◌≡◌, ◌+◌, ◌-◌, ◌*◌, drop, length, map}
+use Rattle.std.proofs.Common.{◌≡◌, ◌+◌, ◌-◌, ◌*◌, ◌≤◌, drop, length, map}
 use Rattle.calculus.specs.Tree.{weight, row}
 use Rattle.calculus.specs.Shape.{held, many}
 use Rattle.calculus.specs.Matching.{ways}
 use Rattle.calculus.specs.Operators.{of_list}
 use Rattle.rho_term.specs.Parts.{pair_tree, pat_part_tree}
-use Rattle.spatial_match.specs.Search.{FailedBefore, first_way, left_from, may_rest, member_at}
+use Rattle.spatial_match.specs.Search.{FailedBefore, member_at}
+use Rattle.match_targets.specs.Found.{first_way, may_rest}
+use Rattle.free_places.specs.Places.{left_from}
 use Rattle.spatial_match.specs.Found.{may_leave, tried, tried_pats, tried_pairs}
 use Rattle.spatial_match.proofs.Rows.{NoneBefore}
 use Rattle.spatial_match.proofs.Sets.{Reaches}
@@ -84,8 +86,11 @@ abbrev pub invariant-parts::find_parts-loop-j : goal.invariant-parts::find_parts
 invariant-parts::find_parts-loop-j l =
     let all = tried l.pats in
     (first_way (may_leave all) (ways (drop l.i all) (left_from 0 l.used (held l.target)))
-    ≡ first_way (may_leave all) (later (may_leave all) (member_at l.i all) (drop (l.i + 1) all) l.used (held l.target) l.j))
-    × FailedBefore (may_leave all) (member_at l.i all) (drop (l.i + 1) all) l.used (held l.target) l.j
+    ≡ first_way (may_leave all) (later (may_leave all) (member_at l.i all) (drop (l.i + 1) all) l.used (held l.target) l.from))
+    × (FailedBefore (may_leave all) (member_at l.i all) (drop (l.i + 1) all) l.used (held l.target) l.from × (l.from ≤ length (held l.target)))
+
+abbrev pub decreases-parts::find_parts-loop-j : goal.decreases-parts::find_parts-loop-j
+decreases-parts::find_parts-loop-j l = l.count - l.from
 
 abbrev pub invariant-parts::find_end-loop-k : goal.invariant-parts::find_end-loop-k
 invariant-parts::find_end-loop-k l = NoneBefore l.k (tried l.pats)
@@ -95,8 +100,14 @@ invariant-members::find_members-loop-j l =
     let s = l.fn.search in
     let all = tried_pats s.pats.now in
     (first_way (may_rest s.rest) (ways (drop l.fn.i all) (left_from 0 l.fn.used s.terms.now))
-    ≡ first_way (may_rest s.rest) (later (may_rest s.rest) (member_at l.fn.i all) (drop (l.fn.i + 1) all) l.fn.used s.terms.now l.j))
-    × FailedBefore (may_rest s.rest) (member_at l.fn.i all) (drop (l.fn.i + 1) all) l.fn.used s.terms.now l.j
+    ≡ first_way (may_rest s.rest) (later (may_rest s.rest) (member_at l.fn.i all) (drop (l.fn.i + 1) all) l.fn.used s.terms.now l.from))
+    × (FailedBefore (may_rest s.rest) (member_at l.fn.i all) (drop (l.fn.i + 1) all) l.fn.used s.terms.now l.from × (l.from ≤ length s.terms.now))
+
+abbrev pub decreases-members::find_members-loop-j : goal.decreases-members::find_members-loop-j
+decreases-members::find_members-loop-j l = length l.fn.search.terms.now - l.from
+
+abbrev pub decreases-pairs::find_pairs-loop-j : goal.decreases-pairs::find_pairs-loop-j
+decreases-pairs::find_pairs-loop-j l = length l.fn.search.pairs.now - l.from
 
 abbrev pub invariant-pairs::find_pairs-loop-j : goal.invariant-pairs::find_pairs-loop-j
 invariant-pairs::find_pairs-loop-j l =
@@ -104,8 +115,8 @@ invariant-pairs::find_pairs-loop-j l =
     let all = tried_pairs s.pats.now in
     let ts = map pair_tree s.pairs.now in
     (first_way (may_rest s.rest) (ways (drop l.fn.i all) (left_from 0 l.fn.used ts))
-    ≡ first_way (may_rest s.rest) (later (may_rest s.rest) (member_at l.fn.i all) (drop (l.fn.i + 1) all) l.fn.used ts l.j))
-    × FailedBefore (may_rest s.rest) (member_at l.fn.i all) (drop (l.fn.i + 1) all) l.fn.used ts l.j
+    ≡ first_way (may_rest s.rest) (later (may_rest s.rest) (member_at l.fn.i all) (drop (l.fn.i + 1) all) l.fn.used ts l.from))
+    × (FailedBefore (may_rest s.rest) (member_at l.fn.i all) (drop (l.fn.i + 1) all) l.fn.used ts l.from × (l.from ≤ length s.pairs.now))
 
 abbrev pub invariant-forms::find_items-loop-i : goal.invariant-forms::find_items-loop-i
 invariant-forms::find_items-loop-i l = Reaches l.remainder of_list (tried_pats l.pats) l.terms l.i l.found.items

@@ -55,11 +55,11 @@ decreases-terms::read_binds l = 8 * l.room + 6
 abbrev pub decreases-terms::read_form : goal.decreases-terms::read_form
 decreases-terms::read_form l = 8 * l.room + 8
 
-abbrev pub decreases-terms::read_process : goal.decreases-terms::read_process
-decreases-terms::read_process l = 8 * l.room + 7
+abbrev pub decreases-terms::read_binder : goal.decreases-terms::read_binder
+decreases-terms::read_binder l = 8 * l.room + 7
 
-abbrev pub decreases-terms::read_operation : goal.decreases-terms::read_operation
-decreases-terms::read_operation l = 8 * l.room + 7
+abbrev pub decreases-terms::read_processes : goal.decreases-terms::read_processes
+decreases-terms::read_processes l = 8 * l.room + 7
 
 abbrev pub decreases-patterns::read_pat_form : goal.decreases-patterns::read_pat_form
 decreases-patterns::read_pat_form l = 8 * l.room + 8

@@ -1,20 +1,33 @@
-use Rattle.std.proofs.Common.{◌∙◌, ◌∷◌, ◌++◌, ℕ, List, [], length, length-append, append_assoc, sym, ap, arith}
+use Rattle.std.proofs.Common.{◌≡◌, ◌∙◌, ◌+◌, ◌%◌, ◌^◌, ◌∷◌, ◌++◌, ℕ, List, [], true, false, length, length-append, append_assoc, sym, ap, arith}
+use Rattle.hub_rule.specs.Counts.{count}
+use Rattle.hub_rule.specs.Rule.{below, descends, emptied, since_after}
+use Rattle.hub_rule.specs.Works.{hand}
 use Rattle.hub_rule.proofs.Offers.{hand_is}
 use Rattle.group_locks.proofs.seat.commit_at.Goals as goal
 
-pub invariant_of-state-clause-owed : goal.invariant_of-state-clause-owed
-invariant_of-state-clause-owed g c =
-    let E : Type 0 = g.row.S-Entry.Denot in
+pub invariant_of-state : goal.invariant_of-state
+invariant_of-state g c =
+    let E : Type 0 = g.row.S-Entry.Denot in let X : Type 0 = g.row.S-Shard.Denot in
     let e = c.draw_and_tell-number.ensures.drawn.1 in let s = c.args.state.now in let t = s.token.me.0.tally in
     let x : List (ℕ × E) = (c.draw_and_tell-number.result, c.args.entry) ∷ [] in
-    ap (λ m. m.0.entries) e ∙ (ap {A = List (ℕ × E)} (λ l. l ++ x) s.owed ∙ (append_assoc (t.settled ++ t.fresh) t.due x ∙ sym (ap (λ m. (m.0.tally.settled ++ m.0.tally.fresh) ++ m.0.tally.due) e)))
-
-pub invariant_of-state-clause-last : goal.invariant_of-state-clause-last
-invariant_of-state-clause-last g c =
-    let e = c.draw_and_tell-number.ensures.drawn.1 in let t = c.args.state.now.token.me.0.tally in
-    let q = ap (λ x. length x.0.tally.due) e in let p = ap (λ x. length x.0.tally.fresh) e in
-    let f = c.args.state.now.clear c.requires.leave.0 in let d = ap length c.requires.leave.1 in
-    let n = length-append t.due ((c.draw_and_tell-number.result, c.args.entry) ∷ []) in omega arith
+    let since : List E = s.token.me.0.since ++ c.args.entry ∷ [] in
+    record {
+      told = c.push_reserved.ensures.items ∙ (ap {A = List (ℕ × E)} (λ l. l ++ x) s.told ∙ sym (ap (λ m. m.0.entries) e));
+      out = ap (λ m. m.1) e ∙ (s.out ∙ sym (ap (λ m. emptied m.0.held) e));
+      falls = (ap (λ m. below 64 m.0.held) e ∙ s.falls.0, ap (λ m. descends m.0.held) e ∙ s.falls.1);
+      bits = λ k lt. s.bits k lt ∙ sym (ap (λ m. count k m.0.held) e);
+      part = ap (λ m. m.0.parts) e ∙ s.part;
+      near = s.near;
+      calm = (ap (λ m. m.0.pile.owes) e, ap (λ m. m.0.pile.desk) e ∙ s.calm.1, ap (λ m. m.0.pile.kept) e ∙ s.calm.2);
+      even = ap (λ m. m.0.pile.counted) e ∙ sym (ap (λ m. length (hand m.0.pile)) e);
+      balance = ap (λ m. (s.moved + m.0.pile.fetched) % 2 ^ 64) e ∙ (s.balance ∙ sym (ap (λ m. m.0.pile.left % 2 ^ 64) e));
+      fresh = λ h. ap (λ m. m.0.since) e ∙ ap {A = List (ℕ × X)} (λ l. since_after l since) (sym (ap (λ m. m.0.held) e) ∙ h);
+      owed = ap (λ m. m.0.entries) e ∙ (ap {A = List (ℕ × E)} (λ l. l ++ x) s.owed ∙ (append_assoc (t.settled ++ t.fresh) t.due x ∙ sym (ap (λ m. (m.0.tally.settled ++ m.0.tally.fresh) ++ m.0.tally.due) e)));
+      last =
+          let q = ap (λ m. length m.0.tally.due) e in let p = ap (λ m. length m.0.tally.fresh) e in
+          let f = s.clear c.requires.leave.0 in let d = ap length c.requires.leave.1 in let n = length-append t.due x in omega arith;
+      clear = λ may. absurd (let q : false ≡ true = sym (ap (λ m. m.0.tally.leave) e) ∙ may in cc);
+    }
 
 pub draw_and_tell-number-requires-clause-may : goal.draw_and_tell-number-requires-clause-may
 draw_and_tell-number-requires-clause-may g c κs inside =

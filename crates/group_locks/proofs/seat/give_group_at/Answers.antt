@@ -1,18 +1,23 @@
-use Rattle.std.proofs.Common.{◌++◌, length, ap, sym, ◌∙◌}
+use Rattle.std.proofs.Common.{◌+◌, ◌%◌, ◌^◌, ◌++◌, length, ap, sym, ◌∙◌, arith}
 use Rattle.std.proofs.lemmas.Nat.Bits.{bit_at-zero}
 use Rattle.hub_rule.specs.Counts.{count}
+use Rattle.hub_rule.specs.Rule.{below, descends, emptied}
 use Rattle.hub_rule.specs.Works.{hand}
 use Rattle.group_locks.proofs.seat.give_group_at.Goals as goal
 
-pub invariant_of-state-clause-bits : goal.invariant_of-state-clause-bits
-invariant_of-state-clause-bits g c = λ k lt. bit_at-zero k ∙ sym (ap (λ x. count k x.0.held) c.give_turns.ensures.view)
-
-pub invariant_of-state-clause-owed : goal.invariant_of-state-clause-owed
-invariant_of-state-clause-owed g c =
-    let v = c.give_turns.ensures.view in
-    ap (λ x. x.0.entries) v ∙ (c.args.state.now.owed ∙ sym (ap (λ x. (x.0.tally.settled ++ x.0.tally.fresh) ++ x.0.tally.due) v))
-
-pub invariant_of-state-clause-even : goal.invariant_of-state-clause-even
-invariant_of-state-clause-even g c =
-    let v = c.give_turns.ensures.view in
-    ap (λ x. x.0.pile.counted) v ∙ (c.args.state.now.even ∙ sym (ap (λ x. length (hand x.0.pile)) v))
+pub invariant_of-state : goal.invariant_of-state
+invariant_of-state g c = let e = c.give_turns.ensures.view in let s = c.args.state.now in record {
+  told = s.told ∙ sym (ap (λ x. x.0.entries) e);
+  out = ap (λ x. x.1) e ∙ sym (ap (λ x. emptied x.0.held) e);
+  falls = (ap (λ x. below 64 x.0.held) e, ap (λ x. descends x.0.held) e);
+  bits = λ k lt. bit_at-zero k ∙ sym (ap (λ x. count k x.0.held) e);
+  part = ap (λ x. x.0.parts) e ∙ s.part;
+  near = s.near;
+  calm = (ap (λ x. x.0.pile.owes) e ∙ s.calm.0, ap (λ x. x.0.pile.desk) e ∙ s.calm.1, ap (λ x. x.0.pile.kept) e ∙ s.calm.2);
+  even = ap (λ x. x.0.pile.counted) e ∙ (s.even ∙ sym (ap (λ x. length (hand x.0.pile)) e));
+  balance = ap (λ x. (s.moved + x.0.pile.fetched) % 2 ^ 64) e ∙ (s.balance ∙ sym (ap (λ x. x.0.pile.left % 2 ^ 64) e));
+  fresh = λ h. ap (λ x. x.0.since) e;
+  owed = ap (λ x. x.0.entries) e ∙ (s.owed ∙ sym (ap (λ x. (x.0.tally.settled ++ x.0.tally.fresh) ++ x.0.tally.due) e));
+  last = let f = ap (λ x. length x.0.tally.fresh + length x.0.tally.due) e in let l = s.last in omega arith;
+  clear = λ may. ap (λ x. length x.0.tally.fresh) e ∙ s.clear (sym (ap (λ x. x.0.tally.leave) e) ∙ may);
+}

@@ -5,7 +5,15 @@ use Rattle.hub_rule.specs.Counts.{things_of}
 use Rattle.hub_rule.specs.Rule.{with_pile, leaves}
 use Rattle.hub_rule.proofs.Turns.{heads, found_here}
 use Rattle.hub_rule.proofs.DeskTurns.{slot_works}
+use Rattle.hub_rule.proofs.Offers.{length_things}
+use Rattle.hub_steps.proofs.Leaves.{nothing_left}
 use Rattle.hub_steps.proofs.desks.leave_works.Goals as goal
+
+pub returns-then-count-eq0-clause-ok : goal.returns-then-count-eq0-clause-ok
+returns-then-count-eq0-clause-ok g c =
+    let me = c.args.token.now.me in
+    let none : length me.0.pile.offered ≡ 0 = (let z = c.if-count-eq0.true in let n = c.len-count.ensures in let o = c.args.ops.ok in let a = ap length c.requires.ops in let d = length_things me.0.pile.offered in omega arith) in
+    nothing_left me c.requires.desk.1 none
 
 pub desk_out-works-requires-clause-held : goal.desk_out-works-requires-clause-held
 desk_out-works-requires-clause-held g c κs within = let h = c.take_desk.ensures.taken in (h.0, heads _ _ _ (ap (λ x. x.1) h.2))
@@ -51,7 +59,7 @@ give_left-requires-clause-low g c κs within =
       (let q = ap (λ a. a.0.parts) e in let r = c.requires.desk.2 in omega arith),
       ap (λ a. a.0.pile.owes) e ∙ c.requires.desk.3,
       (let r = c.has_room.ensures.room c.if-not-has_room.false in let a = ap length c.move_all.ensures.items in let b = length-append c.has_room.new.works.items c.args.ops.items in
-          let d = ap length c.has_room.ensures.items in let o = c.args.ops.ok in let n = c.len.ensures in omega arith),
+          let d = ap length c.has_room.ensures.items in let o = c.args.ops.ok in let n = c.len-count.ensures in omega arith),
     )
 
 pub returns-clause-ok : goal.returns-clause-ok

@@ -1,10 +1,10 @@
 use Rattle.std.proofs.Common.{sym, ap, ◌∙◌, subst}
 use Rattle.std.specs.Prelude.{is_some}
 use Rattle.calculus.specs.Form.{term}
-use Rattle.spatial_match.specs.Given.{AllReady}
+use Rattle.match_targets.specs.Targets.{AllReady}
 use Rattle.row_search.proofs.Known.{as-row, send-args, send-channel}
 use Rattle.row_search.proofs.Taking.{other-channel}
-use Rattle.spatial_match.proofs.Alike.{same_codes}
+use Rattle.match_targets.proofs.Alike.{same_codes}
 use Rattle.least_step.proofs.Taking.{matched}
 use Rattle.row_search.proofs.Known.{bind-channel}
 use Rattle.least_step.proofs.choices.does_take.Goals as goal

@@ -12,7 +12,7 @@ remove-part-requires c =
 
 pub unreachable-requires : goal.unreachable-requires
 unreachable-requires c =
-    inside-bundle c.into_parts-parts.result.items c.remove-part.result c.args.term c.requires c.into_parts-parts.ensures.parts c.remove-part.ensures.value c.in_default.not-Bundle
+    inside-bundle c.into_parts-parts.result.items c.remove-part.result c.args.term c.requires c.into_parts-parts.ensures.parts c.remove-part.ensures.value c.in-Err.ensures.1
 
 pub returns : goal.returns
-returns c = λ r e. inside-is c.into_parts-parts.result.items c.remove-part.result c.args.term c.in-Bundle.rights r c.in-Bundle.body c.requires c.into_parts-parts.ensures.parts c.remove-part.ensures.value c.in-Bundle.is e
+returns c = λ r e. inside-is c.into_parts-parts.result.items c.remove-part.result c.args.term c.in-Ok.ensures.0 r c.in-Ok.body c.requires c.into_parts-parts.ensures.parts c.remove-part.ensures.value c.in-Ok.ensures.1 e

@@ -12,14 +12,9 @@ remove-part-requires c =
 pub unreachable-requires : goal.unreachable-requires
 unreachable-requires c =
     let w = first-offered c.into_parts-parts.result.items c.remove-part.result c.args.term c.requires c.into_parts-parts.ensures.parts c.remove-part.ensures.value in
-    not-offered c.remove-part.result w.0 c.in_default.not-Send c.in_default.not-Receive
+    not-offered c.remove-part.result w.0 c.in-Err.ensures.1.0 c.in-Err.ensures.1.1
 
-pub returns-in-Send : goal.returns-in-Send
-returns-in-Send c =
+pub returns : goal.returns
+returns c =
     let w = first-offered c.into_parts-parts.result.items c.remove-part.result c.args.term c.requires c.into_parts-parts.ensures.parts c.remove-part.ensures.value in
-    ap (row_of c.args.id.0) (sym (ap part_tree c.in-Send.is) ∙ w.1)
-
-pub returns-in-Receive : goal.returns-in-Receive
-returns-in-Receive c =
-    let w = first-offered c.into_parts-parts.result.items c.remove-part.result c.args.term c.requires c.into_parts-parts.ensures.parts c.remove-part.ensures.value in
-    ap (row_of c.args.id.0) (sym (ap part_tree c.in-Receive.is) ∙ w.1)
+    c.in-Ok.ensures ∙ ap (row_of c.args.id.0) w.1

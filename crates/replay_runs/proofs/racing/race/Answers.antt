@@ -6,7 +6,7 @@ use Rattle.calculus.specs.Unfolding.{Unfolds}
 use Rattle.events.specs.Laws.{Begins}
 use Rattle.replay_store.specs.Stores.{AreOpenedShards}
 use Rattle.replayed_log.proofs.Crossing.{channel-send, channel-sync, sharded-send, sharded-sync, shard-send, shard-sync, held-send, held-sync}
-use Rattle.replay_runs.proofs.Raced.{plain-shards}
+use Rattle.replay_runs.proofs.RacedLogs.{plain-shards}
 use Rattle.replay_runs.proofs.Starting.{opens}
 use Rattle.replay_runs.proofs.racing.race.Goals as goal
 

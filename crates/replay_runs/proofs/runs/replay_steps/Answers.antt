@@ -5,7 +5,7 @@ use Rattle.replays.specs.Replays.{deploy_under}
 use Rattle.replay_runs.specs.Basis.{given_by}
 use Rattle.replay_runs.specs.Racing.{any_built_in_id}
 use Rattle.replay_runs.proofs.Forged.{all-differ, forged-clash}
-use Rattle.replay_runs.proofs.Raced.{has-raced, no-memory, sound}
+use Rattle.replay_runs.proofs.RacedLogs.{has-raced, no-memory, sound}
 use Rattle.replay_runs.proofs.runs.replay_steps.Goals as goal
 
 pub returns-then-are_forged-clause-answered : goal.returns-then-are_forged-clause-answered

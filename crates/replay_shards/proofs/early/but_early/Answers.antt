@@ -1,6 +1,6 @@
 use Rattle.std.proofs.Common.{subst}
 use Rattle.event_log.specs.View.{steps_of}
-use Rattle.replay_shards.specs.Hands.{all_shown, parts_of}
+use Rattle.replay_slots.specs.Hands.{all_shown, parts_of}
 use Rattle.replay_shards.specs.Ready.{StartsEarly}
 use Rattle.replay_shards.proofs.Lacking.{but-none, but-first}
 use Rattle.replay_shards.proofs.early.but_early.Goals as goal

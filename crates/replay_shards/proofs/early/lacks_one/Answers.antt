@@ -1,6 +1,6 @@
 use Rattle.std.proofs.Common.{sym, ap, ◌∙◌}
 use Rattle.std.specs.Prelude.{option_map, option_copied}
-use Rattle.replay_shards.specs.Hands.{all_shown, parts_of}
+use Rattle.replay_slots.specs.Hands.{all_shown, parts_of}
 use Rattle.replay_rows.specs.Rows.{seen_row}
 use Rattle.replay_shards.proofs.Lacking.{lacks-here}
 use Rattle.replay_shards.proofs.early.lacks_one.Goals as goal

@@ -4,7 +4,7 @@ use Rattle.calculus.specs.declared.ids.Digest.{Digest}
 use Rattle.calculus.specs.Log.{Step}
 use Rattle.calculus.specs.Rows.{Row}
 use Rattle.event_log.specs.View.{step_of}
-use Rattle.replay_shards.specs.Hands.{all_shown, parts_of}
+use Rattle.replay_slots.specs.Hands.{all_shown, parts_of}
 use Rattle.replay_shards.specs.Ready.{IsReady}
 use Rattle.replay_shards.specs.Taken.{bytes_of, AreTaken, taken_rows, IsNotTaken, IsTaken, FitsNothing, OneIsNotTaken}
 use Rattle.replay_shards.specs.declared.taking.TakenRows.{TakenRows}

@@ -3,7 +3,7 @@ use Rattle.std.specs.Prelude.{◌&&◌, not, eqb, count_by}
 use Rattle.calculus.specs.declared.ids.Digest.{Digest}
 use Rattle.calculus.specs.Log.{Step}
 use Rattle.calculus.specs.Steps.{differ, same_meeting}
-use Rattle.replay_shards.specs.Hands.{all_shown, parts_of}
+use Rattle.replay_slots.specs.Hands.{all_shown, parts_of}
 use Rattle.replay_rows.specs.Rows.{has_full}
 use Rattle.replay_shards.specs.Taken.{bytes_of}
 use Rattle.replay_shards.proofs.fit.may_fit.Goals as goal

@@ -7,7 +7,7 @@ use Rattle.events.specs.Found.{met}
 use Rattle.row_search.specs.declared.found.Found.{Found}
 use Rattle.row_meeting.specs.Meeting.{IsMeeting}
 use Rattle.replay_scene.specs.Spaces.{bare}
-use Rattle.replay_shards.specs.Hands.{all_shown, parts_of}
+use Rattle.replay_slots.specs.Hands.{all_shown, parts_of}
 use Rattle.replay_shards.specs.Ready.{AreBut, AreNext}
 use Rattle.replay_shards.specs.Taken.{bytes_of, AreFound}
 use Rattle.replay_shards.proofs.Trying.{found-id}

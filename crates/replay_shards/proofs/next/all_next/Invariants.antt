@@ -2,7 +2,7 @@ use Rattle.std.proofs.Common.{take, List, ◌∷◌}
 use Rattle.calculus.specs.Log.{Step}
 use Rattle.replay_scene.specs.Spaces.{SeenRow}
 use Rattle.replay_space.specs.Rigs.{IsRigOf}
-use Rattle.replay_shards.specs.Hands.{all_shown, parts_of}
+use Rattle.replay_slots.specs.Hands.{all_shown, parts_of}
 use Rattle.replay_shards.specs.Ready.{AreNext}
 use Rattle.replay_shards.specs.Taken.{bytes_of, AreFound}
 use Rattle.replay_shards.proofs.next.all_next.Given as goal

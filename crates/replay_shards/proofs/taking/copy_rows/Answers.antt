@@ -1,4 +1,4 @@
-use Rattle.replay_shards.specs.Hands.{all_shown, parts_of}
+use Rattle.replay_slots.specs.Hands.{all_shown, parts_of}
 use Rattle.replay_shards.proofs.Trying.{taken-next, not-taken}
 use Rattle.replay_shards.proofs.taking.copy_rows.Goals as goal
 

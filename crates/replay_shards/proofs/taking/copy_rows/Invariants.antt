@@ -1,7 +1,7 @@
 use Rattle.std.proofs.Common.{take, List}
 use Rattle.calculus.specs.Log.{Step}
 use Rattle.replay_space.specs.Rigs.{IsRigOf}
-use Rattle.replay_shards.specs.Hands.{all_shown, parts_of}
+use Rattle.replay_slots.specs.Hands.{all_shown, parts_of}
 use Rattle.replay_shards.specs.Taken.{bytes_of, AreTaken}
 use Rattle.replay_shards.proofs.taking.copy_rows.Given as goal
 

@@ -1,7 +1,7 @@
 use Rattle.std.proofs.Common.{ap, subst}
 use Rattle.std.specs.Prelude.{Option, MatchOption, option_copied}
 use Rattle.calculus.specs.Rows.{Row}
-use Rattle.replay_shards.specs.Hands.{all_shown, parts_of}
+use Rattle.replay_slots.specs.Hands.{all_shown, parts_of}
 use Rattle.replay_shards.specs.Taken.{IsNotTaken, IsTaken}
 use Rattle.replay_shards.proofs.taking.take_one.Goals as goal
 

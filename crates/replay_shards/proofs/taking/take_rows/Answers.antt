@@ -1,4 +1,4 @@
-use Rattle.replay_shards.specs.Hands.{all_shown, parts_of}
+use Rattle.replay_slots.specs.Hands.{all_shown, parts_of}
 use Rattle.replay_shards.proofs.Trying.{taken-alone}
 use Rattle.replay_shards.proofs.taking.take_rows.Goals as goal
 

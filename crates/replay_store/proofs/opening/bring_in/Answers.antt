@@ -5,7 +5,7 @@ use Rattle.shard_rows.specs.Shards.{stands_in}
 use Rattle.replay_scene.specs.Spaces.{IndexTry, new_row}
 use Rattle.replay_scene.specs.Entries.{arrives}
 use Rattle.replay_rows.specs.Bits.{has_bit}
-use Rattle.replay_shards.specs.Hands.{TouchedBecome}
+use Rattle.replay_slots.specs.Hands.{TouchedBecome}
 use Rattle.replay_store.proofs.Opened.{on-ok, opened-more}
 use Rattle.replay_store.proofs.opening.bring_in.Goals as goal
 

@@ -1,5 +1,5 @@
 use Rattle.std.proofs.Common.{◌≡◌, ◌≤◌, ℕ, [], None}
-use Rattle.replay_shards.specs.Hands.{shard_at}
+use Rattle.replay_slots.specs.Hands.{shard_at}
 use Rattle.replay_store.specs.Stores.{AreOpenedBelow}
 use Rattle.replay_store.proofs.opening.empty_hand.Given as goal
 

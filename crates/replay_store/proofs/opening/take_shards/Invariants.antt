@@ -1,7 +1,7 @@
 use Rattle.std.proofs.Common.{◌≡◌, ◌≤◌, ℕ, length, Some}
 use Rattle.std.specs.Prelude.{slice_get}
 use Rattle.replay_scene.specs.Spaces.{Part}
-use Rattle.replay_shards.specs.Hands.{shard_at}
+use Rattle.replay_slots.specs.Hands.{shard_at}
 use Rattle.replay_store.proofs.opening.take_shards.Given as goal
 
 abbrev pub invariant-loop-number : goal.invariant-loop-number

@@ -1,7 +1,7 @@
 use Rattle.std.proofs.Common.{◌∙◌, map, string_bytes, refl, ap, Some, Ok}
 use Rattle.command_words.specs.Answers.{answer_of, run_of, request_of}
-use Rattle.run_deploys.proofs.Promised.{refused_deploy}
-use Rattle.run_replays.proofs.Promised.{refused_replay}
+use Rattle.recorded_runs.proofs.DeployPromises.{refused_deploy}
+use Rattle.recorded_runs.proofs.ReplayPromises.{refused_replay}
 use Rattle.run_reports.specs.World.{world}
 use Rattle.rho_main.proofs.Calls.{deploy_call, replay_call, wanting_call, wanting_refused, wanting_fetches}
 use Rattle.rho_main.proofs.accepting.accept.Goals as goal

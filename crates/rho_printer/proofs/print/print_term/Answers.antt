@@ -3,7 +3,7 @@ use Rattle.calculus.specs.Form.{term}
 use Rattle.calculus.proofs.FromFits.{formed, fine}
 use Rattle.calculus.proofs.Tails.{IsFine}
 use Rattle.calculus.specs.Printed.{printed_text}
-use Rattle.rho_printer.specs.Texts.{text_of}
+use Rattle.printed_leaves.specs.Texts.{text_of}
 use Rattle.rho_printer.proofs.print.print_term.Goals as goal
 
 pub returns : goal.returns

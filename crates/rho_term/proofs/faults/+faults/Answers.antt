@@ -1,10 +1,10 @@
 use Rattle.std.proofs.Common.{◌≡◌, ◌<◌, arith, ap, map, ◌≤◌, length, get_or, rules}
-use Rattle.calculus.specs.Form.{pat, name_pat, pat_part, name_part}
+use Rattle.calculus.specs.Form.{a_bind, a_case, name_part, name_pat, pair_of, pat, pat_part}
 use Rattle.calculus.specs.Tree.{weight, weights, trees}
 use Rattle.rho_term.specs.Parts.{pat_part_tree, pair_tree, bind_tree, case_tree}
 use Rattle.rho_term.proofs.Trees.{weight-at, tree-at}
-use Rattle.rho_term.proofs.Measuring.{normal-step}
-use Rattle.rho_term.proofs.Faulting.{count-trees, faults-step}
+use Rattle.rho_term.proofs.Measuring.{bind-normal, case-normal, normal-step, pair-normal}
+use Rattle.rho_term.proofs.Faulting.{bind-faults, case-faults, count-trees, faults-step, pair-faults}
 use Rattle.rho_term.proofs.faults.+faults.Goals as goal
 
 pub pat_faults-pat_part_faults-requires : goal.pat_faults-pat_part_faults-requires
@@ -72,3 +72,21 @@ pat_faults-loop-part-preserved t c =
 pub name_pat_faults-loop-part-preserved : goal.name_pat_faults-loop-part-preserved
 name_pat_faults-loop-part-preserved t c =
     faults-step name_part pat_part_tree _ _ _ _ _ _ c.loop-part-test.true c.part-item.is c.name_part_faults.ensures.faults c.plus-total.ensures c.loop-part.invariant
+
+pub binds_faults-loop-bind-preserved : goal.binds_faults-loop-bind-preserved
+binds_faults-loop-bind-preserved t c =
+    let g : c.bind-item.result ≡ get_or c.args.binds.now.items c.loop-bind.bind-index c.bind-item.result = search rules in
+    let i : c.loop-bind.bind-index < length c.args.binds.now.items = search rules in
+    (faults-step a_bind bind_tree _ _ _ _ _ _ i g (bind-faults c.bind-item.result _ _ _ c.faults.ensures.faults c.name_pats_faults.ensures.faults c.plus-found.ensures) c.plus-total.ensures c.loop-bind.invariant.0, normal-step bind_tree _ _ _ i g (bind-normal c.bind-item.result c.faults.ensures.normal c.name_pats_faults.ensures.normal) c.loop-bind.invariant.1)
+
+pub cases_faults-loop-case-preserved : goal.cases_faults-loop-case-preserved
+cases_faults-loop-case-preserved t c =
+    let g : c.case-item.result ≡ get_or c.args.cases.now.items c.loop-case.case-index c.case-item.result = search rules in
+    let i : c.loop-case.case-index < length c.args.cases.now.items = search rules in
+    (faults-step a_case case_tree _ _ _ _ _ _ i g (case-faults _ _ _ _ c.pat_faults.ensures.faults c.faults.ensures.faults c.plus-found.ensures) c.plus-total.ensures c.loop-case.invariant.0, normal-step case_tree _ _ _ i g (case-normal _ c.pat_faults.ensures.normal c.faults.ensures.normal) c.loop-case.invariant.1)
+
+pub pat_pairs_faults-loop-pair-preserved : goal.pat_pairs_faults-loop-pair-preserved
+pat_pairs_faults-loop-pair-preserved t c =
+    let g : c.pair-item.result ≡ get_or c.args.pairs.now.items c.loop-pair.pair-index c.pair-item.result = search rules in
+    let i : c.loop-pair.pair-index < length c.args.pairs.now.items = search rules in
+    (faults-step (pair_of pat) pair_tree _ _ _ _ _ _ i g (pair-faults pat _ _ _ _ c.pat_faults.ensures.faults c.pat_faults-in-loop-pair.ensures.faults c.plus-found.ensures) c.plus-total.ensures c.loop-pair.invariant.0, normal-step pair_tree _ _ _ i g (pair-normal _ c.pat_faults.ensures.normal c.pat_faults-in-loop-pair.ensures.normal) c.loop-pair.invariant.1)

@@ -1,7 +1,7 @@
 use Rattle.std.proofs.Common.{◌≡◌, ◌<◌, arith, ap, map, ◌≤◌, length, get_or, rules}
 use Rattle.calculus.specs.Tree.{weight, weights, trees}
 use Rattle.rho_term.specs.Parts.{pat_part_tree, pair_tree, bind_tree, case_tree}
-use Rattle.rho_term.proofs.Measuring.{height-step, normal-step, parts-step}
+use Rattle.rho_term.proofs.Measuring.{bind-height, bind-normal, case-height, case-normal, height-step, normal-step, pair-height, pair-normal, parts-step}
 use Rattle.rho_term.proofs.Trees.{weight-at, tree-at}
 use Rattle.rho_term.proofs.measure.+measure.Goals as goal
 
@@ -46,3 +46,21 @@ pats_height-loop-pat-preserved t c =
     let g : c.pat-item.result ≡ get_or c.args.pats.now.items c.loop-pat.pat-index c.pat-item.result = search rules in
     let i : c.loop-pat.pat-index < length c.args.pats.now.items = search rules in
     (height-step (λ t. t) _ _ _ _ _ _ i g c.pat_height.ensures.height c.greater-greatest.ensures c.loop-pat.invariant.0, normal-step (λ t. t) _ _ _ i g c.pat_height.ensures.normal c.loop-pat.invariant.1)
+
+pub binds_height-loop-bind-preserved : goal.binds_height-loop-bind-preserved
+binds_height-loop-bind-preserved t c =
+    let g : c.bind-item.result ≡ get_or c.args.binds.now.items c.loop-bind.bind-index c.bind-item.result = search rules in
+    let i : c.loop-bind.bind-index < length c.args.binds.now.items = search rules in
+    (height-step bind_tree _ _ _ _ _ _ i g (bind-height c.bind-item.result _ _ _ c.height.ensures.height c.pats_height.ensures.height c.greater-height.ensures) c.greater-greatest.ensures c.loop-bind.invariant.0, normal-step bind_tree _ _ _ i g (bind-normal c.bind-item.result c.height.ensures.normal c.pats_height.ensures.normal) c.loop-bind.invariant.1)
+
+pub cases_height-loop-case-preserved : goal.cases_height-loop-case-preserved
+cases_height-loop-case-preserved t c =
+    let g : c.case-item.result ≡ get_or c.args.cases.now.items c.loop-case.case-index c.case-item.result = search rules in
+    let i : c.loop-case.case-index < length c.args.cases.now.items = search rules in
+    (height-step case_tree _ _ _ _ _ _ i g (case-height _ _ _ _ c.pat_height.ensures.height c.height.ensures.height c.greater-height.ensures) c.greater-greatest.ensures c.loop-case.invariant.0, normal-step case_tree _ _ _ i g (case-normal _ c.pat_height.ensures.normal c.height.ensures.normal) c.loop-case.invariant.1)
+
+pub pat_pairs_height-loop-pair-preserved : goal.pat_pairs_height-loop-pair-preserved
+pat_pairs_height-loop-pair-preserved t c =
+    let g : c.pair-item.result ≡ get_or c.args.pairs.now.items c.loop-pair.pair-index c.pair-item.result = search rules in
+    let i : c.loop-pair.pair-index < length c.args.pairs.now.items = search rules in
+    (height-step pair_tree _ _ _ _ _ _ i g (pair-height _ _ _ _ c.pat_height.ensures.height c.pat_height-in-loop-pair.ensures.height c.greater-height.ensures) c.greater-greatest.ensures c.loop-pair.invariant.0, normal-step pair_tree _ _ _ i g (pair-normal _ c.pat_height.ensures.normal c.pat_height-in-loop-pair.ensures.normal) c.loop-pair.invariant.1)

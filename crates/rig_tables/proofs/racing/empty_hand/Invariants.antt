@@ -1,6 +1,6 @@
 use Rattle.std.proofs.Common.{◌≡◌, ◌≤◌, ◌<◌, ℕ, None}
 use Rattle.std.specs.Prelude.{IsSome}
-use Rattle.replay_shards.specs.Hands.{shard_at}
+use Rattle.replay_slots.specs.Hands.{shard_at}
 use Rattle.rig_tables.proofs.racing.empty_hand.Given as goal
 
 abbrev pub invariant-loop-number : goal.invariant-loop-number

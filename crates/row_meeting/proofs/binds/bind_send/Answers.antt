@@ -1,5 +1,5 @@
 use Rattle.std.proofs.Common.{sym, ◌∙◌, subst}
-use Rattle.spatial_match.specs.Given.{AllReady}
+use Rattle.match_targets.specs.Targets.{AllReady}
 use Rattle.calculus.specs.Form.{term}
 use Rattle.row_search.proofs.Known.{as-row, send-args}
 use Rattle.row_meeting.proofs.Taking.{send-bound}

@@ -1,5 +1,5 @@
 use Rattle.std.proofs.Common.{◌∙◌}
-use Rattle.spatial_match.proofs.Alike.{same_codes}
+use Rattle.match_targets.proofs.Alike.{same_codes}
 use Rattle.row_meeting.proofs.binds.same_channel.Goals as goal
 
 pub returns : goal.returns

@@ -1,5 +1,5 @@
 use Rattle.std.proofs.Common.{◌≡◌, ◌∙◌, List, ℕ, ap, sym, subst}
-use Rattle.run_replays.specs.Replaying.{IsLeftByReplay}
+use Rattle.recorded_runs.specs.Replaying.{IsLeftByReplay}
 use Rattle.run_status.specs.declared.status.Status.{Status}
 use Rattle.run_status.specs.declared.status.Status.TheVariants.{NoMemory}
 use Rattle.run_status.proofs.Handing.{handed}

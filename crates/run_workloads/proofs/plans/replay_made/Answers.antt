@@ -1,6 +1,6 @@
 use Rattle.std.proofs.Common.{◌≡◌, ◌∙◌, sym, subst}
 use Rattle.std.proofs.lemmas.Result.{IfErr-weaker, IfOk-weaker}
-use Rattle.run_replays.proofs.Answering.{left_by_replay}
+use Rattle.recorded_runs.proofs.Answering.{left_by_replay}
 use Rattle.run_status.specs.declared.status.Status.{Status}
 use Rattle.run_status.proofs.Handing.{handed}
 use Rattle.run_workloads.specs.Made.{made_task}

@@ -1,7 +1,7 @@
 use Rattle.std.proofs.Common.{string_bytes}
 use Rattle.run_reports.specs.World.{World, world}
 use Rattle.run_workloads.proofs.Ending.{refusal_ends, verdict_ends}
-use Rattle.run_ends.proofs.Endings.{on_verdict}
+use Rattle.recorded_runs.proofs.Endings.{on_verdict}
 use Rattle.run_workloads.proofs.Leaving.{leaves_all, leaves_part}
 use Rattle.run_workloads.proofs.workloads.run_made.Goals as goal
 

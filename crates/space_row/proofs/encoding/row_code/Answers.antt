@@ -25,5 +25,5 @@ returns-in_ok-row_term-in-Consume c =
     let p = c.in-Consume in
     let is = sym (ap row_of_op p.is) ∙ c.op.ensures.is in
     let term = c.in_ok-row_term-in-Consume.ensures ∙ sym (ap (λ (r : Row). only r.part) is) in
-    IfOk-weaker c.receive_code-in-Consume.result _ _
-    (λ v h. h ∙ ap (λ (t : Tree). 0x02 ∷ (p.id.0 ++ drop 5 (code t))) term ∙ sym (code-receive p.id p.kind p.binds p.body) ∙ ap row_code is) c.receive_code-in-Consume.ensures
+    IfOk-weaker c.receive_code.result _ _
+    (λ v h. h ∙ ap (λ (t : Tree). 0x02 ∷ (p.id.0 ++ drop 5 (code t))) term ∙ sym (code-receive p.id p.kind p.binds p.body) ∙ ap row_code is) c.receive_code.ensures

@@ -1,7 +1,7 @@
 use Rattle.std.proofs.Common.{List, ap, ◌∙◌, subst}
 use Rattle.calculus.specs.Matching.{Bindings, one_if}
 use Rattle.rho_term.specs.Parts.{part_tree}
-use Rattle.spatial_match.specs.Found.{IsFirst}
+use Rattle.match_targets.specs.Found.{IsFirst}
 use Rattle.spatial_match.proofs.Compared.{compared-found, compared-ready}
 use Rattle.spatial_match.proofs.forms.find_closed.Goals as goal
 

@@ -4,7 +4,8 @@ use Rattle.calculus.specs.Tree.{Tree}
 use Rattle.calculus.specs.Operators.{of_list}
 use Rattle.calculus.specs.Matching.{Bindings, bind_matches, first_items_match}
 use Rattle.spatial_match.specs.Given.{AllTries}
-use Rattle.spatial_match.specs.Found.{IsFirst, tried_pats}
+use Rattle.match_targets.specs.Found.{IsFirst}
+use Rattle.spatial_match.specs.Found.{tried_pats}
 use Rattle.spatial_match.proofs.Closing.{bind_tries}
 use Rattle.spatial_match.proofs.Rows.{wholes-row}
 use Rattle.spatial_match.proofs.matches.match_bind.Goals as goal

@@ -1,5 +1,5 @@
 use Rattle.std.proofs.Common.{arith}
-use Rattle.spatial_match.proofs.Repeating.{part-ready-at}
+use Rattle.match_targets.proofs.Repeating.{part-ready-at}
 use Rattle.tables.proofs.matches.match_one.Goals as goal
 
 pub match_target-requires : goal.match_target-requires

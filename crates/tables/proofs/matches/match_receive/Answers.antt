@@ -2,7 +2,7 @@ use Rattle.std.proofs.Common.{List, map as each, sym, subst}
 use Rattle.calculus.specs.Form.{a_bind}
 use Rattle.rho_term.specs.Parts.{bind_tree}
 use Rattle.rho_term.specs.declared.term.TermBind.{TermBind}
-use Rattle.spatial_match.specs.Given.{AllReady}
+use Rattle.match_targets.specs.Targets.{AllReady}
 use Rattle.tables.proofs.Handing.{binds-ready, ready_as}
 use Rattle.tables.proofs.matches.match_receive.Goals as goal
 

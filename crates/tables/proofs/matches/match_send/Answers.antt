@@ -1,7 +1,7 @@
 use Rattle.std.proofs.Common.{sym, subst}
 use Rattle.calculus.specs.Form.{term}
-use Rattle.spatial_match.specs.Given.{AllReady}
-use Rattle.spatial_match.proofs.Readying.{data-ready}
+use Rattle.match_targets.specs.Targets.{AllReady}
+use Rattle.match_targets.proofs.Readying.{data-ready}
 use Rattle.tables.proofs.Handing.{ready_as}
 use Rattle.tables.proofs.matches.match_send.Goals as goal
 

@@ -1,5 +1,5 @@
 use Rattle.std.proofs.Common.{arith}
-use Rattle.spatial_match.proofs.Repeating.{part-ready-at}
+use Rattle.match_targets.proofs.Repeating.{part-ready-at}
 use Rattle.tables.proofs.matches.match_two.Goals as goal
 
 pub match_send-requires-clause-send : goal.match_send-requires-clause-send

@@ -4,7 +4,7 @@ use Rattle.calculus.specs.Matching.{all_matches, first_match}
 use Rattle.calculus.specs.Form.{IsClosed}
 use Rattle.calculus.specs.Substitution.{put}
 use Rattle.rho_term.specs.Parts.{case_tree}
-use Rattle.spatial_match.specs.Found.{IsFirst}
+use Rattle.match_targets.specs.Found.{IsFirst}
 use Rattle.unfold.proofs.Cases.{case-closed, tried-next, none-first, fitting-closed, within-closed}
 use Rattle.unfold.proofs.inner.case_body.Goals as goal
 

@@ -43,41 +43,41 @@ pub returns-clause-hub : goal.returns-clause-hub
 returns-clause-hub g c = c.take_at.ensures.hub ∙ c.in-Ok.ensures.hub
 
 pub returns-clause-drawn : goal.returns-clause-drawn
-returns-clause-drawn g c = ap (λ x. x.0.entries) c.take_at.ensures.view ∙ c.in-Ok.ensures.drawn
+returns-clause-drawn g c = ap (λ x. x.0.entries) c.take_at.ensures.looked.view ∙ c.in-Ok.ensures.drawn
 
 pub returns-clause-held : goal.returns-clause-held
-returns-clause-held g c = ap (λ x. x.0.held) c.take_at.ensures.view ∙ c.in-Ok.ensures.held
+returns-clause-held g c = ap (λ x. x.0.held) c.take_at.ensures.looked.view ∙ c.in-Ok.ensures.held
 
 pub returns-clause-since : goal.returns-clause-since
-returns-clause-since g c = ap (λ x. x.0.since) c.take_at.ensures.view ∙ c.in-Ok.ensures.since
+returns-clause-since g c = ap (λ x. x.0.since) c.take_at.ensures.looked.view ∙ c.in-Ok.ensures.since
 
 pub returns-clause-charged : goal.returns-clause-charged
 returns-clause-charged g c =
     let t = c.take_at.ensures in
-    looked_charged _ _ _ _ record { view = t.view; goes = t.tally; some = t.some; go = t.go; none = t.none } c.in-Ok.ensures.tally c.requires.charged
+    looked_charged _ _ _ _ t.looked c.in-Ok.ensures.tally c.requires.charged
 
 pub returns-clause-taken : goal.returns-clause-taken
 returns-clause-taken g c =
     let t = c.take_at.ensures in
-    looked_taken _ _ _ record { view = t.view; goes = t.tally; some = t.some; go = t.go; none = t.none }
+    looked_taken _ _ _ t.looked
 
 pub returns-clause-new : goal.returns-clause-new
 returns-clause-new g c =
     let t = c.take_at.ensures in
-    looked_new _ _ _ _ record { view = t.view; goes = t.tally; some = t.some; go = t.go; none = t.none } c.in-Ok.ensures.works c.requires.idle
+    looked_new _ _ _ _ t.looked c.in-Ok.ensures.works c.requires.idle
 
 pub returns-clause-go : goal.returns-clause-go
 returns-clause-go g c =
     let t = c.take_at.ensures in let a = c.in-Ok.ensures in let r = t.room in let h = a.room in
     let room : HasRoom c.take_at.new.state = (omega arith, omega arith) in
-    looked_go _ _ _ _ _ record { view = t.view; goes = t.tally; some = t.some; go = t.go; none = t.none } a.tally room
+    looked_go _ _ _ _ _ t.looked a.tally room
 
 pub returns-clause-idle : goal.returns-clause-idle
 returns-clause-idle g c =
     let t = c.take_at.ensures in
-    looked_idle _ _ _ _ record { view = t.view; goes = t.tally; some = t.some; go = t.go; none = t.none } c.in-Ok.ensures.works c.requires.idle
+    looked_idle _ _ _ _ t.looked c.in-Ok.ensures.works c.requires.idle
 
 pub returns-clause-cause : goal.returns-clause-cause
 returns-clause-cause g c =
     let t = c.take_at.ensures in
-    looked_cause _ _ _ _ _ record { view = t.view; goes = t.tally; some = t.some; go = t.go; none = t.none } c.in-Ok.ensures.tally c.in-Ok.ensures.works
+    looked_cause _ _ _ _ _ t.looked c.in-Ok.ensures.tally c.in-Ok.ensures.works

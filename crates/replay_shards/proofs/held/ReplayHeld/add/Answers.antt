@@ -1,8 +1,8 @@
 use Rattle.std.proofs.Common.{ap, ◌∙◌, arith}
 use Rattle.std.specs.Prelude.{Some}
-use Rattle.replay_shards.specs.Hands.{InHand, shard_at}
-use Rattle.replay_shards.proofs.Stepping.{one-length}
-use Rattle.replay_shards.proofs.Placing.{filed-set, set-here, set-others}
+use Rattle.replay_slots.specs.Hands.{InHand, shard_at}
+use Rattle.replay_slots.proofs.Stepping.{one-length}
+use Rattle.replay_slots.proofs.Placing.{filed-set, set-here, set-others}
 use Rattle.replay_shards.proofs.held.ReplayHeld.add.Goals as goal
 
 pub invariant_of-self : goal.invariant_of-self

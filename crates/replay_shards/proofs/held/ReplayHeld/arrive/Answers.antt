@@ -4,10 +4,10 @@ use Rattle.std.proofs.lemmas.Result.{on_ok_weaker}
 use Rattle.replay_scene.specs.Spaces.{new_row}
 use Rattle.replay_scene.specs.Entries.{arrives}
 use Rattle.replay_rows.specs.Bits.{has_bit}
-use Rattle.replay_shards.specs.Hands.{InHand, parts_of, shard_at, TouchedBecome}
-use Rattle.replay_shards.proofs.Arriving.{one-arrived, is-there}
-use Rattle.replay_shards.proofs.Placing.{part-at}
-use Rattle.replay_shards.proofs.Within.{still-within}
+use Rattle.replay_slots.specs.Hands.{InHand, parts_of, shard_at, TouchedBecome}
+use Rattle.replay_slots.proofs.Arriving.{one-arrived, is-there}
+use Rattle.replay_slots.proofs.Placing.{part-at}
+use Rattle.replay_slots.proofs.Within.{still-within}
 use Rattle.replay_shards.proofs.held.ReplayHeld.arrive.Goals as goal
 
 pub arrive_at-requires-clause-there : goal.arrive_at-requires-clause-there

@@ -4,11 +4,11 @@ use Rattle.calculus.specs.Log.{Step}
 use Rattle.event_log.specs.declared.log.LogStep.{LogStep}
 use Rattle.event_log.specs.View.{step_of}
 use Rattle.replay_scene.specs.Spaces.{IsIn}
-use Rattle.replay_shards.specs.Hands.{InHand, all_shown, parts_of, shard_at}
+use Rattle.replay_slots.specs.Hands.{InHand, all_shown, parts_of, shard_at}
 use Rattle.replay_rows.specs.Rows.{settled_part}
 use Rattle.replay_shards.specs.Taken.{bytes_of}
 use Rattle.replay_shards.proofs.Calling.{Split, its-step, split-at, all-become}
-use Rattle.replay_shards.proofs.Placing.{mapped-at}
+use Rattle.replay_slots.proofs.Placing.{mapped-at}
 use Rattle.replay_shards.proofs.held.ReplayHeld.commit_done.Goals as goal
 
 pub invariant_of-self : goal.invariant_of-self

@@ -1,8 +1,8 @@
 use Rattle.std.proofs.Common.{length, ap, ◌∙◌, arith, get_or, List}
 use Rattle.std.specs.Prelude.{None, option_map}
 use Rattle.replay_rows.specs.Rows.{part_of}
-use Rattle.replay_shards.specs.Hands.{Slot}
-use Rattle.replay_shards.proofs.Placing.{length-one-more, none-there, none-pushed, part-at}
+use Rattle.replay_slots.specs.Hands.{Slot}
+use Rattle.replay_slots.proofs.Placing.{length-one-more, none-there, none-pushed, part-at}
 use Rattle.replay_shards.proofs.held.ReplayHeld.new.Goals as goal
 
 pub loop-init : goal.loop-init

@@ -1,10 +1,10 @@
 use Rattle.std.proofs.Common.{List, get_or, sym, ap, subst, ◌∙◌, arith}
 use Rattle.std.specs.Prelude.{None, option_map, set}
 use Rattle.replay_rows.specs.Rows.{part_of}
-use Rattle.replay_shards.specs.Hands.{InHand, Slot, IsSlotFiled, shard_at}
-use Rattle.replay_shards.proofs.Stepping.{one-length}
-use Rattle.replay_shards.proofs.Placing.{filed-set, set-here, set-others, there-filed}
-use Rattle.replay_shards.proofs.Within.{risen, set-free}
+use Rattle.replay_slots.specs.Hands.{InHand, Slot, IsSlotFiled, shard_at}
+use Rattle.replay_slots.proofs.Stepping.{one-length}
+use Rattle.replay_slots.proofs.Placing.{filed-set, set-here, set-others, there-filed}
+use Rattle.replay_slots.proofs.Within.{risen, set-free}
 use Rattle.replay_shards.proofs.held.ReplayHeld.remove.Goals as goal
 
 pub invariant_of-result : goal.invariant_of-result

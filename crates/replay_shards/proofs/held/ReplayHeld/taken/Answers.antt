@@ -1,7 +1,7 @@
 use Rattle.std.proofs.Common.{List, sym, ap, subst, ◌∙◌}
 use Rattle.std.specs.Prelude.{slice_range}
-use Rattle.replay_shards.specs.Hands.{Slot, all_shown, parts_of, AreSlotsFiled}
-use Rattle.replay_shards.proofs.Within.{range-filed, within-shown}
+use Rattle.replay_slots.specs.Hands.{Slot, all_shown, parts_of, AreSlotsFiled}
+use Rattle.replay_slots.proofs.Within.{range-filed, within-shown}
 use Rattle.replay_shards.proofs.held.ReplayHeld.taken.Goals as goal
 
 pub returns-in-Some-clause-filed : goal.returns-in-Some-clause-filed

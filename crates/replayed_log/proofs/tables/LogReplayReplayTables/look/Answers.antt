@@ -9,7 +9,7 @@ use Rattle.racing_replays.proofs.Converse.{split-at}
 use Rattle.shard_rows.specs.Shards.{stands_in}
 use Rattle.replay_scene.specs.Spaces.{SeenRow}
 use Rattle.replay_hub.specs.Values.{has_bit}
-use Rattle.replay_shards.specs.Hands.{shard_at, all_shown}
+use Rattle.replay_slots.specs.Hands.{shard_at, all_shown}
 use Rattle.replay_shards.specs.Ready.{IsReady}
 use Rattle.replay_shards.specs.Taken.{FitsNothing}
 use Rattle.replay_shards.proofs.Calling.{as-many-steps, Split}

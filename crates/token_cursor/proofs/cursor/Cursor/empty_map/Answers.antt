@@ -1,10 +1,10 @@
-use Rattle.grammar.specs.Descent.{runs_sign, no_sign}
 use Rattle.token_cursor.specs.Reading.{of_proc}
-use Rattle.token_cursor.proofs.Steps.{ends, exit}
+use Rattle.token_cursor.proofs.Steps.{closes, made_height}
 use Rattle.token_cursor.proofs.cursor.Cursor.empty_map.Goals as goal
 
-pub returns-in_err-expect-clause-reads : goal.returns-in_err-expect-clause-reads
-returns-in_err-expect-clause-reads c = λ free. exit (of_proc) _ _ c.from_residual.ensures.1 (no_sign c.in_err-expect.ensures.reads)
-
-pub returns-clause-reads : goal.returns-clause-reads
-returns-clause-reads c = λ free. runs_sign c.in_ok-expect.ensures.reads (ends _ _ c.empty_map.ensures.tree c.empty_map.ensures.height)
+pub returns : goal.returns
+returns c = record {
+  reads = λ free. closes _ of_proc c.empty_map-form.result _ _ c.closed.ensures.reads c.empty_map-form.ensures.tree c.empty_map-form.ensures.height;
+  height = made_height _ _ _ _ c.empty_map-form.result _ c.closed.ensures.reads c.empty_map-form.ensures.height;
+  shorter = c.closed.ensures.shorter;
+}

@@ -1,13 +1,26 @@
-use Rattle.grammar.specs.declared.mark.Mark.TheVariants.{Comma, Ellipsis}
-use Rattle.grammar.specs.Terminals.{sees}
+use Rattle.std.proofs.Common.{List, map, ℕ}
+use Rattle.calculus.specs.Meaning.{name_pat_written}
+use Rattle.calculus.specs.Written.{Written}
+use Rattle.grammar.specs.declared.mark.Mark.TheVariants as marks
+use Rattle.grammar.specs.Productions.{Prod}
+use Rattle.grammar.specs.Rules.{Sort, last}
+use Rattle.grammar.specs.Terminals.{Terminal, sees}
+use Rattle.grammar.specs.Values.{left_of}
 use Rattle.token_cursor.specs.Meaning.{view}
-use Rattle.std.proofs.Common.{◌≡◌, sym, ◌∙◌, true, false}
-use Rattle.grammar.specs.Descent.{runs_sign}
-use Rattle.token_cursor.proofs.Steps.{ends, left_closed, rest_next}
+use Rattle.token_cursor.specs.Reading.{of_left}
+use Rattle.token_cursor.proofs.Steps.{chosen, ends, exit, left_closed}
 use Rattle.token_cursor.proofs.cursor.Cursor.left_end.Goals as goal
 
-pub returns-then-sees-2-clause-reads : goal.returns-then-sees-2-clause-reads
-returns-then-sees-2-clause-reads c = λ free. let a : sees Ellipsis (view c.args.self.now.rest.now) ≡ false = sym c.sees.ensures ∙ c.if-sees.false in let b : sees Comma (view c.args.self.now.rest.now) ≡ true = sym c.sees-2.ensures ∙ c.if-sees-2.true in let e : sees Ellipsis (view c.expect.new.self.rest.now) ≡ true = rest_next c.requires.member c.in_ok-expect.ensures.reads in rw (a, b) (runs_sign c.in_ok-expect.ensures.reads (left_closed _ _ e (c.left_rest-then-sees-2.ensures.reads free)))
+pub returns-in_err-rest-clause-reads : goal.returns-in_err-rest-clause-reads
+returns-in_err-rest-clause-reads c = λ free.
+    let ps : List Written = map name_pat_written c.args.pats.value.items in
+    let h : ℕ = c.args.pats.height in
+    let ts : List Terminal = view c.args.self.now.rest.now in
+    exit of_left _ _ c.from_residual.ensures.1 (chosen (Prod.left_end_rest ps h) (Prod.left_comma ps h) (Prod.left_end ps h) (sees marks.Ellipsis ts) (sees marks.Comma ts) (c.in_err-rest.ensures.reads free (left_of ps h) (last (Sort.LeftNext ps h)) (λ us out e r. left_closed ps h e r)))
 
 pub returns-clause-reads : goal.returns-clause-reads
-returns-clause-reads c = λ free. let a : sees Ellipsis (view c.args.self.now.rest.now) ≡ false = sym c.sees.ensures ∙ c.if-sees.false in let b : sees Comma (view c.args.self.now.rest.now) ≡ false = sym c.sees-2.ensures ∙ c.if-sees-2.false in rw (a, b) (ends _ _ c.left.ensures.tree c.left.ensures.height)
+returns-clause-reads c = λ free.
+    let ps : List Written = map name_pat_written c.args.pats.value.items in
+    let h : ℕ = c.args.pats.height in
+    let ts : List Terminal = view c.args.self.now.rest.now in
+    chosen (Prod.left_end_rest ps h) (Prod.left_comma ps h) (Prod.left_end ps h) (sees marks.Ellipsis ts) (sees marks.Comma ts) (c.in_ok-rest.ensures.reads free (left_of ps h) (last (Sort.LeftNext ps h)) (λ us out e r. left_closed ps h e r) _ (ends _ _ c.left.ensures.tree c.left.ensures.height))

@@ -1,10 +1,10 @@
-use Rattle.grammar.specs.Descent.{runs_sign, no_sign}
 use Rattle.token_cursor.specs.Reading.{of_name_pat}
-use Rattle.token_cursor.proofs.Steps.{ends, exit}
+use Rattle.token_cursor.proofs.Steps.{closes, made_height}
 use Rattle.token_cursor.proofs.cursor.Cursor.name_any.Goals as goal
 
-pub returns-in_err-expect-clause-reads : goal.returns-in_err-expect-clause-reads
-returns-in_err-expect-clause-reads c = λ free. exit (of_name_pat) _ _ c.from_residual.ensures.1 (no_sign c.in_err-expect.ensures.reads)
-
-pub returns-clause-reads : goal.returns-clause-reads
-returns-clause-reads c = λ free. runs_sign c.in_ok-expect.ensures.reads (ends _ _ c.any_channel.ensures.tree c.any_channel.ensures.height)
+pub returns : goal.returns
+returns c = record {
+  reads = λ free. closes _ of_name_pat c.any_channel-form.result _ _ c.closed.ensures.reads c.any_channel-form.ensures.tree c.any_channel-form.ensures.height;
+  height = made_height _ _ _ _ c.any_channel-form.result _ c.closed.ensures.reads c.any_channel-form.ensures.height;
+  shorter = c.closed.ensures.shorter;
+}

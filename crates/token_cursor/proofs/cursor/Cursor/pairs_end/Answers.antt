@@ -1,10 +1,25 @@
-use Rattle.grammar.specs.declared.mark.Mark.TheVariants.{Comma, Ellipsis}
-use Rattle.grammar.specs.Terminals.{sees}
+use Rattle.std.proofs.Common.{List, ℕ}
+use Rattle.calculus.specs.Written.{Written}
+use Rattle.grammar.specs.declared.mark.Mark.TheVariants as marks
+use Rattle.grammar.specs.Productions.{Prod}
+use Rattle.grammar.specs.Rules.{Sort, last}
+use Rattle.grammar.specs.Terminals.{Terminal, sees}
+use Rattle.grammar.specs.Values.{map_pattern_of, opened}
 use Rattle.token_cursor.specs.Meaning.{view}
-use Rattle.std.proofs.Common.{◌≡◌, sym, ◌∙◌, true}
-use Rattle.grammar.specs.Descent.{runs_sign}
-use Rattle.token_cursor.proofs.Steps.{pairs_closed, rest_next}
+use Rattle.token_cursor.specs.Reading.{of_pat, pat_pairs_written}
+use Rattle.token_cursor.proofs.Steps.{chosen, ends, exit, pairs_closed}
 use Rattle.token_cursor.proofs.cursor.Cursor.pairs_end.Goals as goal
 
-pub returns-then-sees-2-clause-reads : goal.returns-then-sees-2-clause-reads
-returns-then-sees-2-clause-reads c = λ free. let b : sees Comma (view c.args.self.now.rest.now) ≡ true = sym c.sees-2.ensures ∙ c.if-sees-2.true in let e : sees Ellipsis (view c.expect.new.self.rest.now) ≡ true = rest_next c.requires.member c.in_ok-expect.ensures.reads in rw b (runs_sign c.in_ok-expect.ensures.reads (pairs_closed _ _ e (c.pairs_rest-then-sees-2.ensures.reads free)))
+pub returns-in_err-rest-clause-reads : goal.returns-in_err-rest-clause-reads
+returns-in_err-rest-clause-reads c = λ free.
+    let ps : List Written = pat_pairs_written c.args.pairs.value.items in
+    let h : ℕ = c.args.pairs.height in
+    let ts : List Terminal = view c.args.self.now.rest.now in
+    exit of_pat _ _ c.from_residual.ensures.1 (chosen (Prod.ppairs_comma ps h) (Prod.ppairs_rest ps h) (Prod.ppairs_end ps h) (sees marks.Comma ts) (sees marks.Ellipsis ts) (c.in_err-rest.ensures.reads free (λ t. opened (map_pattern_of ps t) h) (last (Sort.PPairsNext ps h)) (λ us out e r. pairs_closed ps h e r)))
+
+pub returns-clause-reads : goal.returns-clause-reads
+returns-clause-reads c = λ free.
+    let ps : List Written = pat_pairs_written c.args.pairs.value.items in
+    let h : ℕ = c.args.pairs.height in
+    let ts : List Terminal = view c.args.self.now.rest.now in
+    chosen (Prod.ppairs_comma ps h) (Prod.ppairs_rest ps h) (Prod.ppairs_end ps h) (sees marks.Comma ts) (sees marks.Ellipsis ts) (c.in_ok-rest.ensures.reads free (λ t. opened (map_pattern_of ps t) h) (last (Sort.PPairsNext ps h)) (λ us out e r. pairs_closed ps h e r) _ (ends _ _ c.map_pat.ensures.tree c.map_pat.ensures.height))

@@ -1,10 +1,10 @@
-use Rattle.grammar.specs.Descent.{runs_sign, no_sign}
 use Rattle.token_cursor.specs.Reading.{of_pat}
-use Rattle.token_cursor.proofs.Steps.{ends, exit}
+use Rattle.token_cursor.proofs.Steps.{closes_as, made_height}
 use Rattle.token_cursor.proofs.cursor.Cursor.pat_type.Goals as goal
 
-pub returns-in_err-expect_type-clause-reads : goal.returns-in_err-expect_type-clause-reads
-returns-in_err-expect_type-clause-reads c = λ free. exit (of_pat) _ _ c.from_residual.ensures.1 (no_sign c.in_err-expect_type.ensures.reads)
-
-pub returns-clause-reads : goal.returns-clause-reads
-returns-clause-reads c = λ free. runs_sign c.in_ok-expect_type.ensures.reads (ends _ _ c.simple.ensures.tree c.simple.ensures.height)
+pub returns : goal.returns
+returns c = record {
+  reads = λ free. closes_as _ of_pat c.simple-form.result _ _ c.type_mark.ensures c.closed.ensures.reads c.simple-form.ensures.tree c.simple-form.ensures.height;
+  height = made_height _ _ _ _ c.simple-form.result _ c.closed.ensures.reads c.simple-form.ensures.height;
+  shorter = c.closed.ensures.shorter;
+}

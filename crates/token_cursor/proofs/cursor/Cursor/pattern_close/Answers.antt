@@ -1,10 +1,10 @@
-use Rattle.grammar.specs.Descent.{runs_sign, no_sign}
 use Rattle.token_cursor.specs.Reading.{of_pat}
-use Rattle.token_cursor.proofs.Steps.{ends, gives_up}
+use Rattle.token_cursor.proofs.Steps.{closes, made_height}
 use Rattle.token_cursor.proofs.cursor.Cursor.pattern_close.Goals as goal
 
-pub returns-in-Err-clause-reads : goal.returns-in-Err-clause-reads
-returns-in-Err-clause-reads c = λ free. gives_up of_pat _ _ c.give_up.ensures (no_sign c.in-Err.ensures.reads)
-
-pub returns-in-Ok-clause-reads : goal.returns-in-Ok-clause-reads
-returns-in-Ok-clause-reads c = λ free. runs_sign c.in-Ok.ensures.reads (ends _ _ c.opened_pat.ensures.tree c.opened_pat.ensures.height)
+pub returns : goal.returns
+returns c = record {
+  reads = λ free. closes _ of_pat c.opened_pat-form.result _ _ c.closed.ensures.reads c.opened_pat-form.ensures.tree c.opened_pat-form.ensures.height;
+  height = made_height _ _ _ _ c.opened_pat-form.result _ c.closed.ensures.reads c.opened_pat-form.ensures.height;
+  shorter = c.closed.ensures.shorter;
+}

@@ -1,0 +1,10 @@
+pub mod ByteLimits
+pub mod Bare
+pub mod Congruence
+pub mod Form
+pub mod Matches
+pub mod Printed
+pub mod Runs
+pub mod Steps
+pub mod Unfoldings
+pub mod Values

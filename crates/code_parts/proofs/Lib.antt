@@ -1,0 +1,11 @@
+pub mod FormTags
+pub mod Counting
+pub mod Failing
+pub mod RowFailures
+pub mod FormFailures
+pub mod PatFailures
+pub mod Formed
+pub mod LeafForms
+pub mod Tagging
+pub mod Keeping
+pub mod HeadForms

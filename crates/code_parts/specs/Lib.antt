@@ -1,0 +1,4 @@
+pub mod Outcomes
+pub mod Keeping
+pub mod Tagging
+pub mod Heads

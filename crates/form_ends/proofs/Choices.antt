@@ -1,0 +1,60 @@
+-- The production that the next terminals choose.
+use Rattle.std.proofs.Common.{◌≡◌, ℕ, List, true, false}
+use Rattle.calculus.specs.Written.{Written}
+use Rattle.grammar.specs.declared.dialect.Dialect.TheVariants.{Tutorial}
+use Rattle.grammar.specs.declared.mark.Mark.TheVariants as marks
+use Rattle.grammar.specs.Choice.{choose}
+use Rattle.grammar.specs.Descent.{Outcome, Runs, runs_last}
+use Rattle.grammar.specs.Grammar.{rule}
+use Rattle.grammar.specs.Productions.{Prod}
+use Rattle.grammar.specs.Rules.{Bracket, Sort, closing, done, last}
+use Rattle.grammar.specs.Terminals.{Terminal, sees}
+use Rattle.grammar.specs.Values.{Side, Spelt}
+use Rattle.rho_lexer.specs.declared.token.Token.{Token}
+use Rattle.token_cursor.specs.Meaning.{view}
+use Rattle.token_cursor.proofs.Fronts.{no_fresh}
+
+pub either_on : {free : ℕ} {ts : List Terminal} {out : Outcome} (a : Spelt) → sees marks.Either ts ≡ true → Runs Tutorial free (rule Tutorial (Prod.palt_more a)) ts out → Runs Tutorial free (last (Sort.PAltTail a)) ts out
+either_on a s r = runs_last (rw s r)
+
+pub either_off : {free : ℕ} {ts : List Terminal} {out : Outcome} (a : Spelt) → sees marks.Either ts ≡ false → Runs Tutorial free (done a) ts out → Runs Tutorial free (last (Sort.PAltTail a)) ts out
+either_off a s r = runs_last (rw s r)
+
+pub both_on : {free : ℕ} {ts : List Terminal} {out : Outcome} (a : Spelt) → sees marks.Both ts ≡ true → Runs Tutorial free (rule Tutorial (Prod.pand_more a)) ts out → Runs Tutorial free (last (Sort.PAndTail a)) ts out
+both_on a s r = runs_last (rw s r)
+
+pub both_off : {free : ℕ} {ts : List Terminal} {out : Outcome} (a : Spelt) → sees marks.Both ts ≡ false → Runs Tutorial free (done a) ts out → Runs Tutorial free (last (Sort.PAndTail a)) ts out
+both_off a s r = runs_last (rw s r)
+
+pub cases_end : {free : ℕ} {ts : List Terminal} {out : Outcome} (t : Spelt) (cs : List Written) (h : ℕ) → sees marks.CloseBrace ts ≡ true → Runs Tutorial free (rule Tutorial (Prod.case_end t cs h)) ts out → Runs Tutorial free (last (Sort.CaseTail t cs h)) ts out
+cases_end t cs h s r = runs_last (rw s r)
+
+pub cases_go_on : {free : ℕ} {ts : List Terminal} {out : Outcome} (t : Spelt) (cs : List Written) (h : ℕ) → sees marks.CloseBrace ts ≡ false → Runs Tutorial free (rule Tutorial (Prod.case_more t cs h)) ts out → Runs Tutorial free (last (Sort.CaseTail t cs h)) ts out
+cases_go_on t cs h s r = runs_last (rw s r)
+
+pub group_on : {free : ℕ} {ts : List Terminal} {out : Outcome} (side : Side) (a : Spelt) → sees marks.Comma ts ≡ true → Runs Tutorial free (rule Tutorial (Prod.group_tuple side a)) ts out → Runs Tutorial free (last (Sort.Group side a)) ts out
+group_on side a s r = runs_last (rw s r)
+
+pub group_off : {free : ℕ} {ts : List Terminal} {out : Outcome} (side : Side) (a : Spelt) → sees marks.Comma ts ≡ false → Runs Tutorial free (rule Tutorial (Prod.group_close side a)) ts out → Runs Tutorial free (last (Sort.Group side a)) ts out
+group_off side a s r = runs_last (rw s r)
+
+pub name_at : {free : ℕ} {ts : List Terminal} {out : Outcome} → sees marks.At ts ≡ true → Runs Tutorial free (rule Tutorial Prod.name_quote) ts out → Runs Tutorial free (rule Tutorial (choose Sort.Name ts)) ts out
+name_at s r = rw s r
+
+pub name_plain : {free : ℕ} {out : Outcome} (xs : List Token) → sees marks.At (view xs) ≡ false → Runs Tutorial free (rule Tutorial Prod.name_word) (view xs) out → Runs Tutorial free (rule Tutorial (choose Sort.Name (view xs))) (view xs) out
+name_plain xs s r = let n = no_fresh xs in rw (s, n) r
+
+pub pattern_name_at : {free : ℕ} {ts : List Terminal} {out : Outcome} → sees marks.Underscore ts ≡ false → sees marks.At ts ≡ true → Runs Tutorial free (rule Tutorial Prod.pname_quote) ts out → Runs Tutorial free (rule Tutorial (choose Sort.PName ts)) ts out
+pattern_name_at u s r = rw (u, s) r
+
+pub pattern_name_plain : {free : ℕ} {ts : List Terminal} {out : Outcome} → sees marks.Underscore ts ≡ false → sees marks.At ts ≡ false → Runs Tutorial free (rule Tutorial Prod.pname_word) ts out → Runs Tutorial free (rule Tutorial (choose Sort.PName ts)) ts out
+pattern_name_plain u s r = rw (u, s) r
+
+pub row_empty : {free : ℕ} {ts : List Terminal} {out : Outcome} (side : Side) (b : Bracket) → sees (closing b) ts ≡ true → Runs Tutorial free (rule Tutorial (Prod.row_none side b)) ts out → Runs Tutorial free (rule Tutorial (choose (Sort.Row side b) ts)) ts out
+row_empty side b s r = rw s r
+
+pub sequence_empty : {free : ℕ} {ts : List Terminal} {out : Outcome} (b : Bracket) → sees (closing b) ts ≡ true → Runs Tutorial free (rule Tutorial (Prod.seq_none b)) ts out → Runs Tutorial free (rule Tutorial (choose (Sort.Seq b) ts)) ts out
+sequence_empty b s r = rw s r
+
+pub sequence_rest : {free : ℕ} {ts : List Terminal} {out : Outcome} (b : Bracket) → sees (closing b) ts ≡ false → sees marks.Ellipsis ts ≡ true → Runs Tutorial free (rule Tutorial (Prod.seq_rest b)) ts out → Runs Tutorial free (rule Tutorial (choose (Sort.Seq b) ts)) ts out
+sequence_rest b c s r = rw (c, s) r

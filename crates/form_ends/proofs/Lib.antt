@@ -1,0 +1,11 @@
+pub mod Carried
+pub mod Chains
+pub mod Choices
+pub mod Cycle
+pub mod Forms
+mod Kept
+pub mod Lengths
+pub mod Lists
+pub mod Pairs
+pub mod Processes
+mod Remains

@@ -1,6 +1,0 @@
-use Rattle.std.proofs.Common.{◌%◌, arith}
-use Rattle.number_hub.proofs.Draws.{bits}
-use Rattle.number_hub.proofs.numbers.NumbersScene.touches.Goals as goal
-
-pub returns-clause-bits : goal.returns-clause-bits
-returns-clause-bits c k lt = bits (c.args.entry.now % 64) k (omega arith)

@@ -1,0 +1,6 @@
+use Rattle.std.proofs.Common.{arith}
+use Rattle.printed_leaves.proofs.Singles.{operand-others}
+use Rattle.printed_leaves.proofs.shapes.is_atom.Goals as goal
+
+pub returns-in_default-2 : goal.returns-in_default-2
+returns-in_default-2 c = operand-others c.parts.result.now c.args.t.now c.parts.ensures.parts (λ z. omega arith)

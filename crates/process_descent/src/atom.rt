@@ -1,0 +1,126 @@
+//! Names, parentheses, blocks, collections and rows.
+ghost use Rattle.calculus.specs.Meaning.{proc_written};
+ghost use Rattle.grammar.specs.Grammar.{rule};
+ghost use Rattle.grammar.specs.Productions.{Prod};
+ghost use Rattle.grammar.specs.Rules.{Sort, last};
+ghost use Rattle.grammar.specs.Values.{processes};
+ghost use Rattle.grammar.specs.declared.dialect.Dialect.TheVariants.{Tutorial};
+ghost use Rattle.form_ends.specs.Reading.{ReadsPair, process_pair};
+ghost use Rattle.token_cursor.specs.Meaning.{view};
+ghost use Rattle.token_cursor.specs.Reading.{Gives, Makes, Turns, bracket_of, of_name, of_proc, of_row, pairs_written};
+ghost use Rattle.std.specs.Prelude.{◌-◌, ◌<◌, ◌≤◌, IfOk, MatchResult, length, map};
+
+use crate::parser::Parser;
+use calculus::{Name, Proc};
+use form_ends::{close_map, quoted_name, skip_after, then_one_more, tuple};
+use form_steps::step::ProcessStep;
+use form_steps::{
+    begin_atom, closing_mark, dropped_quote, first_of, members, paired, plain_process, skip,
+    then_mark,
+};
+use grammar::{Fault, Mark};
+use token_cursor::part::{Bracket, Part};
+
+impl<'a> Parser<'a> {
+    /// Drop ::= "*" Dropped | Atom
+    #[cycle(parse)]
+    pub(crate) fn drop_form(&mut self, free: u32) -> Result<Part<Proc>, Fault>
+        ensures reads { Gives free Sort.Drop of_proc (view self.old.cursor.rest.now) result (view self.new.cursor.rest.now) }
+        ensures room { IfOk result (λ p. p.height ≤ free) }
+        ensures shorter { length self.new.cursor.rest.now ≤ length self.old.cursor.rest.now }
+    {
+        match begin_atom(&mut self.cursor, free) {
+            Ok(ProcessStep::Plain(plain)) => plain_process(&mut self.cursor, plain),
+            Ok(ProcessStep::Dropped) => {
+                let quoted = self.drop_form(free - 1);
+                dropped_quote(self.cursor.alloc, quoted)
+            }
+            Ok(ProcessStep::Group) => {
+                let inner = self.par(free - 1)?;
+                if !skip(&mut self.cursor, Mark::Comma) {
+                    return self.cursor.group_close(inner);
+                }
+                let row = self.row(Bracket::Round, free - 1);
+                tuple(inner, row)
+            }
+            Ok(ProcessStep::Block) => {
+                let first = self.par(free - 1)?;
+                self.block(first, free)
+            }
+            Ok(ProcessStep::Members(bracket)) => {
+                let row = self.row(bracket, free - 1);
+                members(bracket, row)
+            }
+            Err(fault) => Err(fault),
+        }
+    }
+
+    /// Name ::= Word | "@" Drop
+    #[cycle(parse)]
+    pub(crate) fn name(&mut self, free: u32) -> Result<Part<Name>, Fault>
+        ensures reads { Gives free Sort.Name of_name (view self.old.cursor.rest.now) result (view self.new.cursor.rest.now) }
+        ensures room { IfOk result (λ p. p.height ≤ free) }
+        ensures shorter { length self.new.cursor.rest.now ≤ length self.old.cursor.rest.now }
+    {
+        if !skip(&mut self.cursor, Mark::At) {
+            return self.cursor.name_word();
+        }
+        let quoted = self.drop_form(free);
+        quoted_name(self.cursor.alloc, quoted)
+    }
+
+    /// What follows the first process in braces: the end, or the pairs of a map.
+    #[cycle(parse)]
+    pub(crate) fn block(&mut self, inner: Part<Proc>, free: u32) -> Result<Part<Proc>, Fault>
+        requires { inner.height < free }
+        ensures reads { Gives free (Sort.BraceTail (of_proc inner)) of_proc (view self.old.cursor.rest.now) result
+            (view self.new.cursor.rest.now) }
+        ensures room { IfOk result (λ p. p.height ≤ free) }
+        ensures shorter { length self.new.cursor.rest.now ≤ length self.old.cursor.rest.now }
+    {
+        if !skip(&mut self.cursor, Mark::Colon) {
+            return self.cursor.brace_close(inner);
+        }
+        let pair = paired(inner, self.par(free - 1));
+        let mut pairs = first_of(self.cursor.alloc, pair);
+        'each: while skip_after(&mut self.cursor, &pairs, Mark::Comma) {
+            let next = self.pair(free);
+            pairs = then_one_more(pairs, next);
+        }
+        close_map(&mut self.cursor, pairs)
+    }
+
+    /// A further pair of a map.
+    #[cycle(parse)]
+    fn pair(&mut self, free: u32) -> Result<Part<(Proc, Proc)>, Fault>
+        requires { 0 < free }
+        ensures reads { ReadsPair free processes process_pair (view self.old.cursor.rest.now) result (view self.new.cursor.rest.now) }
+        ensures room { IfOk result (λ p. p.height ≤ free - 1) }
+        ensures shorter { length self.new.cursor.rest.now ≤ length self.old.cursor.rest.now }
+    {
+        let found = self.par(free - 1);
+        let key = then_mark(&mut self.cursor, found, Mark::Colon)?;
+        let value = self.par(free - 1);
+        paired(key, value)
+    }
+
+    /// Row ::= [ Par { "," Par } ], and the sign that closes it
+    #[cycle(parse)]
+    pub(crate) fn row(&mut self, bracket: Bracket, free: u32) -> Result<Part<Vec<Proc>>, Fault>
+        ensures reads { Gives free (Sort.Row processes (bracket_of bracket)) of_row (view self.old.cursor.rest.now)
+            result (view self.new.cursor.rest.now) }
+        ensures room { IfOk result (λ p. p.height ≤ free) }
+        ensures shorter { length self.new.cursor.rest.now ≤ length self.old.cursor.rest.now }
+    {
+        if self.cursor.sees_closing(bracket) {
+            return self.cursor.row_none(bracket);
+        }
+        let first = self.par(free);
+        let mut members = first_of(self.cursor.alloc, first);
+        'each: while skip_after(&mut self.cursor, &members, Mark::Comma) {
+            let next = self.par(free);
+            members = then_one_more(members, next);
+        }
+        then_mark(&mut self.cursor, members, closing_mark(bracket))
+    }
+}

@@ -1,0 +1,149 @@
+//! Processes in parallel, and the forms that end in a process, a row or a block.
+ghost use Rattle.calculus.specs.Meaning.{proc_written};
+ghost use Rattle.form_steps.specs.Parts.{after_channel, form_sort};
+ghost use Rattle.grammar.specs.Grammar.{rule};
+ghost use Rattle.grammar.specs.Productions.{Prod};
+ghost use Rattle.grammar.specs.Rules.{Sort, last};
+ghost use Rattle.grammar.specs.Values.{processes};
+ghost use Rattle.grammar.specs.declared.dialect.Dialect.TheVariants.{Tutorial};
+ghost use Rattle.token_cursor.specs.Meaning.{view};
+ghost use Rattle.token_cursor.specs.Reading.{Gives, Makes, Turns, of_name, of_proc};
+ghost use Rattle.std.specs.Prelude.{◌≡◌, ◌<◌, ◌≤◌, IfOk, MatchResult, length, map};
+
+use crate::parser::Parser;
+use calculus::Proc;
+use form_ends::{
+    begin_new, composed, contract_head, contract_with_body, if_with_else, new_with_body, sent,
+    skip_after, then_one_more,
+};
+use form_steps::step::{FormKey, TermStep};
+use form_steps::{
+    begin_send, begin_term, both, close_bundle, first_of, leading_form, quoted_send, skip,
+    then_mark,
+};
+use grammar::{Fault, Mark};
+use token_cursor::part::{Bracket, Part};
+use token_cursor::{Level, process_forms};
+
+impl<'a> Parser<'a> {
+    /// Par ::= One { "|" One }
+    #[cycle(parse)]
+    pub fn par(&mut self, free: u32) -> Result<Part<Proc>, Fault>
+        ensures reads { Gives free (Sort.Par processes) of_proc (view self.old.cursor.rest.now) result (view self.new.cursor.rest.now) }
+        ensures room { IfOk result (λ p. p.height ≤ free) }
+        ensures shorter { length self.new.cursor.rest.now ≤ length self.old.cursor.rest.now }
+    {
+        let first = self.one(free);
+        let mut parts = first_of(self.cursor.alloc, first);
+        'each: while skip_after(&mut self.cursor, &parts, Mark::Bar) {
+            let next = self.one(free);
+            parts = then_one_more(parts, next);
+        }
+        composed(parts)
+    }
+
+    /// One ::= New | If | Contract | Two
+    #[cycle(parse)]
+    pub(crate) fn one(&mut self, free: u32) -> Result<Part<Proc>, Fault>
+        ensures reads { Gives free Sort.One of_proc (view self.old.cursor.rest.now) result (view self.new.cursor.rest.now) }
+        ensures room { IfOk result (λ p. p.height ≤ free) }
+        ensures shorter { length self.new.cursor.rest.now ≤ length self.old.cursor.rest.now }
+    {
+        match leading_form(&self.cursor) {
+            Some(key) => self.form(key, free),
+            None => self.two(free),
+        }
+    }
+
+    /// A form that begins with this key.
+    #[cycle(parse)]
+    pub(crate) fn form(&mut self, key: FormKey, free: u32) -> Result<Part<Proc>, Fault>
+        ensures reads { Gives free (form_sort key) of_proc (view self.old.cursor.rest.now) result (view self.new.cursor.rest.now) }
+        ensures room { IfOk result (λ p. p.height ≤ free) }
+        ensures shorter { length self.new.cursor.rest.now ≤ length self.old.cursor.rest.now }
+    {
+        match key {
+            FormKey::New => self.new_form(free),
+            FormKey::If => self.if_form(free),
+            FormKey::Contract => self.contract_form(free),
+            FormKey::For => self.for_form(free),
+            FormKey::Match => self.match_form(free),
+        }
+    }
+
+    /// New ::= "new" Decl { "," Decl } "in" One
+    #[cycle(parse)]
+    pub(crate) fn new_form(&mut self, free: u32) -> Result<Part<Proc>, Fault>
+        ensures reads { Gives free Sort.New of_proc (view self.old.cursor.rest.now) result (view self.new.cursor.rest.now) }
+        ensures room { IfOk result (λ p. p.height ≤ free) }
+        ensures shorter { length self.new.cursor.rest.now ≤ length self.old.cursor.rest.now }
+    {
+        let names = begin_new(&mut self.cursor, free)?;
+        let body = self.one(free - 1);
+        new_with_body(self.cursor.alloc, names, body)
+    }
+
+    /// If ::= "if" "(" Par ")" Two [ "else" One ]
+    #[cycle(parse)]
+    pub(crate) fn if_form(&mut self, free: u32) -> Result<Part<Proc>, Fault>
+        ensures reads { Gives free Sort.If of_proc (view self.old.cursor.rest.now) result (view self.new.cursor.rest.now) }
+        ensures room { IfOk result (λ p. p.height ≤ free) }
+        ensures shorter { length self.new.cursor.rest.now ≤ length self.old.cursor.rest.now }
+    {
+        self.cursor.opens(Mark::If, 0, free)?;
+        self.cursor.expect(Mark::Open)?;
+        let condition = self.par(free - 1);
+        let test = then_mark(&mut self.cursor, condition, Mark::Close)?;
+        let arms = both(test, self.two(free - 1))?;
+        if !skip(&mut self.cursor, Mark::Else) {
+            return process_forms::if_only(self.cursor.alloc, arms.0, arms.1);
+        }
+        let other = self.one(free - 1);
+        if_with_else(self.cursor.alloc, arms, other)
+    }
+
+    /// Contract ::= "contract" Name "(" Left ")" "=" One
+    #[cycle(parse)]
+    pub(crate) fn contract_form(&mut self, free: u32) -> Result<Part<Proc>, Fault>
+        ensures reads { Gives free Sort.Contract of_proc (view self.old.cursor.rest.now) result (view self.new.cursor.rest.now) }
+        ensures room { IfOk result (λ p. p.height ≤ free) }
+        ensures shorter { length self.new.cursor.rest.now ≤ length self.old.cursor.rest.now }
+    {
+        self.cursor.opens(Mark::Contract, 0, free)?;
+        let channel = self.name(free - 1);
+        let name = then_mark(&mut self.cursor, channel, Mark::Open)?;
+        let left = self.left(free - 1);
+        let head = contract_head(&mut self.cursor, name, left)?;
+        let body = self.one(free - 1);
+        contract_with_body(self.cursor.alloc, head, body)
+    }
+
+    /// Two ::= For | Match | Bundle | Name ( "!" | "!!" ) "(" [ Par { "," Par } ] ")" | Or
+    #[cycle(parse)]
+    pub(crate) fn two(&mut self, free: u32) -> Result<Part<Proc>, Fault>
+        ensures reads { Gives free Sort.Two of_proc (view self.old.cursor.rest.now) result (view self.new.cursor.rest.now) }
+        ensures room { IfOk result (λ p. p.height ≤ free) }
+        ensures shorter { length self.new.cursor.rest.now ≤ length self.old.cursor.rest.now }
+    {
+        match begin_term(&mut self.cursor, free) {
+            Ok(TermStep::Form(key)) => self.form(key, free),
+            Ok(TermStep::Bundle(rights)) => {
+                let body = self.par(free - 1);
+                close_bundle(&mut self.cursor, rights, body)
+            }
+            Ok(TermStep::Quoted) => {
+                let quoted = self.drop_form(free - 1);
+                let channel = quoted_send(&mut self.cursor, quoted)?;
+                let args = self.row(Bracket::Round, free - 1);
+                sent(channel, args)
+            }
+            Ok(TermStep::Send) => {
+                let sending = begin_send(&mut self.cursor, free)?;
+                let args = self.row(Bracket::Round, free - 1);
+                sent(sending, args)
+            }
+            Ok(TermStep::Chain) => self.level(Some(Level::Or), free),
+            Err(fault) => Err(fault),
+        }
+    }
+}

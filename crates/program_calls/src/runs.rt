@@ -1,0 +1,143 @@
+//! Deploys and replays of given sources. The state is `s`, the prices `p`, the source `d`, the log `l`, and the next states
+//! are `n` of a deploy and `m` of a replay.
+use crate::Harness;
+use crate::shown::{Of, tell_all};
+use rho_outside::OpenGate;
+use std::alloc::Global;
+use std::sync::Wait;
+use std::thread::Threads;
+use table_lines::{LineFault, hex_bytes, number};
+
+/// A state without rows: its name, the version, a root of zeros and a number of rows.
+const EMPTY: &str = "RHOSTATE\\x01⟦40|\\x00⟧";
+
+const PRICES: &str =
+    "comm = 10\\nsend = 3\\nreceive = 4\\nname = 2\\ncase = 1\\nop = 1\\nbyte = 0\\n";
+
+/// The answer to a line of this kind with these fields.
+pub fn answer<R: Threads + Wait + Sync>(
+    rt: &R,
+    alloc: Global,
+    word: &str,
+    fields: &str,
+) -> Result<String, LineFault> {
+    let mut harness = Harness::new(alloc);
+    match word {
+        "deploy" => deploy(rt, &mut harness, fields),
+        "deploy-of" => deploy_of(rt, &mut harness, fields),
+        "deploy-failing" => deploy_failing(rt, &mut harness, fields),
+        "deploy-and-replay" => deploy_and_replay(rt, &mut harness, fields),
+        "replay" => replay(rt, &mut harness, fields),
+        _ => harness.fail(LineFault::Kind),
+    }
+    harness.told()
+}
+
+// What stands before the first of these, and what behind it. One is to be there.
+fn split<'a>(harness: &mut Harness, fields: &'a str, between: &str) -> (&'a str, &'a str) {
+    match fields.split_once(between) {
+        Some(split) => split,
+        None => {
+            harness.fail(LineFault::Field);
+            ("", "")
+        }
+    }
+}
+
+// What is shown, one field, and the source.
+fn three<'a>(harness: &mut Harness, fields: &'a str) -> (&'a str, &'a str, &'a str) {
+    let (shows, fields) = split(harness, fields, " ");
+    let (field, source) = split(harness, fields, " ");
+    (shows, field, source)
+}
+
+// Keeps these inputs, which takes three calls of the files.
+fn keep_inputs(harness: &mut Harness, state: &str, prices: &str, source: &str) {
+    harness.keep_text("s", state);
+    harness.keep_text("p", prices);
+    harness.keep_text("d", source);
+}
+
+// Deploys the source.
+fn run_deploy<R: Threads + Wait + Sync>(rt: &R, harness: &mut Harness, limit: &str) {
+    let alloc = harness.alloc;
+    harness.clear_output();
+    let text = format!(in alloc; "deploy d --state s --prices p --limit {limit} --log l --next n");
+    harness.call_made(rt, &OpenGate, text);
+}
+
+// Replays the log.
+fn run_replay<R: Threads + Wait + Sync>(rt: &R, harness: &mut Harness) {
+    harness.clear_output();
+    harness.call(
+        rt,
+        &OpenGate,
+        "replay d --state s --prices p --log l --next m",
+    );
+}
+
+/// A deploy. The fields are what is shown, the limit and the source.
+fn deploy<R: Threads + Wait + Sync>(rt: &R, harness: &mut Harness, fields: &str) {
+    let (shows, limit, source) = three(harness, fields);
+    keep_inputs(harness, EMPTY, PRICES, source);
+    run_deploy(rt, harness, limit);
+    tell_all(harness, Of::Run, shows);
+}
+
+/// A deploy of given inputs. The fields are what is shown, and then with `<>` between them the state, the prices, the
+/// limit and the source.
+fn deploy_of<R: Threads + Wait + Sync>(rt: &R, harness: &mut Harness, fields: &str) {
+    let (shows, fields) = split(harness, fields, " ");
+    let (state, fields) = split(harness, fields, " <> ");
+    let (prices, fields) = split(harness, fields, " <> ");
+    let (limit, source) = split(harness, fields, " <> ");
+    keep_inputs(harness, state, prices, source);
+    run_deploy(rt, harness, limit);
+    tell_all(harness, Of::Run, shows);
+}
+
+/// A deploy of which one call of the shelf fails. The fields are its number, what is shown, the limit and the source.
+fn deploy_failing<R: Threads + Wait + Sync>(rt: &R, harness: &mut Harness, fields: &str) {
+    let (call, fields) = split(harness, fields, " ");
+    let (shows, limit, source) = three(harness, fields);
+    keep_inputs(harness, EMPTY, PRICES, source);
+    fail_file(harness, call);
+    run_deploy(rt, harness, limit);
+    tell_all(harness, Of::Run, shows);
+}
+
+// The call with this number fails, in decimal digits.
+fn fail_file(harness: &mut Harness, call: &str) {
+    match number(call) {
+        Ok(call) => harness.fail_file(u64::from(call)),
+        Err(fault) => harness.fail(fault),
+    }
+}
+
+/// A deploy and the replay of its log. The fields are what is shown of the replay, the limit and the source. The status of
+/// the deploy stands first.
+fn deploy_and_replay<R: Threads + Wait + Sync>(rt: &R, harness: &mut Harness, fields: &str) {
+    let (shows, limit, source) = three(harness, fields);
+    keep_inputs(harness, EMPTY, PRICES, source);
+    run_deploy(rt, harness, limit);
+    tell_status(harness);
+    run_replay(rt, harness);
+    tell_all(harness, Of::Run, shows);
+}
+
+// The status, and that something follows.
+fn tell_status(harness: &mut Harness) {
+    let alloc = harness.alloc;
+    let status = format!(in alloc; "{}, then ", harness.ended.shown);
+    harness.tell_made(status);
+}
+
+/// A replay. The fields are what is shown, the digits of the log, and the source.
+fn replay<R: Threads + Wait + Sync>(rt: &R, harness: &mut Harness, fields: &str) {
+    let (shows, log, source) = three(harness, fields);
+    keep_inputs(harness, EMPTY, PRICES, source);
+    let log = hex_bytes(harness.alloc, log);
+    harness.keep_read("l", log);
+    run_replay(rt, harness);
+    tell_all(harness, Of::Run, shows);
+}

@@ -1,0 +1,12 @@
+pub mod Endings
+pub mod Running
+pub mod Leaving
+pub mod Ending
+pub mod Deploying
+pub mod Planning
+pub mod DeployPromises
+pub mod Replays
+pub mod Answering
+pub mod ReplayEnding
+pub mod Kept
+pub mod ReplayPromises

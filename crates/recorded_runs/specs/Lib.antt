@@ -1,0 +1,10 @@
+pub mod Runs
+pub mod Fetched
+pub mod Accepted
+pub mod Ends
+pub mod Deploys
+pub mod Plan
+pub mod Replaying
+pub mod ReplayPlans
+pub mod Replays
+pub mod Laws

@@ -1,0 +1,177 @@
+ghost use Rattle.std.specs.Prelude.{◌≡◌, ◌≤◌, length, IfOk, IfErr, OnOk, OnErr, IsErrOf};
+ghost use Rattle.calculus.specs.Form.{IsClosed};
+ghost use Rattle.rho_outside.specs.Put.{GrewBy};
+ghost use Rattle.run_reports.specs.Stops.{SetsAll, StopsOnTheWay, WriteFailed};
+ghost use Rattle.sources.specs.Sources.{IsSourceOf};
+ghost use Rattle.command_words.specs.Answers.{run_of};
+ghost use Rattle.event_log.specs.View.{IsWritable};
+ghost use Rattle.run_inputs.specs.Given.{AreReplayAccepted, IsBase};
+ghost use Rattle.run_status.specs.Endings.{status_of};
+ghost use Rattle.recorded_runs.specs.Replaying.{EndsAs, ReplayHalts};
+ghost use Rattle.recorded_runs.specs.ReplayPlans.{IsPlanned, IsReplayPlan, IsReplayStop, planned_replay};
+ghost use Rattle.recorded_runs.specs.Replays.{IsReplay};
+ghost use Rattle.recorded_runs.specs.Accepted.{HasReplayed};
+ghost use Rattle.run_reports.specs.World.{world};
+
+use crate::next::{next_state, printed};
+use calculus::Digest;
+use command_words::Run;
+use name_seed::bytes_digest;
+use next_states::KnownState;
+use numbered_jobs::Crew;
+use replay_answers::Replayed;
+use replay_runs::replay as replay_log;
+use rho_outside::{Gate, Shelf, Sink};
+use run_inputs::{Base, Inputs, ReplayInputs};
+use run_reports::{Halt, keep_and_put, report};
+use run_status::{Status, status_of};
+use run_verdict::Verdict;
+use std::alloc::{AllocError, Global};
+use std::sync::Wait;
+use std::thread::Threads;
+
+/// All the bytes that a replay writes, and how its run ended.
+#[derive(Drop)]
+pub struct ReplayPlan {
+    pub next: Vec<u8>,
+    /// What is printed, and then the line of the report.
+    pub bytes: Vec<u8>,
+    /// The line of the report alone.
+    pub line: Vec<u8>,
+    pub verdict: Verdict,
+}
+
+/// Makes all bytes that are to be written of what the replay of a log of so many steps came to, from a state with
+/// this root.
+fn plan_of(
+    alloc: Global,
+    state: KnownState,
+    base: &Digest,
+    count: u32,
+    replayed: Replayed,
+) -> Result<ReplayPlan, AllocError>
+    ensures { IfOk result (IsPlanned state base.now.0 count replayed) }
+{
+    let Replayed {
+        verdict,
+        cost,
+        rows,
+        output,
+    } = replayed;
+    let (root, next) = next_state(alloc, verdict, rows, base, state)?;
+    let line = report(alloc, verdict, cost, &root, count)?;
+    let mut bytes = printed(verdict, output);
+    bytes.extend_from_slice(line.as_slice())?;
+    Ok(ReplayPlan {
+        next,
+        bytes,
+        line,
+        verdict,
+    })
+}
+
+/// Replays the log from the state by a crew, and makes all bytes that are to be written.
+pub fn make_replay_plan<R: Threads + Wait + Sync, G: Gate + Sync>(
+    crew: &Crew<R, G>,
+    inputs: ReplayInputs,
+) -> Result<ReplayPlan, Status>
+    requires state { IsBase inputs.inputs.base }
+    requires source { IsSourceOf inputs.inputs.source.items inputs.inputs.term }
+    requires short { length inputs.inputs.source.items ≤ 1048576 }
+    requires closed { IsClosed inputs.inputs.term }
+    requires writable { IsWritable inputs.log }
+    ensures plan { IfOk result (IsReplayPlan inputs.inputs.base.checkpoint inputs) }
+    ensures stop { IfErr result (IsReplayStop inputs.inputs.base.checkpoint inputs) }
+{
+    let ReplayInputs { inputs, log } = inputs;
+    let Inputs {
+        base,
+        prices,
+        source,
+        term,
+    } = inputs;
+    let Base { text, checkpoint } = base;
+    let count = log.steps.len() as u32;
+    let source = bytes_digest(source.as_slice());
+    let root = checkpoint.root();
+    let rows = checkpoint.rows();
+    let replayed = replay_log(
+        crew.rt,
+        crew.alloc,
+        crew.gate,
+        crew.workers,
+        rows,
+        &root,
+        &term,
+        &source,
+        &prices,
+        log,
+    )?;
+    let state = KnownState::without_rows(text, checkpoint);
+    let plan = plan_of(crew.alloc, state, &root, count, replayed)?;
+    Ok(plan)
+}
+
+/// Keeps the next state, and then puts what is printed and the report.
+fn write_replay<S: Shelf, O: Sink>(
+    alloc: Global,
+    run: &Run,
+    plan: &ReplayPlan,
+    shelf: &mut S,
+    out: &mut O,
+) -> Result<(), Halt>
+    ensures kept { OnOk result (SetsAll (planned_replay (run_of run.now) plan.now) S.files shelf.old shelf.new) }
+    ensures put { OnOk result (GrewBy plan.now.bytes.items (O.written out.old) (O.written out.new)) }
+    ensures part { OnErr result (StopsOnTheWay (planned_replay (run_of run.now) plan.now) plan.now.bytes.items
+        (world (S.files shelf.old) (S.fetch_faults shelf.old) (S.keep_faults shelf.old) (O.written out.old) (O.faults out.old))
+        (world (S.files shelf.new) (S.fetch_faults shelf.new) (S.keep_faults shelf.new) (O.written out.new) (O.faults out.new))) }
+    ensures cause { IsErrOf result Halt.WriteFault → WriteFailed S.keep_faults shelf.old shelf.new O.faults out.old out.new }
+    ensures fetch_faults { S.fetch_faults shelf.new ≡ S.fetch_faults shelf.old }
+{
+    let next = (run.next.as_str(), plan.next.as_slice());
+    keep_and_put(alloc, shelf, out, next, plan.bytes.as_slice())
+}
+
+/// Replays a log, and keeps and puts what its replay leaves.
+fn replay_run<R: Threads + Wait + Sync, S: Shelf, O: Sink, G: Gate + Sync>(
+    crew: &Crew<R, G>,
+    run: &Run,
+    inputs: ReplayInputs,
+    shelf: &mut S,
+    out: &mut O,
+) -> Result<Verdict, Status>
+    requires inputs { AreReplayAccepted (S.files shelf.now) (run_of run.now) inputs }
+    ensures left { IfOk result (λ verdict. EndsAs (status_of verdict) (run_of run.now)
+        (world (S.files shelf.old) (S.fetch_faults shelf.old) (S.keep_faults shelf.old) (O.written out.old) (O.faults out.old))
+        (world (S.files shelf.new) (S.fetch_faults shelf.new) (S.keep_faults shelf.new) (O.written out.new) (O.faults out.new))) }
+    ensures halts { IfErr result (ReplayHalts (run_of run.now)
+        (world (S.files shelf.old) (S.fetch_faults shelf.old) (S.keep_faults shelf.old) (O.written out.old) (O.faults out.old))
+        (world (S.files shelf.new) (S.fetch_faults shelf.new) (S.keep_faults shelf.new) (O.written out.new) (O.faults out.new))) }
+{
+    let plan = make_replay_plan(crew, inputs)?;
+    write_replay(crew.alloc, run, &plan, shelf, out)?;
+    Ok(plan.verdict)
+}
+
+/// Replays the log of accepted inputs by a crew: nothing is kept or put before the replay has ended.
+///
+/// None of its inputs is refused any more but the log, as no run: else it ends with a verdict, or a write failed, or
+/// memory is wanted.
+pub fn replay_accepted<R: Threads + Wait + Sync, S: Shelf, O: Sink, G: Gate + Sync>(
+    crew: &Crew<R, G>,
+    run: &Run,
+    inputs: ReplayInputs,
+    shelf: &mut S,
+    out: &mut O,
+) -> Status
+    requires inputs { AreReplayAccepted (S.files shelf.now) (run_of run.now) inputs }
+    ensures ended { HasReplayed result }
+    ensures replay { IsReplay (run_of run.now)
+        (world (S.files shelf.old) (S.fetch_faults shelf.old) (S.keep_faults shelf.old) (O.written out.old) (O.faults out.old))
+        (world (S.files shelf.new) (S.fetch_faults shelf.new) (S.keep_faults shelf.new) (O.written out.new) (O.faults out.new)) result }
+{
+    match replay_run(crew, run, inputs, shelf, out) {
+        Ok(verdict) => status_of(verdict),
+        Err(status) => status,
+    }
+}

@@ -1,3 +1,0 @@
-mod Channels
-mod Closing
-mod Answering

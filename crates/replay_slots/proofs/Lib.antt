@@ -1,0 +1,5 @@
+pub mod Stepping
+pub mod Placing
+pub mod Arriving
+pub mod Fullness
+pub mod Within

@@ -1,0 +1,5 @@
+use Rattle.rho_term.proofs.Copying.{made-copy}
+use Rattle.rho_term.proofs.term.TermPat.copy.Goals as goal
+
+pub returns : goal.returns
+returns c = made-copy _ _ (λ t. t) _ _ _ c.made.ensures c.copy_pat-copy.ensures

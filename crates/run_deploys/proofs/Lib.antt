@@ -1,5 +1,0 @@
-pub mod Leaving
-pub mod Ending
-pub mod Running
-pub mod Planning
-pub mod Promised

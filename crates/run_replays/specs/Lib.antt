@@ -1,4 +1,0 @@
-pub mod Replaying
-pub mod ReplayPlans
-pub mod Replays
-pub mod Laws

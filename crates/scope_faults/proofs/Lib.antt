@@ -1,0 +1,4 @@
+pub mod Narrow
+pub mod Refusals
+pub mod Turns
+pub mod Judging

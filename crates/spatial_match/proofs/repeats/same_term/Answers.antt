@@ -1,7 +1,0 @@
-use Rattle.std.proofs.Common.{sym, ◌∙◌}
-use Rattle.spatial_match.proofs.Repeating.{equal_terms}
-use Rattle.spatial_match.proofs.repeats.same_term.Goals as goal
-
-pub returns : goal.returns
-returns c e =
-    equal_terms c.args.a.now c.args.b.now c.cmp_terms.result c.requires.a c.requires.b c.height.ensures.normal c.height-2.ensures.normal c.cmp_terms.ensures (sym c.is_eq.ensures ∙ e)
