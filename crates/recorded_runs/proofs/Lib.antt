@@ -10,3 +10,8 @@ pub mod Answering
 pub mod ReplayEnding
 pub mod Kept
 pub mod ReplayPromises
+mod Reading
+mod Playing
+mod Agreeing
+mod WorkloadEnding
+mod WorkloadLeaving

@@ -8,3 +8,7 @@ pub mod Replaying
 pub mod ReplayPlans
 pub mod Replays
 pub mod Laws
+pub mod Made
+pub mod Left
+pub mod WorkloadPlan
+pub mod Workloads

@@ -18,7 +18,7 @@ use Rattle.run_status.specs.declared.status.Status.TheVariants as status
 use Rattle.rho_main.specs.Accepting.{InputsRefused, FetchesIn}
 use Rattle.rho_main.specs.Calls.{IsCallIn}
 use Rattle.rho_main.specs.Genesis.{IsGenesis}
-use Rattle.run_workloads.specs.Workloads.{IsWorkload, WorkloadEnds}
+use Rattle.recorded_runs.specs.Workloads.{IsWorkload, WorkloadEnds}
 use Rattle.rho_main.specs.Words.{Answer, IsSaidBy}
 
 -- a status with a cause that no refusal of words has is none of them

@@ -8,7 +8,7 @@ use Rattle.recorded_runs.specs.Replays.{IsReplay}
 use Rattle.run_reports.specs.World.{World}
 use Rattle.run_status.specs.Endings.{OnUsage, SaysUsage}
 use Rattle.run_status.specs.declared.status.Status.{Status}
-use Rattle.run_workloads.specs.Workloads.{IsWorkload}
+use Rattle.recorded_runs.specs.Workloads.{IsWorkload}
 use Rattle.rho_main.specs.Genesis.{IsGenesis}
 use Rattle.rho_main.specs.Words.{Answer, DeployIn, GenesisIn, InspectIn, ReplayIn, WorkloadIn, IsRefusal, IsSaidBy}
 

@@ -8,15 +8,14 @@ ghost use Rattle.rho_main.specs.Genesis.{IsGenesis};
 ghost use Rattle.run_inspects.specs.Inspects.{IsInspect};
 ghost use Rattle.recorded_runs.specs.Replays.{IsReplay};
 ghost use Rattle.run_reports.specs.World.{world};
-ghost use Rattle.run_workloads.specs.Workloads.{IsWorkload};
+ghost use Rattle.recorded_runs.specs.Workloads.{IsWorkload};
 
 use crate::accepting::{Accepted, accept};
 use command_words::Run;
 use numbered_jobs::Crew;
-use recorded_runs::{deploy_accepted, replay_accepted, worker_count};
+use recorded_runs::{deploy_accepted, replay_accepted, worker_count, workload};
 use rho_outside::{Gate, Shelf, Sink};
 use run_status::Status;
-use run_workloads::workload;
 use std::alloc::Global;
 use std::sync::Wait;
 use std::thread::Threads;

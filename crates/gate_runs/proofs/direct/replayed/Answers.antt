@@ -1,5 +1,5 @@
 use Rattle.std.proofs.Common.{◌≤◌, length, arith}
-use Rattle.recorded_runs.proofs.Running.{numberable}
+use Rattle.gate_runs.proofs.Sources.{numberable}
 use Rattle.gate_runs.proofs.direct.replayed.Goals as goal
 
 pub replay-requires-clause-numberable : goal.replay-requires-clause-numberable

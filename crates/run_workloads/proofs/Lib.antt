@@ -1,5 +1,0 @@
-mod Reading
-mod Playing
-mod Agreeing
-mod Ending
-mod Leaving

@@ -1,4 +1,0 @@
-pub mod Made
-pub mod Left
-pub mod Plan
-pub mod Workloads
