@@ -6,9 +6,9 @@ use Rattle.checkpoint.specs.Kept.{AreKept}
 use Rattle.events.specs.Events.{first_ids}
 use Rattle.rho_term.specs.Normal.{IsNormal}
 use Rattle.states.specs.States.{state_text}
+use Rattle.input_faults.specs.declared.state_fault.StateFault.{StateFault}
+use Rattle.input_faults.specs.declared.state_fault.StateFault.TheVariants.{NoMemory}
 use Rattle.state_reader.specs.Refused.{IsRefused}
-use Rattle.state_reader.specs.declared.fault.StateFault.{StateFault}
-use Rattle.state_reader.specs.declared.fault.StateFault.TheVariants.{NoMemory}
 
 -- these rows are in normal order: parts, and members of sets and maps, ascend in their codes wherever they stand in them
 abbrev pub AreNormalRows : List Row → Type 0

@@ -1,7 +1,7 @@
 -- Laws of states. Each stands in the contract of a public function that does nothing.
 use Rattle.std.specs.Prelude.{◌≡◌, ◌<◌, ◌^◌, ℕ, List, length}
 use Rattle.calculus.specs.Rows.{Row}
-use Rattle.state_reader.specs.declared.fault.StateFault.{StateFault}
+use Rattle.input_faults.specs.declared.state_fault.StateFault.{StateFault}
 use Rattle.base_states.specs.Bases.{IsStateOf, IsState, HasOwnIds, IsNoState}
 
 -- bytes are the state of one list of rows alone

@@ -4,7 +4,7 @@ use Rattle.std.specs.Prelude.{map as each, Option, Some, None, count_by, is_none
 use Rattle.std.specs.Str.{bytes_eq}
 use Rattle.std.proofs.lemmas.Slice.Eq.{bytes_eq-Decides}
 use Rattle.std.proofs.lemmas.Bool.{eqb-true}
-use Rattle.list_laws.proofs.Members.{Every, Member, every-each, every-flat, every-up, member-each, member-flat}
+use Rattle.calculus.proofs.Members.{Every, Member, every-each, every-flat, every-up, member-each, member-flat}
 use Rattle.calculus.specs.Tree.{Tree}
 use Rattle.calculus.specs.Log.{Step}
 use Rattle.calculus.specs.Rows.{Row}

@@ -1,3 +1,5 @@
+pub mod Members
+pub mod Permutations
 pub mod BytesLemmas
 pub mod Opened
 pub mod Reflexive

@@ -1,3 +1,5 @@
+pub mod Exchanges
+pub mod ListLaws
 pub mod Kinds
 pub mod Tree
 pub mod Shape

@@ -10,6 +10,7 @@ pub mod count;
 pub mod fault;
 pub mod ids;
 pub mod laws;
+pub mod list_laws;
 pub mod plain;
 pub mod process;
 pub mod substitution_laws;

@@ -5,8 +5,8 @@ use Rattle.std.specs.Str.{bytes_eq}
 use Rattle.std.proofs.Math.Seq.{drop-cons}
 use Rattle.std.proofs.lemmas.List.{take_more}
 use Rattle.std.proofs.lemmas.List.Elements.{All-head, All-tail, All-cons}
-use Rattle.list_laws.specs.Exchanges.{Exchanges, nothing, under, neighbours, then}
-use Rattle.list_laws.proofs.Permutations.{exchanges, keep, join, unmoved, exchange, moved_so, moved-nothing}
+use Rattle.calculus.specs.Exchanges.{Exchanges, nothing, under, neighbours, then}
+use Rattle.calculus.proofs.Permutations.{exchanges, keep, join, unmoved, exchange, moved_so, moved-nothing}
 use Rattle.calculus.specs.Order.{sorted, up_to, IsAscending, IsBelowFirst}
 use Rattle.calculus.specs.Rows.{Row, row_code}
 use Rattle.calculus.specs.Root.{key}

@@ -1,7 +1,7 @@
 -- What a pattern binds of a closed process is closed, and so is a body with closed values put in.
 use Rattle.std.proofs.Common.{ℕ, zero, suc, List, [], ◌∷◌, reverse}
 use Rattle.std.specs.Prelude.{⊤}
-use Rattle.list_laws.proofs.Members.{Every, every-reverse}
+use Rattle.calculus.proofs.Members.{Every, every-reverse}
 use Rattle.calculus.specs.declared.plain.Origin.{Origin}
 use Rattle.calculus.specs.declared.plain.Origin.TheVariants as origins
 use Rattle.calculus.specs.Tree.{par, row, bool, int, str, uri, bytes, fresh, list, tuple, set, dict, pair, send, receive, new, match, bundle, unary, binary, method, var, name_var, Tree, node, Trees, none, also}

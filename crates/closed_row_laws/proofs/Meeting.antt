@@ -2,7 +2,7 @@
 use Rattle.std.proofs.Common.{ℕ, suc, Bool, true, false, cond, List, [], ◌∷◌, ◌++◌, reverse, map as each, refl, arith}
 use Rattle.std.specs.Prelude.{⊤, Option, Some, None, option_and_then}
 use Rattle.std.specs.Str.{bytes_eq}
-use Rattle.list_laws.proofs.Members.{Every, every-append, every-each, every-flat}
+use Rattle.calculus.proofs.Members.{Every, every-append, every-each, every-flat}
 use Rattle.calculus.specs.Tree.{row, send, receive, bind, Tree, node, Trees, none, also}
 use Rattle.calculus.specs.Shape.{held, listed, at}
 use Rattle.calculus.specs.Congruence.{congruent}

@@ -1,7 +1,7 @@
 -- A receive is closed with its binds in the order of their channels' codes.
 use Rattle.std.proofs.Common.{◌≡◌, ℕ, suc, ◌+◌, Bool, true, false, cond, List, [], ◌∷◌, ◌++◌, length, reverse, map as each, refl, sym, ap, ◌∙◌, subst, arith, append-nil}
 use Rattle.std.proofs.lemmas.List.{length-map}
-use Rattle.list_laws.proofs.Members.{Every, every-each}
+use Rattle.calculus.proofs.Members.{Every, every-each}
 use Rattle.calculus.specs.Tree.{row, Tree, none, also, trees}
 use Rattle.calculus.specs.Shape.{at, held, listed, many}
 use Rattle.calculus.specs.Order.{up_to}

@@ -1,7 +1,7 @@
 -- Rows of states that lists of steps lead to are closed.
 use Rattle.std.proofs.Common.{◌≡◌, ℕ, suc, Bool, true, false, cond, ltb, List, [], ◌∷◌, ◌++◌, length, refl, subst}
 use Rattle.std.specs.Prelude.{Option, Some, None, option_map, option_and_then}
-use Rattle.list_laws.proofs.Members.{Every, every-append}
+use Rattle.calculus.proofs.Members.{Every, every-append}
 use Rattle.calculus.specs.Form.{IsClosed}
 use Rattle.calculus.specs.Outcome.{Prices, Answer, gives, fails, unknown, Outcome, over, within, known, capped}
 use Rattle.calculus.specs.Substitution.{put}

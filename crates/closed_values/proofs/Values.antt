@@ -2,7 +2,7 @@
 use Rattle.std.proofs.Common.{◌≡◌, ℕ, zero, suc, ◌≤◌, Bool, true, false, cond, ltb, List, [], ◌∷◌, length, map as each, zip, flat_map, refl, subst, arith, length-append}
 use Rattle.std.specs.Prelude.{⊤}
 use Rattle.std.proofs.lemmas.Bool.{ltb-false}
-use Rattle.list_laws.proofs.Members.{Every}
+use Rattle.calculus.proofs.Members.{Every}
 use Rattle.calculus.specs.declared.plain.UnaryOp.{UnaryOp}
 use Rattle.calculus.specs.declared.plain.BinaryOp.{BinaryOp}
 use Rattle.calculus.specs.declared.plain.Rights.{Rights}

@@ -1,7 +1,7 @@
 -- Congruent arguments, binds and bindings, one by one.
 use Rattle.std.proofs.Common.{◌≡◌, ℕ, suc, ◌+◌, ◌<◌, List, [], ◌∷◌, map as each, refl, ap, arith}
 use Rattle.std.specs.List.{AllZip}
-use Rattle.list_laws.proofs.Members.{Every}
+use Rattle.calculus.proofs.Members.{Every}
 use Rattle.calculus.specs.declared.plain.Origin.{Origin}
 use Rattle.calculus.specs.declared.plain.Origin.TheVariants as origins
 use Rattle.calculus.specs.Tree.{Label, bind, Tree, node, Trees, none, also, trees}

@@ -1,7 +1,7 @@
 -- Names put in place of variables leave a code short: a use of a variable is reckoned as long as a name.
 use Rattle.std.proofs.Common.{◌≡◌, ℕ, zero, suc, ◌+◌, ◌-◌, ◌*◌, ◌<◌, ◌≤◌, ◌^◌, Bool, true, false, cond, List, [], ◌∷◌, length, reverse, refl, ap, ◌∙◌, arith, length-append}
 use Rattle.std.specs.Prelude.{leb}
-use Rattle.list_laws.proofs.Members.{Every, every-reverse}
+use Rattle.calculus.proofs.Members.{Every, every-reverse}
 use Rattle.calculus.specs.declared.plain.Origin.{Origin}
 use Rattle.calculus.specs.declared.plain.Origin.TheVariants as origins
 use Rattle.calculus.specs.Tree.{Label, par, row, list, tuple, set, dict, pattern, var, name_var, fresh, Tree, node, Trees, none, also, trees}

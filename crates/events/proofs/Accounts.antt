@@ -2,7 +2,7 @@
 use Rattle.std.proofs.Common.{◌≡◌, ◌≤◌, ℕ, suc, ◌+◌, Bool, true, false, ◌||◌, cond, List, [], ◌∷◌, ◌++◌, length, refl, ap, sym, ◌∙◌, subst, arith, inl, inr, append_assoc}
 use Rattle.std.specs.Prelude.{◌⊎◌, Option, Some, None, map as each, flat_map, option_map, option_and_then}
 use Rattle.std.specs.Str.{bytes_eq}
-use Rattle.list_laws.proofs.Members.{Member, Every, member-split, member-left, member-right}
+use Rattle.calculus.proofs.Members.{Member, Every, member-split, member-left, member-right}
 use Rattle.calculus.specs.Outcome.{capped}
 use Rattle.calculus.specs.Log.{Step}
 use Rattle.calculus.specs.Rows.{Row}

@@ -10,8 +10,8 @@ use Rattle.events.proofs.Meetings.{Joined}
 use Rattle.events.specs.Found.{without}
 use Rattle.events.proofs.Leaving.{without-append}
 use Rattle.std.specs.Prelude.{IsPermutation}
-use Rattle.list_laws.proofs.Members.{Member, Every}
-use Rattle.list_laws.proofs.Permutations.{all_over, moved_after}
+use Rattle.calculus.proofs.Members.{Member, Every}
+use Rattle.calculus.proofs.Permutations.{all_over, moved_after}
 
 -- rows that leave are rows that met
 leaving-times : (x : List ℕ) (k : Kind) (qs : List Row) (ds : List Datum) → times x (ids (leaving_sends k qs ds)) ≤ times x (ids qs)

@@ -1,7 +1,7 @@
 -- Where nothing is pending the steps are a run.
 use Rattle.std.proofs.Common.{◌≡◌, true, [], ◌++◌, refl, sym, subst, inl, inr}
 use Rattle.std.specs.Prelude.{Option, Some, None}
-use Rattle.list_laws.proofs.Members.{Member, each-there}
+use Rattle.calculus.proofs.Members.{Member, each-there}
 use Rattle.calculus.specs.Log.{Step}
 use Rattle.calculus.specs.Rows.{Row}
 use Rattle.calculus.specs.Steps.{Meeting, standing, stored_rows, meeting, right_repeat}

@@ -3,7 +3,7 @@ use Rattle.std.proofs.Common.{◌≡◌, ◌≤◌, ℕ, suc, ◌+◌, Bool, tru
 use Rattle.std.specs.Prelude.{◌⊎◌, Option, Some, None, eqb, count_by, IsPermutation}
 use Rattle.std.proofs.lemmas.Bool.{eqb-true, eq-eqb}
 use Rattle.std.proofs.lemmas.List.Sums.{sum_by-append}
-use Rattle.list_laws.proofs.Members.{Member, member-split, member-left, member-right, each-there}
+use Rattle.calculus.proofs.Members.{Member, member-split, member-left, member-right, each-there}
 use Rattle.calculus.specs.Log.{Step}
 use Rattle.calculus.specs.Rows.{Row, stdout, stdout_ack}
 use Rattle.calculus.specs.Steps.{Bag, Meeting, standing, stored_rows, is_one_of, same_meeting, stays, all_persistent, right_repeat, meeting, but_places, bag_after}
@@ -15,7 +15,7 @@ use Rattle.events.specs.Found.{without, leaving_rows}
 use Rattle.events.proofs.Leaving.{places-leave}
 use Rattle.events.proofs.Orders.{member-moved, times-moved}
 use Rattle.events.proofs.Standing.{built_ins, ids-times, standing-times, no-more, left-there}
-use Rattle.list_laws.proofs.Permutations.{moved_so}
+use Rattle.calculus.proofs.Permutations.{moved_so}
 
 pub append_nothing : {A : Type 0} (l : List A) → l ++ [] ≡ l
 append_nothing [] = refl

@@ -1,7 +1,7 @@
 -- Each event keeps what holds.
 use Rattle.std.proofs.Common.{◌≡◌, ◌≤◌, ℕ, ◌+◌, Bool, true, false, List, [], ◌∷◌, ◌++◌, refl, ap, sym, ◌∙◌, subst, arith, inl, inr, append_assoc}
 use Rattle.std.specs.Prelude.{Some, map as each, IsPermutation}
-use Rattle.list_laws.proofs.Members.{Member, each-there}
+use Rattle.calculus.proofs.Members.{Member, each-there}
 use Rattle.calculus.specs.Log.{Step}
 use Rattle.calculus.specs.Rows.{Row}
 use Rattle.calculus.specs.Unfolding.{rows_of, digest}
@@ -19,7 +19,7 @@ use Rattle.events.proofs.Legal.{leads-none, leads-more}
 use Rattle.events.proofs.Changed.{all-leaving-times, among-times, rest-moved}
 use Rattle.events.proofs.Standing.{built_ins, ids-times, standing-times, left-times, none-leaves, rows-times, digests-more}
 use Rattle.events.proofs.Following.{Kept, all-distinct, bag-distinct, state-distinct, store-distinct, operation-distinct, operation-there, quiet-put, quiet-step, bag-left}
-use Rattle.list_laws.proofs.Permutations.{join, moved_after, moved_before, over, unmoved}
+use Rattle.calculus.proofs.Permutations.{join, moved_after, moved_before, over, unmoved}
 
 module _ (deploy : Deploy) where
   -- before the first event

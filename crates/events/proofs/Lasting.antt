@@ -1,7 +1,7 @@
 -- Rows that last, and which rows a meeting takes away.
 use Rattle.std.proofs.Common.{◌≡◌, Bool, true, false, ◌&&◌, ◌||◌, cond, List, [], ◌∷◌, ◌++◌, refl, ap, sym, ◌∙◌, subst, inl, inr}
 use Rattle.std.specs.Prelude.{Option, Some, None, option_and_then}
-use Rattle.list_laws.proofs.Members.{Member, Every}
+use Rattle.calculus.proofs.Members.{Member, Every}
 use Rattle.calculus.specs.declared.plain.Kind.{Kind}
 use Rattle.calculus.specs.declared.plain.Kind.TheVariants.{Linear, Persistent, Peek}
 use Rattle.calculus.specs.Tree.{Tree, node, send, receive}

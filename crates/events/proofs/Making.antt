@@ -2,7 +2,7 @@
 use Rattle.std.proofs.Common.{◌≡◌, ℕ, Bool, true, false, ◌&&◌, ◌||◌, List, [], ◌∷◌, ◌++◌, refl, ap, sym, ◌∙◌, subst, inl, inr}
 use Rattle.std.specs.Prelude.{Option, Some, None, option_map, eqb, count_by}
 use Rattle.std.proofs.lemmas.Bool.{eq-eqb}
-use Rattle.list_laws.proofs.Members.{Member, Every, each-there, every-at}
+use Rattle.calculus.proofs.Members.{Member, Every, each-there, every-at}
 use Rattle.calculus.specs.Log.{Step}
 use Rattle.calculus.specs.Rows.{Row, stdout, stdout_ack}
 use Rattle.calculus.specs.Unfolding.{rows_of}

@@ -6,9 +6,9 @@ use Rattle.calculus.specs.Steps.{is_one_of}
 use Rattle.events.proofs.Counts.{ids, times, one_if}
 use Rattle.events.specs.Found.{without}
 use Rattle.std.specs.Prelude.{IsPermutation}
-use Rattle.list_laws.proofs.Members.{Member}
-use Rattle.list_laws.specs.Exchanges.{Exchanges, nothing, under, neighbours, then}
-use Rattle.list_laws.proofs.Permutations.{exchanges, unmoved, keep, exchange, join}
+use Rattle.calculus.proofs.Members.{Member}
+use Rattle.calculus.specs.Exchanges.{Exchanges, nothing, under, neighbours, then}
+use Rattle.calculus.proofs.Permutations.{exchanges, unmoved, keep, exchange, join}
 
 -- what is in the one list is in the other
 pub member-moved : {A : Type 0} (z : A) {xs ys : List A} → IsPermutation xs ys → Member z xs → Member z ys

@@ -3,7 +3,7 @@ use Rattle.std.proofs.Common.{◌≡◌, ◌≤◌, ℕ, ◌+◌, Bool, true, fa
 use Rattle.std.specs.Prelude.{◌⊎◌, Some, count_by, map as each}
 use Rattle.std.proofs.lemmas.List.Sums.{sum_by-cons}
 use Rattle.std.specs.Str.{bytes_eq}
-use Rattle.list_laws.proofs.Members.{Member, Every, member-split, member-left, member-right, each-there, every-at}
+use Rattle.calculus.proofs.Members.{Member, Every, member-split, member-left, member-right, each-there, every-at}
 use Rattle.calculus.specs.declared.plain.Kind.{Kind}
 use Rattle.calculus.specs.Log.{Step}
 use Rattle.calculus.specs.Rows.{Row}
@@ -21,7 +21,7 @@ use Rattle.events.proofs.Orders.{member-moved, times-moved}
 use Rattle.events.proofs.Standing.{built_ins, ids-times, standing-times, from-standing, in-standing, left-times, rows-times, digests-more}
 use Rattle.events.proofs.Following.{Kept, all-distinct, state-distinct, operation-there}
 use Rattle.events.proofs.Keeping.{kept-all, fresh-first, put-moved, how, is_after, after_it, ns, new, after_moved}
-use Rattle.list_laws.proofs.Permutations.{moved_so}
+use Rattle.calculus.proofs.Permutations.{moved_so}
 
 -- an id among those of rows is that of a row
 pub row-of-id : (x : List ℕ) (rs : List Row) → is_one_of x (ids rs) ≡ true → (r : Row) × Member r rs × (x ≡ r.id)

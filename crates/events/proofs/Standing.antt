@@ -2,7 +2,7 @@
 use Rattle.std.proofs.Common.{◌≡◌, ◌≤◌, ℕ, ◌+◌, Bool, true, false, cond, List, [], ◌∷◌, ◌++◌, map as each, refl, ap, ◌∙◌, arith, inl, inr}
 use Rattle.std.specs.Prelude.{◌⊎◌}
 use Rattle.std.specs.Str.{bytes_eq}
-use Rattle.list_laws.proofs.Members.{Member, member-left, member-right, member-split}
+use Rattle.calculus.proofs.Members.{Member, member-left, member-right, member-split}
 use Rattle.calculus.specs.Rows.{Row, stdout, stdout_ack}
 use Rattle.calculus.specs.Steps.{Bag, is_one_of, standing, stored_rows}
 use Rattle.calculus.specs.Unfolding.{Product, a_row, a_fresh, rows_of, digest}

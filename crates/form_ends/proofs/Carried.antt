@@ -12,7 +12,7 @@ use Rattle.grammar.specs.declared.fault.Fault.{Fault}
 use Rattle.grammar.specs.Descent.{Outcome, Runs}
 use Rattle.grammar.specs.Rules.{Rule}
 use Rattle.grammar.specs.Terminals.{Terminal}
-use Rattle.syntax_forms.specs.declared.part.Part.{Part}
+use Rattle.form_parts.specs.declared.part.Part.{Part}
 use Rattle.token_cursor.specs.Reading.{Turns}
 
 -- a rule goes on after more was read, where it went on after what was read before

@@ -25,7 +25,7 @@ use Rattle.grammar.specs.Grammar.{rule}
 use Rattle.grammar.specs.Rules.{Rule, Sort, last, opens, round, under}
 use Rattle.grammar.specs.Terminals.{Terminal, sees}
 use Rattle.grammar.specs.Values.{Spelt, method_of, opened, operation, processes, spelt}
-use Rattle.syntax_forms.specs.declared.part.Part.{Part}
+use Rattle.form_parts.specs.declared.part.Part.{Part}
 use Rattle.token_cursor.specs.Levels.{inner_of, level_or_prefix, operand_of, sort_of, tail_of}
 use Rattle.token_cursor.specs.Reading.{Makes, Turns, of_pat, of_proc, of_row}
 use Rattle.token_cursor.specs.declared.level.Level.{Level}

@@ -22,7 +22,7 @@ use Rattle.grammar.specs.Values.{Side, Spelt, spelt}
 use Rattle.token_cursor.specs.Levels.{inner_of, level_or_prefix, operand_of, sort_of, tail_of}
 use Rattle.token_cursor.specs.declared.level.Level.{Level}
 use Rattle.token_cursor.specs.declared.level.Level.TheVariants as levels
-use Rattle.syntax_forms.specs.declared.part.Part.{Part}
+use Rattle.form_parts.specs.declared.part.Part.{Part}
 use Rattle.token_cursor.specs.Meaning.{view}
 use Rattle.form_steps.specs.Parts.{form_sort}
 use Rattle.form_steps.specs.declared.step.FormKey.{FormKey}

@@ -1,6 +1,7 @@
 -- The steps of descent through the forms that hold several constituents.
-use Rattle.std.proofs.Common.{◌≡◌, ◌-◌, ◌+◌, max, map, ◌++◌, ℕ, List, ◌∷◌, [], Result, Ok, Err, true, false}
-use Rattle.std.specs.Prelude.{IfOk, MatchResult}
+use Rattle.std.proofs.Common.{◌≡◌, ◌-◌, ◌+◌, max, map, ◌++◌, ℕ, List, ◌∷◌, [], Result, Ok, Err, refl, true, false}
+use Rattle.std.proofs.lemmas.Bool.{false≢true}
+use Rattle.std.specs.Prelude.{IfOk, IsOk, MatchResult, OnOk}
 use Rattle.std.specs.declared.alloc.Global.{Global}
 use Rattle.std.specs.declared.vec.Vec.{Vec}
 use Rattle.calculus.specs.Meaning.{bind_written, case_written, name_written, pat_written, proc_written}
@@ -12,6 +13,7 @@ use Rattle.calculus.specs.declared.process.Name.{Name}
 use Rattle.calculus.specs.declared.process.Pat.{Pat}
 use Rattle.calculus.specs.declared.process.Proc.{Proc}
 use Rattle.form_steps.specs.Handing.{Completes, HandsOn, HandsOnPart}
+use Rattle.form_steps.specs.Parts.{branches, contract_body, contract_left}
 use Rattle.form_steps.proofs.Handed.{both_read, mark_as, resume, then_on, under_read}
 use Rattle.form_steps.proofs.Turning.{built, chosen}
 use Rattle.grammar.specs.declared.dialect.Dialect.TheVariants.{Tutorial}
@@ -20,21 +22,22 @@ use Rattle.grammar.specs.declared.fault.Fault.TheVariants.{NoMemory}
 use Rattle.grammar.specs.declared.mark.Mark.{Mark}
 use Rattle.grammar.specs.declared.mark.Mark.TheVariants as marks
 use Rattle.grammar.specs.Choice.{choose}
-use Rattle.grammar.specs.Descent.{Outcome, Runs, Takes, TakesOpening, shows, runs_last, runs_opens, runs_sign}
+use Rattle.grammar.specs.Descent.{Outcome, Runs, Takes, shows, runs_last, runs_sign}
 use Rattle.grammar.specs.Grammar.{arrow_mark, is_no_minus, rule}
 use Rattle.grammar.specs.Productions.{Prod}
 use Rattle.grammar.specs.Rules.{Separator, Sort, Rule, done, last, separator_mark, sign, under}
 use Rattle.grammar.specs.Terminals.{Terminal, sees}
 use Rattle.grammar.specs.Values.{Spelt, bind_of, case_of, contract_of, if_of, nil, opened, processes}
 use Rattle.rho_lexer.specs.declared.token.Token.{Token}
-use Rattle.syntax_forms.specs.declared.part.Left.{Left}
-use Rattle.syntax_forms.specs.declared.part.Part.{Part}
-use Rattle.syntax_forms.specs.Forms.{left_written}
+use Rattle.form_parts.specs.declared.part.Left.{Left}
+use Rattle.form_parts.specs.declared.part.Part.{Part}
+use Rattle.form_parts.specs.Forms.{left_written}
 use Rattle.token_cursor.specs.Meaning.{view}
 use Rattle.token_cursor.specs.Reading.{Makes, Turns, of_bind, of_left, of_name, of_pat, of_proc, sees_bind}
-use Rattle.form_ends.specs.Reading.{ReadsBind, bind_then, received}
+use Rattle.form_ends.specs.Reading.{Appends, ReadsBind, bind_then, received}
+use Rattle.form_ends.proofs.Carried.{closed, stayed}
 use Rattle.form_ends.proofs.Cycle.{appended, binds_off, binds_on, first_on, passed, signed, unmoved}
-use Rattle.form_ends.proofs.Remains.{branches, case_body, contract_body, contract_left, first_channel, last_branch, receive_body}
+use Rattle.form_ends.proofs.Remains.{case_body, first_channel, last_branch, receive_body}
 
 -- a further bind that was read, or not
 pub bind_read : {ts vs : List Terminal} (free : ℕ) (us ws : List Terminal) (pats : Result (Part Left) Fault) (channel : Result (Part Name) Fault) (res : Result (Part Bind) Fault) (k : Kind) (m : Mark) (left : Part Left)
@@ -63,7 +66,7 @@ no_bind {ts} free us vs pats k m after left e g t =
     (under_read free Sort.Left us of_left (λ l. sign (arrow_mark k) (under Sort.Name (λ n. after (bind_of l n)))) pats g))
 
 -- one more bind
-pub more_binds : {ts us : List Terminal} (free : ℕ) (vs : List Terminal) (next : Result (Part Bind) Fault) (k : Kind) (m : Separator) (left : ℕ) (xs : List Bind) (h : ℕ) (res : Result (Part (Vec Bind Global)) Fault)
+more_binds : {ts us : List Terminal} (free : ℕ) (vs : List Terminal) (next : Result (Part Bind) Fault) (k : Kind) (m : Separator) (left : ℕ) (xs : List Bind) (h : ℕ) (res : Result (Part (Vec Bind Global)) Fault)
     → sees_bind m left ts ≡ true → Takes (separator_mark m) ts us
     → ReadsBind free k us next vs
     → HandsOnPart next (λ x. xs ++ (x ∷ [])) (max h) res (λ q. q.items)
@@ -75,18 +78,29 @@ more_binds {ts} {us} free vs next k m left xs h res s t g n =
     (appended free _ us vs bind_written (λ bs i. last (Sort.BindsTail k m (left - 1) bs i)) xs h next
     (g (λ b. last (Sort.BindsTail k m (left - 1) (map bind_written xs ++ (b.tree ∷ [])) (max h b.height))))))
 
+-- one more bind after those that were read, or not
+pub binds_go_on : {ts us : List Terminal} (free : ℕ) (r : Rule) (t0 vs : List Terminal) (before : Result (Part (Vec Bind Global)) Fault) (next : Result (Part Bind) Fault) (k : Kind) (m : Separator) (left : ℕ) (res : Result (Part (Vec Bind Global)) Fault)
+    → IsOk before → sees_bind m left ts ≡ true → Takes (separator_mark m) ts us
+    → Turns free r (λ q. last (Sort.BindsTail k m left (map bind_written q.value.items) q.height)) t0 before ts
+    → ReadsBind free k us next vs → Appends before next res
+    → Turns free r (λ q. last (Sort.BindsTail k m (left - 1) (map bind_written q.value.items) q.height)) t0 res vs
+binds_go_on free r t0 vs (Ok xs) next k m left res i s t g n a =
+    resume vs (λ (q : Part (Vec Bind Global)). last (Sort.BindsTail k m (left - 1) (map bind_written q.value.items) q.height)) res
+    (λ out h. g out (runs_last h)) (more_binds free vs next k m left xs.value.items xs.height res s t n (a xs refl))
+binds_go_on free r t0 vs (Err d) next k m left res i s t g n a = absurd (false≢true i)
+
 -- the patterns of a first bind and its arrow
-pub for_begun : {free : ℕ} {t0 t1 t2 : List Terminal} (t3 t4 : List Terminal) (pats : Result (Part Left) Fault) (k : Kind) (m : Mark) (left : Result (Part Left) Fault)
-    → TakesOpening marks.For 0 free t0 t1 → Takes marks.Open t1 t2
+pub for_begun : {free : ℕ} {r : Rule} {t0 t2 : List Terminal} (t3 t4 : List Terminal) (pats : Result (Part Left) Fault) (k : Kind) (m : Mark) (left : Result (Part Left) Fault)
+    → ((out : Outcome) → Runs Tutorial free (under Sort.Left (λ l. last (Sort.Arrow l))) t2 out → Runs Tutorial free r t0 out)
     → Makes (free - 1) (rule Tutorial (choose Sort.Left t2)) of_left t2 pats t3
     → ((l : Spelt) → choose (Sort.Arrow l) t3 ≡ Prod.arrow l k) → m ≡ arrow_mark k
     → ((n : ℕ) (r : Rule) (xs : List Terminal) (next : Part Left → Rule) → Turns n r (λ x. sign m (next x)) xs pats t3 → Turns n r next xs left t4)
-    → Turns free (rule Tutorial Prod.for_form) (λ l. first_channel k (of_left l)) t0 left t4
-for_begun {free} {t0} {t1} {t2} t3 t4 pats k m left o p g a e t =
-    resume t4 (λ l. first_channel k (of_left l)) left (λ out r. runs_opens o (runs_sign p (runs_last r)))
+    → Turns free r (λ l. first_channel k (of_left l)) t0 left t4
+for_begun {free} {r} {t0} {t2} t3 t4 pats k m left c g a e t =
+    resume t4 (λ l. first_channel k (of_left l)) left c
     (t free _ t2 (λ l. first_channel k (of_left l))
     (then_on _ t2 (λ l. last (Sort.Arrow (of_left l))) (λ l. sign m (first_channel k (of_left l))) pats
-    (λ l out r. runs_last (chosen (choose (Sort.Arrow (of_left l)) t3) (Prod.arrow (of_left l) k) (a (of_left l)) (signed e r)))
+    (λ l out q. runs_last (chosen (choose (Sort.Arrow (of_left l)) t3) (Prod.arrow (of_left l) k) (a (of_left l)) (signed e q)))
     (under_read free Sort.Left t3 of_left (λ l. last (Sort.Arrow l)) pats g)))
 
 -- the first bind
@@ -105,27 +119,27 @@ first_bind {free} {r} {t0} {ts} us channel bind k m left res c g b e f =
     (b free _ ts us (λ x. last (Sort.FirstTail k x)) (under_read free Sort.Name us of_name (λ n. last (Sort.FirstTail k (bind_of (of_left left) n))) channel g))))
 
 -- the name of a contract and what it receives
-pub contract_begun : {free : ℕ} {t0 t1 t3 : List Terminal} (t2 t4 t5 : List Terminal) (channel : Result (Part Name) Fault) (left : Result (Part Left) Fault) (name : Part Name) (res : Result (Part Name × Part Left) Fault)
-    → TakesOpening marks.Contract 0 free t0 t1
+pub contract_begun : {free : ℕ} {r : Rule} {t0 t1 t3 : List Terminal} (t2 t4 t5 : List Terminal) (channel : Result (Part Name) Fault) (left : Result (Part Left) Fault) (name : Part Name) (res : Result (Part Name × Part Left) Fault)
+    → ((out : Outcome) → Runs Tutorial free (under Sort.Name (λ n. sign marks.Open (contract_left n))) t1 out → Runs Tutorial free r t0 out)
     → Makes (free - 1) (rule Tutorial (choose Sort.Name t1)) of_name t1 channel t2
     → ((n : ℕ) (r : Rule) (xs : List Terminal) (next : Part Name → Rule) → Turns n r (λ x. sign marks.Open (next x)) xs channel t2 → Turns n r next xs (Ok name) t3)
     → Makes (free - 1) (rule Tutorial (choose Sort.Left t3)) of_left t3 left t4
     → ((after : Spelt → Spelt → Rule) (n : ℕ) (r : Rule) (xs : List Terminal) → Turns n r (λ l. sign marks.Close (sign marks.Assign (after (of_name name) (of_left l)))) xs left t4
     → Turns n r (λ h. after (of_name h.0) (of_left h.1)) xs res t5)
-    → Turns free (rule Tutorial Prod.contract_form) (λ h. contract_body (of_name h.0) (of_left h.1)) t0 res t5
-contract_begun {free} {t0} {t1} {t3} t2 t4 t5 channel left name res o g m h c =
+    → Turns free r (λ h. contract_body (of_name h.0) (of_left h.1)) t0 res t5
+contract_begun {free} {r} {t0} {t1} {t3} t2 t4 t5 channel left name res o g m h c =
     resume t5 (λ (x : Part Name × Part Left). contract_body (of_name x.0) (of_left x.1)) res
-    (λ out r. runs_opens o (m free (under Sort.Name (λ n. sign marks.Open (contract_left n))) t1 (λ n. contract_left (of_name n)) (under_read free Sort.Name t2 of_name (λ n. sign marks.Open (contract_left n)) channel g) out r))
+    (λ out q. o out (m free (under Sort.Name (λ n. sign marks.Open (contract_left n))) t1 (λ n. contract_left (of_name n)) (under_read free Sort.Name t2 of_name (λ n. sign marks.Open (contract_left n)) channel g) out q))
     (c contract_body free (contract_left (of_name name)) t3 (under_read free Sort.Left t4 of_left (λ l. sign marks.Close (sign marks.Assign (contract_body (of_name name) l))) left h))
 
 -- where the name or a parenthesis after it was not read
-pub contract_named : {free : ℕ} {t0 t1 : List Terminal} (t2 t3 : List Terminal) (channel : Result (Part Name) Fault) (name : Result (Part Name) Fault)
-    → TakesOpening marks.Contract 0 free t0 t1
+pub contract_named : {free : ℕ} {r : Rule} {t0 t1 : List Terminal} (t2 t3 : List Terminal) (channel : Result (Part Name) Fault) (name : Result (Part Name) Fault)
+    → ((out : Outcome) → Runs Tutorial free (under Sort.Name (λ n. sign marks.Open (contract_left n))) t1 out → Runs Tutorial free r t0 out)
     → Makes (free - 1) (rule Tutorial (choose Sort.Name t1)) of_name t1 channel t2
     → ((n : ℕ) (r : Rule) (xs : List Terminal) (next : Part Name → Rule) → Turns n r (λ x. sign marks.Open (next x)) xs channel t2 → Turns n r next xs name t3)
-    → Turns free (rule Tutorial Prod.contract_form) (λ n. contract_left (of_name n)) t0 name t3
-contract_named {free} {t0} {t1} t2 t3 channel name o g m =
-    resume t3 (λ n. contract_left (of_name n)) name (λ out r. runs_opens o r)
+    → Turns free r (λ n. contract_left (of_name n)) t0 name t3
+contract_named {free} {r} {t0} {t1} t2 t3 channel name o g m =
+    resume t3 (λ n. contract_left (of_name n)) name o
     (m free (under Sort.Name (λ n. sign marks.Open (contract_left n))) t1 (λ n. contract_left (of_name n)) (under_read free Sort.Name t2 of_name (λ n. sign marks.Open (contract_left n)) channel g))
 
 -- and its body
@@ -139,13 +153,13 @@ contract_read {free} {r} {t0} {ts} us body res head c g m =
     (under_read free Sort.One us of_proc (λ p. done (opened (contract_of (name_written head.0.value) (left_written head.1.value) p.tree) (max (max head.0.height head.1.height) p.height))) body g))
 
 -- the condition of an `if`
-pub test_read : {free : ℕ} {t0 t1 t2 : List Terminal} (t3 t4 : List Terminal) (condition : Result (Part Proc) Fault) (test : Result (Part Proc) Fault)
-    → TakesOpening marks.If 0 free t0 t1 → Takes marks.Open t1 t2
+pub test_read : {free : ℕ} {r : Rule} {t0 t2 : List Terminal} (t3 t4 : List Terminal) (condition : Result (Part Proc) Fault) (test : Result (Part Proc) Fault)
+    → ((out : Outcome) → Runs Tutorial free (under (Sort.Par processes) (λ e. sign marks.Close (branches e))) t2 out → Runs Tutorial free r t0 out)
     → Makes (free - 1) (rule Tutorial (choose (Sort.Par processes) t2)) of_proc t2 condition t3
     → ((n : ℕ) (r : Rule) (xs : List Terminal) (next : Part Proc → Rule) → Turns n r (λ x. sign marks.Close (next x)) xs condition t3 → Turns n r next xs test t4)
-    → Turns free (rule Tutorial Prod.if_form) (λ e. branches (of_proc e)) t0 test t4
-test_read {free} {t0} {t1} {t2} t3 t4 condition test o p g m =
-    resume t4 (λ e. branches (of_proc e)) test (λ out r. runs_opens o (runs_sign p r))
+    → Turns free r (λ e. branches (of_proc e)) t0 test t4
+test_read {free} {r} {t0} {t2} t3 t4 condition test c g m =
+    resume t4 (λ e. branches (of_proc e)) test c
     (m free (under (Sort.Par processes) (λ e. sign marks.Close (branches e))) t2 (λ e. branches (of_proc e)) (under_read free (Sort.Par processes) t3 of_proc (λ e. sign marks.Close (branches e)) condition g))
 
 -- and its first branch
@@ -201,14 +215,16 @@ case_read {free} {r} {t0} {ts} us body case res v cs h pattern c g b m =
     (under_read free Sort.One us of_proc (λ p. last (Sort.CaseTail v (map case_written cs ++ (case_of (pat_written pattern.value) p.tree ∷ [])) (max h (max pattern.height p.height)))) body g))))
 
 -- the end of the binds
-pub binds_closed : {ts us : List Terminal} (free : ℕ) (vs : List Terminal) (k : Kind) (m : Separator) (left : ℕ) (binds : Part (Vec Bind Global)) (head : Result (Part (Vec Bind Global)) Fault)
-    → sees_bind m left ts ≡ false → us ≡ ts
-    → ((n : ℕ) (r : Rule) (xs : List Terminal) (next : Part (Vec Bind Global) → Rule) → Turns n r (λ x. sign marks.Close (sign marks.OpenBrace (next x))) xs (Ok binds) us → Turns n r next xs head vs)
-    → Turns free (rule Tutorial (choose (Sort.BindsTail k m left (map bind_written binds.value.items) binds.height) ts)) (λ q. receive_body k (map bind_written q.value.items) q.height) ts head vs
-binds_closed {ts} {us} free vs k m left binds head s e t =
-    resume vs (λ (q : Part (Vec Bind Global)). receive_body k (map bind_written q.value.items) q.height) head
-    (λ out r. binds_off k m left (map bind_written binds.value.items) binds.height s (runs_last (unmoved e r)))
-    (t free (sign marks.Close (sign marks.OpenBrace (receive_body k (map bind_written binds.value.items) binds.height))) us (λ q. receive_body k (map bind_written q.value.items) q.height) (λ out h. h))
+pub binds_closed : {ts us : List Terminal} (free : ℕ) (r : Rule) (t0 vs : List Terminal) (k : Kind) (m : Separator) (left : ℕ) (binds head : Result (Part (Vec Bind Global)) Fault)
+    → OnOk binds (sees_bind m left ts ≡ false) → us ≡ ts
+    → Turns free r (λ q. last (Sort.BindsTail k m left (map bind_written q.value.items) q.height)) t0 binds ts
+    → ((n : ℕ) (q : Rule) (xs : List Terminal) (next : Part (Vec Bind Global) → Rule) → Turns n q (λ x. sign marks.Close (sign marks.OpenBrace (next x))) xs binds us → Turns n q next xs head vs)
+    → Turns free r (λ q. receive_body k (map bind_written q.value.items) q.height) t0 head vs
+binds_closed {ts} {us} free r t0 vs k m left binds head s e g t =
+    t free r t0 (λ (q : Part (Vec Bind Global)). receive_body k (map bind_written q.value.items) q.height)
+    (stayed free r t0 (λ (q : Part (Vec Bind Global)). sign marks.Close (sign marks.OpenBrace (receive_body k (map bind_written q.value.items) q.height))) binds e
+    (closed r t0 (λ (q : Part (Vec Bind Global)). last (Sort.BindsTail k m left (map bind_written q.value.items) q.height)) (λ (q : Part (Vec Bind Global)). sign marks.Close (sign marks.OpenBrace (receive_body k (map bind_written q.value.items) q.height))) binds s
+    (λ x n out h. runs_last (binds_off k m left (map bind_written x.value.items) x.height n (runs_last h))) g))
 
 -- and the body after them
 pub receive_read : {free : ℕ} {r : Rule} {t0 ts : List Terminal} (us vs : List Terminal) (body res : Result (Part Proc) Fault) (k : Kind) (head : Part (Vec Bind Global))

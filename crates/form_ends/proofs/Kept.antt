@@ -9,7 +9,7 @@ use Rattle.grammar.specs.Descent.{Runs, Takes}
 use Rattle.grammar.specs.Rules.{Rule, Separator, separator_mark}
 use Rattle.grammar.specs.Terminals.{Terminal, sees}
 use Rattle.form_steps.proofs.Handed.{as_fault, as_read, if_read}
-use Rattle.syntax_forms.specs.declared.part.Part.{Part}
+use Rattle.form_parts.specs.declared.part.Part.{Part}
 use Rattle.token_cursor.specs.Reading.{Turns, sees_bind}
 
 -- what is known of what was read is known of what is kept of it

@@ -4,7 +4,7 @@ use Rattle.std.specs.Prelude.{IfOk, MatchResult}
 use Rattle.std.specs.Result.{IsErrAnd}
 use Rattle.grammar.specs.declared.fault.Fault.{Fault}
 use Rattle.form_steps.proofs.Handed.{if_read}
-use Rattle.syntax_forms.specs.declared.part.Part.{Part}
+use Rattle.form_parts.specs.declared.part.Part.{Part}
 
 -- no part is there at the exit of a `?`
 pub none_left : {T : Type 0} (n : ℕ) (res : Result (Part T) Fault) (e : Fault) → IsErrAnd res (λ y. y ≡ e) → IfOk res (λ p. p.height ≤ n)

@@ -20,7 +20,7 @@ use Rattle.grammar.specs.Productions.{Prod}
 use Rattle.grammar.specs.Rules.{Bracket, Sort, Rule, at, closing, done, last, sign}
 use Rattle.grammar.specs.Terminals.{Terminal, sees}
 use Rattle.grammar.specs.Values.{Side, Spelt, par_of, patterns, spelt}
-use Rattle.syntax_forms.specs.declared.part.Part.{Part}
+use Rattle.form_parts.specs.declared.part.Part.{Part}
 use Rattle.token_cursor.specs.Reading.{Makes, Turns, sees_member}
 use Rattle.token_cursor.proofs.Steps.{ends}
 use Rattle.form_ends.proofs.Carried.{carried, closed}

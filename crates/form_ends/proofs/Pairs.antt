@@ -20,7 +20,7 @@ use Rattle.grammar.specs.Productions.{Prod}
 use Rattle.grammar.specs.Rules.{Sort, Rule, last, sign, under}
 use Rattle.grammar.specs.Terminals.{Terminal, sees}
 use Rattle.grammar.specs.Values.{Side, Spelt, patterns, processes, spelt}
-use Rattle.syntax_forms.specs.declared.part.Part.{Part}
+use Rattle.form_parts.specs.declared.part.Part.{Part}
 use Rattle.token_cursor.specs.Reading.{Makes, Turns, of_pat, of_proc, pairs_written, pat_pairs_written, sees_member}
 use Rattle.form_ends.specs.Reading.{Appends, ReadsPair, pair_then, pattern_pair, process_pair}
 use Rattle.form_ends.proofs.Carried.{carried, closed}

@@ -16,7 +16,7 @@ use Rattle.grammar.specs.Terminals.{Terminal}
 use Rattle.grammar.specs.Values.{Spelt, operation}
 use Rattle.token_cursor.specs.Levels.{GoesOn, operand_of, tail_of}
 use Rattle.token_cursor.specs.declared.level.Level.{Level}
-use Rattle.syntax_forms.specs.declared.part.Part.{Part}
+use Rattle.form_parts.specs.declared.part.Part.{Part}
 use Rattle.form_steps.proofs.Turning.{as_rule}
 use Rattle.token_cursor.proofs.Steps.{rows}
 

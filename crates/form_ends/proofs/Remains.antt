@@ -4,23 +4,11 @@ use Rattle.calculus.specs.Written.{Written}
 use Rattle.calculus.specs.declared.plain.Kind.{Kind}
 use Rattle.grammar.specs.declared.mark.Mark.TheVariants as marks
 use Rattle.grammar.specs.Rules.{Sort, Rule, done, last, sign, under}
-use Rattle.grammar.specs.Values.{Spelt, bind_of, case_of, contract_of, opened, processes, receive_of}
-
--- the first branch of an `if`
-abbrev pub branches : Spelt → Rule
-branches e = under Sort.Two (λ p. last (Sort.IfTail e p))
+use Rattle.grammar.specs.Values.{Spelt, bind_of, case_of, opened, processes, receive_of}
 
 -- the last branch
 abbrev pub last_branch : Spelt → Spelt → Rule
 last_branch e p = last (Sort.IfTail e p)
-
--- the body of a contract
-abbrev pub contract_body : Spelt → Spelt → Rule
-contract_body n l = under Sort.One (λ p. done (opened (contract_of n.tree l.tree p.tree) (max (max n.height l.height) p.height)))
-
--- what a contract receives, and its body
-abbrev pub contract_left : Spelt → Rule
-contract_left n = under Sort.Left (λ l. sign marks.Close (sign marks.Assign (contract_body n l)))
 
 -- the channel of a first bind
 abbrev pub first_channel : Kind → Spelt → Rule

@@ -17,7 +17,7 @@ use Rattle.grammar.specs.Descent.{Outcome, Runs}
 use Rattle.grammar.specs.Rules.{Rule, Sort, last, under}
 use Rattle.grammar.specs.Terminals.{Terminal}
 use Rattle.grammar.specs.Values.{Spelt, both_of, either_of, opened, operation}
-use Rattle.syntax_forms.specs.declared.part.Part.{Part}
+use Rattle.form_parts.specs.declared.part.Part.{Part}
 use Rattle.token_cursor.specs.Levels.{operand_of, tail_of}
 use Rattle.token_cursor.specs.Reading.{Makes, of_pat, of_proc}
 use Rattle.token_cursor.specs.declared.level.Level.{Level}

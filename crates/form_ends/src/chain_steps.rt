@@ -5,7 +5,7 @@ ghost use Rattle.form_steps.specs.Handing.{HandsOn};
 ghost use Rattle.grammar.specs.Rules.{Rule, Sort, last};
 ghost use Rattle.grammar.specs.Terminals.{Terminal};
 ghost use Rattle.grammar.specs.Values.{method_of, opened, operation};
-ghost use Rattle.syntax_forms.specs.Forms.{HasTree};
+ghost use Rattle.form_parts.specs.Forms.{HasTree};
 ghost use Rattle.token_cursor.specs.Levels.{tail_of};
 ghost use Rattle.token_cursor.specs.Meaning.{view};
 ghost use Rattle.token_cursor.specs.Reading.{Turns, of_pat, of_proc, of_row};
@@ -13,11 +13,13 @@ ghost use Rattle.std.specs.Prelude.{◌≡◌, ◌+◌, ◌<◌, ◌≤◌, ◌^
 
 use crate::joint::Joint;
 use calculus::{BinaryOp, Pat, Proc};
+use form_parts::part::Part;
+use form_parts::parts;
 use form_steps::begin_call;
 use grammar::Fault;
 use std::alloc::Global;
-use token_cursor::part::Part;
-use token_cursor::{Cursor, Level, parts, pattern_forms, process_forms};
+use syntax_forms::{pattern_forms, process_forms};
+use token_cursor::{Cursor, Level};
 
 /// A chain up to a part of it.
 pub enum Chain<P, T> {

@@ -9,16 +9,18 @@ ghost use Rattle.grammar.specs.Terminals.{Terminal};
 ghost use Rattle.grammar.specs.Values.{Spelt, closed_of, contract_of, if_of, new_of, opened, quote_of, quoted_of, spelt};
 ghost use Rattle.grammar.specs.declared.dialect.Dialect.TheVariants.{Tutorial};
 ghost use Rattle.grammar.specs.declared.mark.Mark.TheVariants as marks;
-ghost use Rattle.syntax_forms.specs.Forms.{left_written};
+ghost use Rattle.form_parts.specs.Forms.{left_written};
 ghost use Rattle.token_cursor.specs.Reading.{Gives, Makes, of_left, of_name, of_name_pat, of_pat, of_proc};
 ghost use Rattle.std.specs.Prelude.{◌+◌, ◌<◌, ◌≤◌, ◌^◌, ℕ, IfOk, List, length, map, max};
 
 use calculus::{Bind, Decl, Kind, Name, NamePat, Pat, Proc};
+use form_parts::part::{Left, Part};
+use form_parts::parts;
 use form_steps::{both, then_mark};
 use grammar::{Fault, Mark};
 use std::alloc::Global;
-use token_cursor::part::{Left, Part};
-use token_cursor::{Cursor, parts, pattern_forms, process_forms};
+use syntax_forms::{pattern_forms, process_forms};
+use token_cursor::Cursor;
 
 /// The receive of these binds and of the body that was read after them, and a brace.
 pub fn close_receive(

@@ -7,6 +7,7 @@ mod form_end;
 pub mod joint;
 mod list_steps;
 mod next_marks;
+mod plain;
 mod row;
 
 pub use chain_steps::{Chain, begin_right, called, join, next_call, next_joint, operated};
@@ -19,5 +20,6 @@ pub use list_steps::{
     close_left, close_map, close_pairs, close_sequence, composed, composed_pattern, skip_after,
     skip_comma_after, then_one_more,
 };
-pub use next_marks::{begin_new, skip_separator, then_marks};
+pub use next_marks::{declared_names, skip_separator_after, then_marks};
+pub use plain::{plain_pattern, plain_process};
 pub use row::{sent, sent_pattern, tuple, tuple_pattern};

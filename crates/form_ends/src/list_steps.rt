@@ -15,10 +15,12 @@ ghost use Rattle.token_cursor.specs.Reading.{bracket_of, of_left, of_pat, of_pro
 ghost use Rattle.std.specs.Prelude.{◌≡◌, ◌+◌, ◌<◌, ◌≤◌, ◌^◌, ℕ, IfOk, IsOk, OnOk, false, length, map, true};
 
 use calculus::{NamePat, Pat, Proc};
+use form_parts::part::{Bracket, Left, Part, Sequence};
 use form_steps::{one_more, skip, skip_comma};
 use grammar::{Fault, Mark};
-use token_cursor::part::{Bracket, Left, Part, Sequence};
-use token_cursor::{Cursor, pattern_forms, process_forms};
+use leaf_forms::{left_end, map_close, pairs_end, sequence_end};
+use syntax_forms::{pattern_forms, process_forms};
+use token_cursor::Cursor;
 
 /// Takes this mark if it is next and what stands before it was read, and says whether it did.
 pub fn skip_after<T>(cursor: &mut Cursor<'_>, before: &Result<T, Fault>, mark: Mark) -> bool
@@ -101,7 +103,7 @@ pub fn close_left(
     ensures shorter { length cursor.new.rest.now ≤ length cursor.old.rest.now }
 {
     match pats {
-        Ok(pats) => cursor.left_end(pats),
+        Ok(pats) => left_end(cursor, pats),
         Err(fault) => Err(fault),
     }
 }
@@ -119,7 +121,7 @@ pub fn close_sequence(
     ensures shorter { length cursor.new.rest.now ≤ length cursor.old.rest.now }
 {
     match pats {
-        Ok(pats) => cursor.sequence_end(bracket, pats),
+        Ok(pats) => sequence_end(cursor, bracket, pats),
         Err(fault) => Err(fault),
     }
 }
@@ -136,7 +138,7 @@ pub fn close_map(
     ensures shorter { length cursor.new.rest.now ≤ length cursor.old.rest.now }
 {
     match pairs {
-        Ok(pairs) => cursor.map_close(pairs),
+        Ok(pairs) => map_close(cursor, pairs),
         Err(fault) => Err(fault),
     }
 }
@@ -154,7 +156,7 @@ pub fn close_pairs(
     ensures shorter { length cursor.new.rest.now ≤ length cursor.old.rest.now }
 {
     match pairs {
-        Ok(pairs) => cursor.pairs_end(pairs),
+        Ok(pairs) => pairs_end(cursor, pairs),
         Err(fault) => Err(fault),
     }
 }

@@ -1,21 +1,20 @@
 //! Marks of which one or two are next.
 ghost use Rattle.form_ends.specs.Reading.{after_in};
 ghost use Rattle.grammar.specs.Descent.{Takes};
-ghost use Rattle.grammar.specs.Grammar.{rule};
-ghost use Rattle.grammar.specs.Productions.{Prod};
-ghost use Rattle.grammar.specs.Rules.{Rule, separator_mark, sign};
+ghost use Rattle.grammar.specs.Rules.{Rule, Sort, last, separator_mark, sign};
 ghost use Rattle.grammar.specs.Terminals.{Terminal};
-ghost use Rattle.grammar.specs.declared.dialect.Dialect.TheVariants.{Tutorial};
-ghost use Rattle.token_cursor.specs.Cursors.{ContinuesWithin, Shortens};
+ghost use Rattle.token_cursor.specs.Cursors.{Continues};
 ghost use Rattle.token_cursor.specs.Meaning.{view};
 ghost use Rattle.token_cursor.specs.Reading.{Turns, sees_bind, separator_of};
-ghost use Rattle.std.specs.Prelude.{◌≡◌, ◌<◌, ◌≤◌, ℕ, IfOk, List, false, length, true};
+ghost use Rattle.std.specs.Prelude.{◌≡◌, ◌<◌, ◌≤◌, ℕ, [], IfOk, IsOk, List, OnOk, false, length, true};
 
 use calculus::Decl;
+use form_parts::part::Separator;
 use form_steps::{skip, then_mark};
 use grammar::{Fault, Mark};
+use leaf_forms::declarations;
 use token_cursor::Cursor;
-use token_cursor::part::Separator;
+use token_cursor::cursor::closed;
 
 /// The mark of a separator.
 fn separator_mark(separator: Separator) -> Mark
@@ -28,7 +27,7 @@ fn separator_mark(separator: Separator) -> Mark
 }
 
 /// Takes this separator if it is next and so many more binds may stand, and says whether it did.
-pub fn skip_separator(cursor: &mut Cursor<'_>, separator: Separator, more: u32) -> bool
+fn skip_separator(cursor: &mut Cursor<'_>, separator: Separator, more: u32) -> bool
     ensures is { result ≡ sees_bind (separator_of separator) more (view cursor.old.rest.now) }
     ensures takes { result ≡ true → Takes (separator_mark (separator_of separator)) (view cursor.old.rest.now) (view cursor.new.rest.now) }
     ensures some { result ≡ true → 0 < more }
@@ -40,6 +39,28 @@ pub fn skip_separator(cursor: &mut Cursor<'_>, separator: Separator, more: u32) 
         return false;
     }
     skip(cursor, separator_mark(separator))
+}
+
+/// The same where what stands before it was read.
+pub fn skip_separator_after<T>(
+    cursor: &mut Cursor<'_>,
+    before: &Result<T, Fault>,
+    separator: Separator,
+    more: u32,
+) -> bool
+    ensures after { result ≡ true → IsOk before.now }
+    ensures is { result ≡ true → sees_bind (separator_of separator) more (view cursor.old.rest.now) ≡ true }
+    ensures takes { result ≡ true → Takes (separator_mark (separator_of separator)) (view cursor.old.rest.now) (view cursor.new.rest.now) }
+    ensures some { result ≡ true → 0 < more }
+    ensures less { result ≡ true → length cursor.new.rest.now < length cursor.old.rest.now }
+    ensures stays { result ≡ false → view cursor.new.rest.now ≡ view cursor.old.rest.now }
+    ensures ends { result ≡ false → OnOk before.now (sees_bind (separator_of separator) more (view cursor.old.rest.now) ≡ false) }
+    ensures shorter { length cursor.new.rest.now ≤ length cursor.old.rest.now }
+{
+    if before.is_err() {
+        return false;
+    }
+    skip_separator(cursor, separator, more)
 }
 
 /// What was read, and these two marks after it, which are taken; where one is missing, what was read is let go.
@@ -59,14 +80,11 @@ pub fn then_marks<T: Drop>(
     then_mark(cursor, taken, second)
 }
 
-/// New ::= "new" Decl { "," Decl } "in" One, up to the process
-pub fn begin_new(cursor: &mut Cursor<'_>, free: u32) -> Result<Vec<Decl>, Fault>
-    ensures reads { ContinuesWithin free cursor.old (rule Tutorial Prod.new_form) after_in result cursor.new }
-    ensures room { IfOk result (λ _. 0 < free) }
-    ensures shorter { Shortens cursor.old result cursor.new }
+/// The names of a `new`, up to the process.
+pub fn declared_names(cursor: &mut Cursor<'_>) -> Result<Vec<Decl>, Fault>
+    ensures reads { Continues cursor.old (last (Sort.Decl [])) after_in result cursor.new }
+    ensures shorter { length cursor.new.rest.now ≤ length cursor.old.rest.now }
 {
-    cursor.opens(Mark::New, 0, free)?;
-    let names = cursor.declarations()?;
-    cursor.expect(Mark::In)?;
-    Ok(names)
+    let names = declarations(cursor)?;
+    closed(cursor, names, Mark::In)
 }

@@ -9,10 +9,11 @@ ghost use Rattle.token_cursor.specs.Reading.{Gives, Makes, of_pat, of_pat_row, o
 ghost use Rattle.std.specs.Prelude.{◌+◌, ◌-◌, ◌<◌, ◌≤◌, ◌^◌, ℕ, IfOk, List};
 
 use calculus::{Name, NamePat, Pat, Proc};
+use form_parts::part::Part;
+use form_parts::parts;
 use form_steps::step::Sending;
 use grammar::Fault;
-use token_cursor::part::Part;
-use token_cursor::{parts, pattern_forms, process_forms};
+use syntax_forms::{pattern_forms, process_forms};
 
 /// The send on this channel of the arguments that were read after it.
 pub fn sent(

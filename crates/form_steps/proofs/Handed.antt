@@ -14,7 +14,7 @@ use Rattle.grammar.specs.Rules.{Sort, Rule, at, done, sign, under}
 use Rattle.grammar.specs.Terminals.{Terminal}
 use Rattle.grammar.specs.Values.{Spelt}
 use Rattle.form_steps.specs.declared.step.Sending.{Sending}
-use Rattle.syntax_forms.specs.declared.part.Part.{Part}
+use Rattle.form_parts.specs.declared.part.Part.{Part}
 use Rattle.token_cursor.specs.Reading.{Gives, Makes, Turns}
 use Rattle.token_cursor.proofs.Steps.{faulty}
 

@@ -1,2 +1,3 @@
 pub mod Handed
+mod Keys
 pub mod Turning

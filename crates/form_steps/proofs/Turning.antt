@@ -19,7 +19,7 @@ use Rattle.grammar.specs.Rules.{Sort, Rule, round, done, last, opens_next, under
 use Rattle.grammar.specs.Terminals.{Terminal, sees}
 use Rattle.grammar.specs.Values.{Side, Spelt, spelt, leaf, opened, processes, send_of}
 use Rattle.rho_lexer.specs.declared.token.Token.{Token}
-use Rattle.syntax_forms.specs.declared.part.Part.{Part}
+use Rattle.form_parts.specs.declared.part.Part.{Part}
 use Rattle.token_cursor.specs.Meaning.{view}
 use Rattle.token_cursor.specs.Reading.{Makes, of_name, sees_member}
 use Rattle.token_cursor.proofs.Fronts.{no_fresh}

@@ -5,7 +5,7 @@ use Rattle.grammar.specs.declared.mark.Mark.{Mark}
 use Rattle.grammar.specs.Rules.{Rule, sign}
 use Rattle.grammar.specs.Terminals.{Terminal}
 use Rattle.grammar.specs.Values.{Spelt}
-use Rattle.syntax_forms.specs.declared.part.Part.{Part}
+use Rattle.form_parts.specs.declared.part.Part.{Part}
 use Rattle.token_cursor.specs.Cursors.{ahead}
 use Rattle.token_cursor.specs.Reading.{Makes, Turns}
 use Rattle.token_cursor.specs.declared.cursor.Cursor.{Cursor}

@@ -1,5 +1,5 @@
 -- What is left of the production of a part where a step of the parser ends.
-use Rattle.std.specs.Prelude.{ℕ, ◌<◌, ◌≤◌, ⊤, List, Option, Some, None, cond, max}
+use Rattle.std.specs.Prelude.{ℕ, ◌<◌, ◌≤◌, ⊤, Bool, true, false, List, [], Option, Some, None, cond, max}
 use Rattle.calculus.specs.Meaning.{name_pat_written, name_written}
 use Rattle.calculus.specs.declared.plain.Rights.{Rights}
 use Rattle.calculus.specs.declared.process.Name.{Name}
@@ -12,13 +12,14 @@ use Rattle.form_steps.specs.declared.step.TermStep.{TermStep}
 use Rattle.form_steps.specs.declared.step.TermStep.TheVariants as terms
 use Rattle.form_steps.specs.declared.step.Sending.{Sending}
 use Rattle.grammar.specs.declared.dialect.Dialect.TheVariants.{Tutorial}
+use Rattle.grammar.specs.declared.mark.Mark.{Mark}
 use Rattle.grammar.specs.declared.mark.Mark.TheVariants as marks
 use Rattle.grammar.specs.Choice.{sees_any_send, sees_bundle, sees_send}
 use Rattle.grammar.specs.Grammar.{rule}
 use Rattle.grammar.specs.Productions.{Prod}
 use Rattle.grammar.specs.Rules.{Sort, Rule, round, at, done, sign, under, last}
 use Rattle.grammar.specs.Terminals.{Terminal, sees}
-use Rattle.grammar.specs.Values.{Side, Spelt, bundle_of, closed_of, opened, patterns, processes, quote_of, quoted_of, send_of, spelt}
+use Rattle.grammar.specs.Values.{Side, Spelt, bundle_of, closed_of, contract_of, opened, patterns, processes, quote_of, quoted_of, send_of, spelt}
 
 -- the sort of a keyed form
 abbrev pub form_sort : FormKey → Sort
@@ -27,6 +28,40 @@ form_sort keys.If = Sort.If
 form_sort keys.Contract = Sort.Contract
 form_sort keys.For = Sort.For
 form_sort keys.Match = Sort.Match
+
+-- the key of a form
+abbrev pub key_mark : FormKey → Mark
+key_mark keys.New = marks.New
+key_mark keys.If = marks.If
+key_mark keys.Contract = marks.Contract
+key_mark keys.For = marks.For
+key_mark keys.Match = marks.Match
+
+-- whether a parenthesis follows the key
+abbrev pub has_parenthesis : FormKey → Bool
+has_parenthesis keys.If = true
+has_parenthesis keys.For = true
+has_parenthesis _ = false
+
+-- the branches of an `if`
+abbrev pub branches : Spelt → Rule
+branches e = under Sort.Two (λ p. last (Sort.IfTail e p))
+
+-- the body of a contract
+abbrev pub contract_body : Spelt → Spelt → Rule
+contract_body n l = under Sort.One (λ p. done (opened (contract_of n.tree l.tree p.tree) (max (max n.height l.height) p.height)))
+
+-- what a contract receives, and its body
+abbrev pub contract_left : Spelt → Rule
+contract_left n = under Sort.Left (λ l. sign marks.Close (sign marks.Assign (contract_body n l)))
+
+-- after the key of a form and the parenthesis, where one follows
+abbrev pub after_key : FormKey → Rule
+after_key keys.New = last (Sort.Decl [])
+after_key keys.If = under (Sort.Par processes) (λ e. sign marks.Close (branches e))
+after_key keys.Contract = under Sort.Name (λ n. sign marks.Open (contract_left n))
+after_key keys.For = under Sort.Left (λ l. last (Sort.Arrow l))
+after_key keys.Match = under Sort.Or (λ t. sign marks.OpenBrace (last (Sort.Case t [] t.height)))
 
 -- what a process is that begins with this form, or with none that reaches over a `|`
 abbrev pub after_leading : Option FormKey → Rule

@@ -6,8 +6,8 @@ use Rattle.calculus.specs.declared.plain.UnaryOp.{UnaryOp}
 use Rattle.calculus.specs.Written.{Written}
 use Rattle.std.specs.declared.alloc.Global.{Global}
 use Rattle.std.specs.declared.string.String.{String}
-use Rattle.syntax_forms.specs.declared.part.Bracket.{Bracket}
-use Rattle.syntax_forms.specs.declared.part.Bracket.TheVariants as brackets
+use Rattle.form_parts.specs.declared.part.Bracket.{Bracket}
+use Rattle.form_parts.specs.declared.part.Bracket.TheVariants as brackets
 use Rattle.token_cursor.specs.Reading.{bracket_of}
 use Rattle.form_steps.specs.declared.step.PlainProcess.{PlainProcess}
 use Rattle.form_steps.specs.declared.step.PlainProcess.TheVariants as plain

@@ -8,9 +8,9 @@ ghost use Rattle.token_cursor.specs.Cursors.{BeginsWithin, ContinuesWithin, Shor
 ghost use Rattle.std.specs.Prelude.{IfOk};
 
 use crate::step::{PlainProcess, ProcessStep};
+use form_parts::part::Bracket;
 use grammar::{Fault, Mark};
 use token_cursor::Cursor;
-use token_cursor::part::Bracket;
 
 /// Drop ::= "*" Dropped | Atom, up to its first constituent
 pub fn begin_atom(cursor: &mut Cursor<'_>, free: u32) -> Result<ProcessStep, Fault>

@@ -6,9 +6,9 @@ ghost use Rattle.token_cursor.specs.Reading.{separator_of};
 ghost use Rattle.token_cursor.specs.Cursors.{rule_at};
 ghost use Rattle.std.specs.Prelude.{◌≡◌, ◌∷◌, []};
 
+use form_parts::part::Separator;
 use grammar::Mark;
 use token_cursor::Cursor;
-use token_cursor::part::Separator;
 
 /// The separator after a first bind; where none is next, the semicolon.
 pub fn next_separator(cursor: &Cursor<'_>) -> Separator

@@ -6,10 +6,11 @@ ghost use Rattle.form_steps.specs.Handing.{HandsOn, HandsOnPart};
 ghost use Rattle.std.specs.Prelude.{◌≡◌, ◌≤◌, ◌∷◌, ◌++◌, [], ℕ, IfOk, MatchResult, max};
 
 use calculus::{Bind, Case, Name, Pat, Proc};
+use form_parts::part::{Left, Part};
+use form_parts::parts;
 use grammar::Fault;
 use std::alloc::Global;
-use token_cursor::part::{Left, Part};
-use token_cursor::{parts, process_forms};
+use syntax_forms::process_forms;
 
 /// What was read before, with what was read after it; where that failed, the first is let go.
 pub fn both<T: Drop, U>(first: T, second: Result<U, Fault>) -> Result<(T, U), Fault>

@@ -1,19 +1,18 @@
 //! Marks that stand next, or may.
 ghost use Rattle.grammar.specs.Descent.{Takes};
 ghost use Rattle.grammar.specs.Grammar.{arrow_mark};
-ghost use Rattle.grammar.specs.Rules.{closing};
 ghost use Rattle.grammar.specs.Terminals.{sees};
 ghost use Rattle.grammar.specs.declared.mark.Mark.TheVariants as marks;
 ghost use Rattle.token_cursor.specs.Meaning.{view};
-ghost use Rattle.token_cursor.specs.Reading.{bracket_of, sees_member};
+ghost use Rattle.token_cursor.specs.Reading.{sees_member};
 ghost use Rattle.form_steps.specs.Handing.{TakesMarkAfter};
 ghost use Rattle.token_cursor.specs.Cursors.{Shortens};
 ghost use Rattle.std.specs.Prelude.{◌≡◌, ◌<◌, ◌≤◌, IfOk, false, length, true};
 
 use calculus::Kind;
+use form_parts::parts;
 use grammar::{Fault, Mark};
-use token_cursor::part::Bracket;
-use token_cursor::{Cursor, parts};
+use token_cursor::Cursor;
 
 /// Takes this mark if it is next, and says whether it was.
 pub fn skip(cursor: &mut Cursor<'_>, mark: Mark) -> bool
@@ -48,16 +47,6 @@ pub fn arrow_mark(kind: Kind) -> Mark
         Kind::Linear => Mark::Arrow,
         Kind::Persistent => Mark::LessEqual,
         Kind::Peek => Mark::PeekArrow,
-    }
-}
-
-/// The sign that closes a bracket.
-pub fn closing_mark(bracket: Bracket) -> Mark
-    ensures { result ≡ closing (bracket_of bracket) }
-{
-    match bracket {
-        Bracket::Round => Mark::Close,
-        Bracket::Square => Mark::CloseSquare,
     }
 }
 

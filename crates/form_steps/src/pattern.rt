@@ -10,9 +10,9 @@ ghost use Rattle.std.specs.Prelude.{◌≡◌, IfOk};
 
 use crate::step::{PatternStep, PlainPattern};
 use calculus::Simple;
+use form_parts::part::Bracket;
 use grammar::{Fault, Mark};
 use token_cursor::Cursor;
-use token_cursor::part::Bracket;
 
 /// PNot ::= "~" PNot | PAtom, up to its first constituent
 pub fn begin_pattern(cursor: &mut Cursor<'_>, free: u32) -> Result<PatternStep, Fault>

@@ -1,56 +1,21 @@
-//! Processes and patterns that hold no further ones.
+//! Forms of one constituent.
 ghost use Rattle.form_steps.specs.Parts.{bundle_end};
-ghost use Rattle.form_steps.specs.Steps.{member_patterns_of, members_of, plain_height, plain_pattern_height, plain_pattern_rule, plain_rule, same_end};
+ghost use Rattle.form_steps.specs.Steps.{member_patterns_of, members_of, same_end};
 ghost use Rattle.calculus.specs.Meaning.{pat_written, proc_written, row_of};
 ghost use Rattle.grammar.specs.Rules.{done};
 ghost use Rattle.grammar.specs.Values.{drop_of, not_of, opened, patterns, processes, quote_of};
-ghost use Rattle.token_cursor.specs.Meaning.{view};
-ghost use Rattle.token_cursor.specs.Reading.{Makes, of_pat, of_proc, of_row, of_sequence, sequence_written};
-ghost use Rattle.syntax_forms.specs.Forms.{HasTree};
+ghost use Rattle.token_cursor.specs.Reading.{of_pat, of_proc, of_row, of_sequence, sequence_written};
+ghost use Rattle.form_parts.specs.Forms.{HasTree};
 ghost use Rattle.form_steps.specs.Handing.{Completes, CompletesAt};
 ghost use Rattle.std.specs.Prelude.{◌≡◌, ◌+◌, ◌<◌, ◌≤◌, ◌^◌, ℕ, IfOk, length, map};
 
 use crate::next_mark::then_mark;
-use crate::step::{PlainPattern, PlainProcess};
 use calculus::{Pat, Proc, Rights};
+use form_parts::part::{Bracket, Part, Sequence};
 use grammar::{Fault, Mark};
 use std::alloc::Global;
-use token_cursor::part::{Bracket, Part, Sequence};
-use token_cursor::{Cursor, pattern_forms, process_forms};
-
-/// A process that holds no further one.
-pub fn plain_process(cursor: &mut Cursor<'_>, plain: PlainProcess) -> Result<Part<Proc>, Fault>
-    ensures reads { (free : ℕ) → Makes free (plain_rule plain) of_proc (view cursor.old.rest.now) result (view cursor.new.rest.now) }
-    ensures height { IfOk result (λ p. p.height ≡ plain_height plain) }
-    ensures shorter { length cursor.new.rest.now ≤ length cursor.old.rest.now }
-{
-    match plain {
-        PlainProcess::Word => cursor.atom_word(),
-        PlainProcess::Nil => cursor.atom_nil(),
-        PlainProcess::Ground => cursor.atom_ground(),
-        PlainProcess::Dropped => cursor.dropped_word(),
-        PlainProcess::EmptyMap => cursor.empty_map(),
-    }
-}
-
-/// A pattern that holds no further one.
-pub fn plain_pattern(cursor: &mut Cursor<'_>, plain: PlainPattern) -> Result<Part<Pat>, Fault>
-    ensures reads { (free : ℕ) → Makes free (plain_pattern_rule plain) of_pat (view cursor.old.rest.now) result (view cursor.new.rest.now) }
-    ensures height { IfOk result (λ p. p.height ≡ plain_pattern_height plain) }
-    ensures shorter { length cursor.new.rest.now ≤ length cursor.old.rest.now }
-{
-    match plain {
-        PlainPattern::Word => cursor.pat_word(),
-        PlainPattern::Any => cursor.pat_any(),
-        PlainPattern::Type(simple) => cursor.pat_type(simple),
-        PlainPattern::Nil => cursor.pat_nil(),
-        PlainPattern::Ground => cursor.pat_ground(),
-        PlainPattern::SameWord => cursor.same_word(),
-        PlainPattern::SameDropped => cursor.same_drop(),
-        PlainPattern::EmptyMap => cursor.empty_map_pat(),
-        PlainPattern::RestMap => cursor.rest_map_pat(),
-    }
-}
+use syntax_forms::{pattern_forms, process_forms};
+use token_cursor::Cursor;
 
 /// The list or the set of these members.
 fn list_or_set(bracket: Bracket, row: Part<Vec<Proc>>) -> Part<Proc>

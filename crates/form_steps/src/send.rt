@@ -12,9 +12,11 @@ ghost use Rattle.std.specs.Prelude.{◌≡◌, ◌<◌, ◌≤◌, ℕ, IfOk, le
 
 use crate::step::Sending;
 use calculus::{Name, NamePat, Pat, Proc};
+use form_parts::part::Part;
+use form_parts::parts;
 use grammar::{Fault, Mark};
-use token_cursor::part::Part;
-use token_cursor::{Cursor, parts, pattern_forms, process_forms};
+use syntax_forms::{pattern_forms, process_forms};
+use token_cursor::Cursor;
 
 /// A variable, the mark of a send, which opens it, and a parenthesis.
 pub fn begin_send(cursor: &mut Cursor<'_>, free: u32) -> Result<Sending<Name>, Fault>

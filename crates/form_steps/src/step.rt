@@ -1,5 +1,5 @@
 use calculus::{Rights, Simple};
-use token_cursor::part::{Bracket, Part};
+use form_parts::part::{Bracket, Part};
 
 /// A process that holds no further one.
 #[derive(Clone, Copy)]

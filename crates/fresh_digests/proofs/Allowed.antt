@@ -2,7 +2,7 @@
 use Rattle.std.proofs.Common.{◌≡◌, ℕ, List, [], ◌∷◌, sym, subst, inl, inr}
 use Rattle.std.specs.Prelude.{map as each, Some, count_by}
 use Rattle.std.proofs.lemmas.Bool.{eqb-true}
-use Rattle.list_laws.proofs.Members.{Member, Every}
+use Rattle.calculus.proofs.Members.{Member, Every}
 use Rattle.calculus.specs.Form.{IsDigest}
 use Rattle.calculus.specs.Log.{Step}
 use Rattle.calculus.specs.Rows.{Row}

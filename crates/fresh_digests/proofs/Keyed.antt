@@ -1,7 +1,7 @@
 -- Things that are made from a root seed stand at different keys with that root.
 use Rattle.std.proofs.Common.{◌≡◌, ◌≢◌, ℕ, Bool, true, false, cond, List, [], ◌∷◌, map as each, refl, sym, ap, ◌∙◌, subst}
 use Rattle.std.specs.Prelude.{ltb, Some, option_map}
-use Rattle.list_laws.proofs.Members.{Every}
+use Rattle.calculus.proofs.Members.{Every}
 use Rattle.calculus.specs.Outcome.{Answer, gives, fails, unknown, Outcome, over, within, known, capped}
 use Rattle.calculus.specs.Seeds.{Seed, message, digest_of}
 use Rattle.calculus.specs.Unfolding.{Product, digest}

@@ -4,7 +4,7 @@ use Rattle.std.specs.Prelude.{⊤, ◌⊎◌}
 use Rattle.std.specs.Str.{bytes_eq}
 use Rattle.std.proofs.lemmas.Slice.Eq.{bytes_eq-Decides}
 use Rattle.std.proofs.lemmas.Bool.{false≢true}
-use Rattle.list_laws.proofs.Members.{Every}
+use Rattle.calculus.proofs.Members.{Every}
 use Rattle.sha2.specs.Sha256.{sha256}
 use Rattle.calculus.specs.Form.{IsBytes, IsDigest}
 use Rattle.calculus.specs.Seeds.{Seed, System, Start, Split, Body, Fresh, Comm, message, digest_of}

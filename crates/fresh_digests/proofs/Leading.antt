@@ -1,7 +1,7 @@
 -- The states that legal lists of steps lead to are told of.
 use Rattle.std.proofs.Common.{zero, ◌≡◌, ◌≢◌, ℕ, suc, ◌<◌, ◌≤◌, ◌+◌, ◌^◌, List, [], ◌∷◌, ◌++◌, length, refl, sym, ap, ◌∙◌, subst, arith, length-append}
 use Rattle.std.specs.Prelude.{replicate, Some, option_map}
-use Rattle.list_laws.proofs.Members.{Every, every-left, every-right}
+use Rattle.calculus.proofs.Members.{Every, every-left, every-right}
 use Rattle.calculus.specs.Outcome.{Prices, gives, capped}
 use Rattle.calculus.specs.Substitution.{put}
 use Rattle.calculus.specs.Log.{Step}

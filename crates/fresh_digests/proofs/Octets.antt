@@ -1,7 +1,7 @@
 -- Texts are lists of bytes.
 use Rattle.std.proofs.Common.{ℕ, ◌<◌, ◌%◌, ◌^◌, List, [], ◌∷◌, ◌++◌}
 use Rattle.std.proofs.lemmas.List.Elements.{All-nil, All-cons, All-append}
-use Rattle.list_laws.proofs.Members.{Every}
+use Rattle.calculus.proofs.Members.{Every}
 use Rattle.calculus.specs.Bytes.{be32, joined}
 use Rattle.calculus.specs.Form.{IsBytes, IsDigest}
 use Rattle.calculus.specs.Seeds.{Seed, message, digest_of}

@@ -1,7 +1,7 @@
 -- Trees in ascending order: those with an empty code stand first.
 use Rattle.std.proofs.Common.{◌≡◌, ℕ, ◌+◌, Bool, true, false, cond, List, [], ◌∷◌, map as each, length, refl, ap, ◌∙◌, arith, inl, inr}
 use Rattle.std.specs.Prelude.{⊤, ◌⊎◌}
-use Rattle.list_laws.proofs.Members.{Every}
+use Rattle.calculus.proofs.Members.{Every}
 use Rattle.calculus.specs.Tree.{Tree, Trees, none, also}
 use Rattle.calculus.specs.Shape.{listed}
 use Rattle.calculus.specs.Order.{up_to, placed, sorted}

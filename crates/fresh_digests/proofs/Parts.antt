@@ -1,7 +1,7 @@
 -- What the parts of a process make is traced, where what their bodies make is.
 use Rattle.std.proofs.Common.{◌≡◌, ◌≢◌, ℕ, ◌≤◌, ◌^◌, Bool, cond, List, [], ◌∷◌, ◌++◌, length, map as each, refl, subst, arith}
 use Rattle.std.specs.Prelude.{⊤, Option, Some, None}
-use Rattle.list_laws.proofs.Members.{Every, every-left, every-right}
+use Rattle.calculus.proofs.Members.{Every, every-left, every-right}
 use Rattle.calculus.specs.declared.plain.Kind.{Kind}
 use Rattle.calculus.specs.declared.plain.Origin.{Origin}
 use Rattle.calculus.specs.declared.plain.UnaryOp.{UnaryOp}

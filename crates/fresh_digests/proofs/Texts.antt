@@ -1,7 +1,7 @@
 -- The text of a seed tells the seed.
 use Rattle.std.proofs.Common.{◌≡◌, ℕ, ◌<◌, ◌+◌, ◌*◌, ◌%◌, ◌^◌, List, [], ◌∷◌, ◌++◌, length, refl, sym, ap, ◌∙◌, arith, length-append, append_assoc}
 use Rattle.std.specs.Int.{w32, to_be_bytes}
-use Rattle.list_laws.proofs.Members.{Every}
+use Rattle.calculus.proofs.Members.{Every}
 use Rattle.calculus.specs.Bytes.{be32, joined}
 use Rattle.calculus.specs.Form.{IsBytes, IsDigest}
 use Rattle.calculus.specs.Seeds.{Seed, System, Start, Split, Body, Fresh, Comm, message}

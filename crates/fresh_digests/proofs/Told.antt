@@ -5,7 +5,7 @@ use Rattle.std.proofs.lemmas.Slice.Eq.{bytes_eq-Decides}
 use Rattle.std.proofs.lemmas.List.{append-nil, map-append}
 use Rattle.std.proofs.lemmas.List.Concat.{flat_map-append}
 use Rattle.std.proofs.lemmas.List.Sums.{sum_by-cons, sum_by-append}
-use Rattle.list_laws.proofs.Members.{Member, Every, every-append, every-up, member-split, member-left, member-right, every-left, every-right}
+use Rattle.calculus.proofs.Members.{Member, Every, every-append, every-up, member-split, member-left, member-right, every-left, every-right}
 use Rattle.calculus.specs.Form.{IsDigest}
 use Rattle.calculus.specs.Log.{Step}
 use Rattle.calculus.specs.Rows.{Row, stdout, stdout_ack}

@@ -1,6 +1,6 @@
 -- What a numberable process makes is traced.
 use Rattle.std.proofs.Common.{◌≡◌, ◌≢◌, ℕ, zero, suc, ◌<◌, ◌≤◌, ◌+◌, ◌%◌, ◌^◌, List, [], ◌∷◌, ◌++◌, length, map as each, refl, sym, ap, ◌∙◌, subst, arith, inl, inr}
-use Rattle.list_laws.proofs.Members.{Every, every-up, every-left, every-right}
+use Rattle.calculus.proofs.Members.{Every, every-up, every-left, every-right}
 use Rattle.calculus.specs.Tree.{list, tuple, set, dict, send, receive, new, match, bundle, unary, binary, method, Tree, node}
 use Rattle.calculus.specs.Shape.{listed}
 use Rattle.calculus.specs.Code.{code, codes}

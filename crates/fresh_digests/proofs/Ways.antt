@@ -1,7 +1,7 @@
 -- Ways down from a digest, and the things made at their ends.
 use Rattle.std.proofs.Common.{◌≡◌, ◌≢◌, ℕ, List, [], ◌∷◌, ◌++◌, map as each, refl, ap}
 use Rattle.std.specs.Prelude.{⊤}
-use Rattle.list_laws.proofs.Members.{Every, every-append, every-up}
+use Rattle.calculus.proofs.Members.{Every, every-append, every-up}
 use Rattle.calculus.specs.Seeds.{message, digest_of}
 use Rattle.calculus.specs.Unfolding.{Product, digest}
 use Rattle.fresh_digests.proofs.Keys.{Move, under, NumberFits, AreApart}

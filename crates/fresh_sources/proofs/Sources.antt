@@ -1,7 +1,7 @@
 -- What the tokens of a source spell is numberable.
 use Rattle.std.proofs.Common.{◌≤◌, ◌+◌, ◌*◌, ◌^◌, cond, List, [], ◌∷◌, length, map as each, arith}
 use Rattle.std.proofs.lemmas.List.{length-map}
-use Rattle.list_laws.proofs.Members.{Every}
+use Rattle.calculus.proofs.Members.{Every}
 use Rattle.calculus.specs.Tree.{Tree, node, Trees, none, also, weight, weights}
 use Rattle.calculus.specs.Code.{code}
 use Rattle.calculus.specs.Congruence.{is_bag}

@@ -1,10 +1,10 @@
 //! Plays that are called directly.
 use crate::channels::{apart, receives, sends, term_of};
-use crate::meeting::Meeting;
+use call_harness::Meeting;
 use name_seed::{EMPTY_ROOT, bytes_digest};
 use numbered_jobs::Crew;
 use play_outcome::Played;
-use play_pool::play;
+use play_runs::play;
 use price_table::Prices;
 use rho_outside::{Gate, OpenGate};
 use rspace_table::SpaceTables;

@@ -1,11 +1,10 @@
 //! Calls of the program, over files in memory.
 use crate::channels::{apart, receives, sends};
 use crate::direct::replayed;
-use crate::meeting::Meeting;
+use call_harness::{Ended, Harness, Meeting, Outside};
 use numbered_jobs::Crew;
-use program_calls::Harness;
 use replay_runs::Replayed;
-use rho_outside::{OpenGate, Shelf};
+use rho_outside::Shelf;
 use std::alloc::{AllocError, Global};
 use std::str;
 use std::sync::Wait;
@@ -43,10 +42,18 @@ fn keep_made(harness: &mut Harness, name: &str, text: Result<String, AllocError>
 }
 
 // Runs the words of a text with a gate at which two workers meet, and tells its code and what it put.
-fn meet<R: Threads + Wait + Sync>(rt: &R, harness: &mut Harness, name: &str, text: &str) {
+fn meet<R: Wait, F: Fn(&Meeting, &[String], &mut Outside) -> Result<Ended, AllocError>>(
+    rt: &R,
+    run: &F,
+    harness: &mut Harness,
+    name: &str,
+    text: &str,
+)
+    requires { F.IsAlwaysCallable run.now }
+{
     let gate = Meeting::new();
     harness.clear_output();
-    harness.call(rt, &gate, text);
+    harness.call_at(run, &gate, text);
     tell_gate(rt, harness, name, &gate);
     tell_end(harness);
 }
@@ -62,14 +69,14 @@ fn tell_gate<R: Wait>(rt: &R, harness: &mut Harness, name: &str, gate: &Meeting)
 // Tells the code of a call, and what it put.
 fn tell_end(harness: &mut Harness) {
     let alloc = harness.alloc;
-    let put = str::from_utf8(harness.out.bytes.as_slice()).unwrap_or("no UTF-8");
+    let put = str::from_utf8(harness.outside.out.bytes.as_slice()).unwrap_or("no UTF-8");
     let text = format!(in alloc; "code {}, {put}", harness.ended.code);
     harness.tell_made(text);
 }
 
 // The bytes of a file; none where there is no such file.
 fn file(harness: &mut Harness, name: &str) -> Vec<u8> {
-    match harness.shelf.fetch(harness.alloc, name, MOST) {
+    match harness.outside.shelf.fetch(harness.alloc, name, MOST) {
         Ok(bytes) => bytes,
         Err(_) => Vec::new(harness.alloc),
     }
@@ -113,14 +120,19 @@ fn tell_replayed(harness: &mut Harness, ended: &Replayed) {
 
 /// A deploy of eight sends by two workers, from a state of eight receives, and its replay by two, each with a gate at which the
 /// workers meet.
-pub fn told<R: Threads + Wait + Sync>(rt: &R, alloc: Global) -> Result<String, LineFault> {
+pub fn told<
+    R: Threads + Wait + Sync,
+    F: Fn(&Meeting, &[String], &mut Outside) -> Result<Ended, AllocError>,
+>(rt: &R, run: &F, alloc: Global) -> Result<String, LineFault>
+    requires { F.IsAlwaysCallable run.now }
+{
     let numbers = apart(alloc)?;
     let mut harness = Harness::new(alloc);
     keep_all(&mut harness, numbers.as_slice());
-    harness.call(rt, &OpenGate, "genesis empty");
-    harness.call(rt, &OpenGate, STORE);
-    meet(rt, &mut harness, "deploy", DEPLOY);
-    meet(rt, &mut harness, "replay", REPLAY);
+    harness.call(run, "genesis empty");
+    harness.call(run, STORE);
+    meet(rt, run, &mut harness, "deploy", DEPLOY);
+    meet(rt, run, &mut harness, "replay", REPLAY);
     meet_directly(rt, &mut harness);
     harness.told()
 }

@@ -12,8 +12,9 @@ ghost use Rattle.group_locks.specs.Seats.{charged_by, due_of, over_of, stops_of,
 
 use crate::hub::Hub;
 use crate::state::SeatState;
+use hub_desks::leave_works;
 use hub_rule::{Board, Scene, StopCause, Terms};
-use hub_steps::{draw_and_tell, find_work, give_turns, halt, leave_works, may_go, pay, take_turns};
+use hub_steps::{draw_and_tell, find_work, give_turns, halt, may_go, pay, take_turns};
 use std::alloc::{AllocError, Global};
 use std::sync::Wait;
 

@@ -5,6 +5,6 @@ mod order;
 mod room;
 mod slots;
 
-pub use crate::order::{in_order, move_all};
+pub use crate::order::in_order;
 pub use crate::room::{Room, room_for};
 pub use crate::slots::{slots_of, take_left, take_shards};

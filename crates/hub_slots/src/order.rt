@@ -15,17 +15,6 @@ pub fn empty_places<T: Drop>(alloc: Global, count: usize) -> Result<Vec<Option<T
     Ok(places)
 }
 
-/// Moves things behind others, with room for them.
-pub fn move_all<T: Drop>(things: Vec<T>, all: &mut Vec<T>)
-    requires { length all.old.items + length things.items ≤ vec_capacity all.old }
-    ensures items { all.new.items ≡ all.old.items ++ things.items }
-    ensures room { vec_capacity all.new ≡ vec_capacity all.old }
-{
-    for thing in things {
-        all.push_reserved(thing);
-    }
-}
-
 // Puts each thing at its number.
 fn place_all<T: Drop>(mut places: Vec<Option<T>>, things: Vec<(u64, T)>) -> Vec<Option<T>>
     requires { (n : ℕ) → length places.items ≤ n → count n things.items ≡ 0 }

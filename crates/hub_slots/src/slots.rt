@@ -5,8 +5,8 @@ ghost use Rattle.std.specs.Mem.Slots.{slots_items, slots_len, slots_filled, IsFu
 ghost use Rattle.hub_rule.specs.Counts.{all_of};
 ghost use Rattle.hub_rule.specs.Works.{Laid, LiesOn, LiesAt, DesksFit, FilledFrom};
 
-use crate::order::move_all;
 use hub_rule::Slot;
+use list_moves::move_all;
 use std::alloc::{AllocError, Global};
 use std::vec::IntoIter;
 

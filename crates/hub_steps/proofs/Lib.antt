@@ -2,4 +2,3 @@ pub mod Loops
 pub mod Groups
 pub mod SetBits
 pub mod Waits
-pub mod Leaves

@@ -8,10 +8,6 @@ use Rattle.hub_rule.specs.declared.view.View.{View}
 use Rattle.hub_rule.specs.Meaning.{Meaning}
 use Rattle.hub_rule.specs.Rule.{view, since_after, emptied, below, descends, Carries}
 
--- the seat is as it was
-abbrev pub Stays : {S V : Type 0} → Seat S V → Seat S V → Type 0
-Stays p q = (q.table_id ≡ p.table_id) × (q.id ≡ p.id) × (q.me ≡ p.me)
-
 -- p took the turns of shards below n, and is now q
 pub record Taken {Store E X W : Type 0} (m : Meaning Store E X W) (p q : Seat (Slot X W) (View E X W)) (f : ℕ → Option X) (n : ℕ) : Type 0 where
   pub table : q.table_id ≡ p.table_id

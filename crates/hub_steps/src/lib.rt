@@ -1,10 +1,8 @@
-//! The steps of one seat of a hub: turns, draws, desks, the charge and the stop.
+//! The steps of one seat of a hub: turns, draws, works, the charge and the stop.
 #![tactic(auto)]
 
-mod desks;
 mod steps;
 mod works;
 
-pub use crate::desks::leave_works;
 pub use crate::steps::{give_turns, halt, pay, take_turns};
 pub use crate::works::{draw_and_tell, find_work, may_go};

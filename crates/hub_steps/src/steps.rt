@@ -6,7 +6,7 @@ ghost use Rattle.hub_rule.specs.Rule.{with_held, emptied, below, descends, given
 ghost use Rattle.hub_rule.specs.Rule.{ChangesTally, pays, saw_low, saw_over, saw_stop, saw_stopped, all_charged};
 ghost use Rattle.hub_rule.specs.Stops.{code_of, HasFault};
 
-use crate::desks::{ring, sleep_for_turn, wake_turn};
+use hub_desks::{ring, sleep_for_turn, wake_turn};
 use hub_rule::{
     Board, CHARGED, Draw, FindCharged, FindStop, Give, Halt, LINE, Limiting, Naming, Pay, STOP,
     Scene, Slot, StopCause, TURN, Take, Token,

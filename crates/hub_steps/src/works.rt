@@ -5,8 +5,8 @@ ghost use Rattle.hub_rule.specs.Rule.{after_commit, with_tally, MayDraw, MayTake
 ghost use Rattle.hub_rule.specs.Works.{hand};
 ghost use Rattle.hub_steps.specs.Looks.{Looked};
 
-use crate::desks::{look_round, ring, sleep_for_bell, tell};
 use crate::steps::{draw, read_charged, read_stop};
+use hub_desks::{look_round, ring, sleep_for_bell, tell};
 use hub_rule::{BELL, Board, Scene, Terms, Token, read_pending};
 use std::alloc::Global;
 use std::sync::Wait;

@@ -1,7 +1,7 @@
 -- Counts that change at one place.
 use Rattle.std.proofs.Common.{◌≡◌, ℕ, zero, suc, pred, ◌<◌, Bool, true, false, cond, ◌||◌, List, [], ◌∷◌, ◌++◌, length, map as each, take, drop, get_or, set, remove, eqb, refl, sym, ap, ◌∙◌, arith}
 use Rattle.std.specs.List.{list_any}
-use Rattle.list_laws.proofs.Members.{Every}
+use Rattle.calculus.proofs.Members.{Every}
 use Rattle.join_index.specs.Groups.{Channels, same_group}
 use Rattle.join_index.specs.Index.{Tally, one_more, one_less, tally_of}
 use Rattle.join_index.specs.declared.index.Counted.{Counted}

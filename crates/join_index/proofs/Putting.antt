@@ -1,7 +1,7 @@
 -- One more and one less of a group in an index.
 use Rattle.std.proofs.Common.{◌≡◌, ℕ, suc, pred, ◌+◌, ◌≤◌, Bool, true, false, ◌||◌, cond, List, [], ◌∷◌, ◌++◌, length, map as each, get_or, set, remove, eqb, ◌-◌, ◌^◌, min, refl, sym, ap, subst, ◌∙◌, arith, length-append}
 use Rattle.std.specs.List.{list_any}
-use Rattle.list_laws.proofs.Members.{Every}
+use Rattle.calculus.proofs.Members.{Every}
 use Rattle.join_index.specs.Groups.{Channels, same_group, stands, firsts, but_last}
 use Rattle.join_index.specs.Index.{Tally, one_more, one_less, tallies, tally_of}
 use Rattle.join_index.specs.declared.index.Counted.{Counted}

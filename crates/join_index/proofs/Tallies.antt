@@ -1,7 +1,7 @@
 -- Groups that are counted.
 use Rattle.std.proofs.Common.{◌≡◌, ℕ, suc, pred, ◌+◌, ◌≤◌, Bool, true, false, ◌&&◌, ◌||◌, not, cond, List, [], ◌∷◌, ◌++◌, filter, fold, length, map as each, eqb, refl, sym, ap, subst, ◌∙◌, arith, append-nil, append_assoc}
 use Rattle.std.specs.List.{list_any}
-use Rattle.list_laws.proofs.Members.{Every}
+use Rattle.calculus.proofs.Members.{Every}
 use Rattle.join_index.specs.Groups.{Channels, same_group, stands, firsts, but_last}
 use Rattle.join_index.specs.Index.{Tally, one_more, one_less, tallies}
 use Rattle.join_index.proofs.Sames.{same-back, same-through, same-as, either-way, unequal, filter-alike, filter-twice, filter-all}

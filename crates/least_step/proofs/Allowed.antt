@@ -2,7 +2,7 @@
 use Rattle.std.proofs.Common.{◌≡◌, ℕ, Bool, true, false, ◌&&◌, ◌||◌, List, [], ◌∷◌, ◌++◌, map as each, refl, ap, sym, ◌∙◌, subst, arith, inl, inr}
 use Rattle.std.specs.Prelude.{Option, Some, None, option_map, eqb, count_by, is_some, IsSome, MatchOption, IsPermutation}
 use Rattle.std.proofs.lemmas.Bool.{eq-eqb}
-use Rattle.list_laws.proofs.Members.{Member, Every, member-split, member-left, member-right}
+use Rattle.calculus.proofs.Members.{Member, Every, member-split, member-left, member-right}
 use Rattle.calculus.specs.Candidates.{ids_up_to, next_step, IsLeastAllowed}
 use Rattle.calculus.specs.Log.{Step}
 use Rattle.calculus.specs.Rows.{Row, stdout, stdout_ack}
@@ -15,7 +15,7 @@ use Rattle.events.proofs.Orders.{member-moved, times-moved}
 use Rattle.events.proofs.Meetings.{join, meeting_with, meet_rows-of, made_by, makes}
 use Rattle.events.proofs.Lasting.{takes_none, joins-of}
 use Rattle.events.proofs.Making.{Met, met-joins, among, member}
-use Rattle.list_laws.proofs.Permutations.{moved_so}
+use Rattle.calculus.proofs.Permutations.{moved_so}
 use Rattle.row_search.specs.Meetings.{AllAmong}
 use Rattle.least_step.specs.declared.least.LeastStep.{LeastStep}
 use Rattle.least_step.specs.Orders.{ids_of}

@@ -20,7 +20,8 @@ use Rattle.rho_term.specs.declared.term.TermBind.{TermBind}
 use Rattle.rho_term.specs.Parts.{bind_tree}
 use Rattle.rho_term.specs.Rows.{row_of_op}
 use Rattle.row_search.specs.Choices.{Choice, takes, AreChosen, Picks}
-use Rattle.row_search.specs.Meetings.{rows_with, AllAmong, IdsTell}
+use Rattle.row_search.specs.Meetings.{rows_with, AllAmong}
+use Rattle.found_rows.specs.AtHand.{IdsTell}
 use Rattle.row_search.specs.Rows.{is_sent_on, IsIn}
 use Rattle.row_search.proofs.Complete.{AreMet, Takes, receiver-takes, whose}
 use Rattle.row_search.proofs.Distinct.{differs}

@@ -1,7 +1,7 @@
 -- Along a legal list, under fresh digests: each step that was made took a row away for good, or its rows are there still.
 use Rattle.std.proofs.Common.{◌≡◌, ◌≤◌, ℕ, ◌+◌, Bool, true, false, cond, List, [], ◌∷◌, ◌++◌, refl, ap, sym, ◌∙◌, subst, arith, inl, inr, append_assoc}
 use Rattle.std.specs.Prelude.{◌⊎◌, Option, Some, None, option_map, option_and_then}
-use Rattle.list_laws.proofs.Members.{Member, Every, each-there, every-at, member-split, member-left, member-right}
+use Rattle.calculus.proofs.Members.{Member, Every, each-there, every-at, member-split, member-left, member-right}
 use Rattle.calculus.specs.Log.{Step}
 use Rattle.calculus.specs.Outcome.{capped}
 use Rattle.calculus.specs.Rows.{Row}

@@ -4,8 +4,8 @@ use Rattle.std.specs.Prelude.{All, IsPermutation}
 use Rattle.std.specs.Str.{bytes_eq}
 use Rattle.std.proofs.lemmas.List.Elements.{All-head, All-tail, All-cons, All-nil}
 use Rattle.sha2.specs.Sha256.{sha256}
-use Rattle.list_laws.specs.Exchanges.{Exchanges, nothing, under, neighbours, then}
-use Rattle.list_laws.proofs.Permutations.{exchanges, keep, join, unmoved, exchange}
+use Rattle.calculus.specs.Exchanges.{Exchanges, nothing, under, neighbours, then}
+use Rattle.calculus.proofs.Permutations.{exchanges, keep, join, unmoved, exchange}
 use Rattle.calculus.specs.Bytes.{be64, joined}
 use Rattle.calculus.specs.Order.{sorted, IsAscending}
 use Rattle.calculus.specs.Root.{key, group_code, root}

@@ -11,7 +11,7 @@ use Rattle.calculus.specs.Root.{key}
 use Rattle.calculus.specs.Rows.{Row, row_code}
 use Rattle.calculus.specs.Steps.{is_one_of}
 use Rattle.calculus.specs.Storing.{IsStorable}
-use Rattle.list_laws.proofs.Permutations.{each-moved}
+use Rattle.calculus.proofs.Permutations.{each-moved}
 use Rattle.states.proofs.Groups.{same, sorted-moved}
 use Rattle.term_encoder.proofs.Codes.{sorted-ascending}
 use Rattle.checkpoint.proofs.Adding.{map-push}

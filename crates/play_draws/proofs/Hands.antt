@@ -1,18 +1,18 @@
 -- What a worker shows of its entry, and what it makes of the shards in hand.
 use Rattle.std.proofs.Common.{◌≡◌, ◌<◌, ◌≤◌, ℕ, Bool, true, false, nat_lt, List, [], ◌∷◌, ◌++◌, length, ◌*◌, map as each, refl, sym, ap, subst, ◌∙◌, arith, inl, Option, Some, None}
 use Rattle.std.proofs.lemmas.Bool.Decides.{nat_tests}
-use Rattle.std.specs.Prelude.{IsPermutation, is_some}
+use Rattle.std.specs.Prelude.{IsPermutation}
 use Rattle.calculus.specs.Rows.{Row}
 use Rattle.calculus.specs.Runs.{Deploy, Work}
 use Rattle.events.specs.Found.{without}
 use Rattle.hub_rule.specs.Counts.{count, things_of}
 use Rattle.hub_rule.specs.Meaning.{Passes, AllFollow}
 use Rattle.hub_rule.specs.Rule.{Carries}
-use Rattle.row_search.specs.declared.found.Found.{Found}
-use Rattle.row_search.specs.Laws.{MeetsAtHand}
+use Rattle.found_rows.specs.declared.found.Found.{Found}
+use Rattle.found_rows.specs.AtHand.{MeetsAtHand}
 use Rattle.run_entries.specs.Entries.{Making, price_in, steps_in, steps_of}
 use Rattle.run_entries.specs.Allowed.{IdsTell, rows_at_hand, MeetsNothing}
-use Rattle.shard_tables.specs.Hands.{AreInHand, AreMade, GainsRow, LosesRows, IdsDiffer}
+use Rattle.shard_tables.specs.Hands.{AreInHand, AreMade, GainsRow, LosesRows}
 use Rattle.play_scene.specs.Plays.{entries_of, most_price, IsPriced}
 use Rattle.play_scene.specs.Scene.{IsShownHere, MayBecome}
 use Rattle.play_hub.specs.declared.entry.PlayEntry.{PlayEntry}

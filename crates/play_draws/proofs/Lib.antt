@@ -1,3 +1,3 @@
-pub mod Numbers
+pub mod Lists
 pub mod Showing
 pub mod Hands

@@ -10,14 +10,14 @@ use Rattle.calculus.specs.Seeds.{digest_of, Comm}
 use Rattle.calculus.specs.Shape.{at}
 use Rattle.calculus.specs.Steps.{line}
 use Rattle.calculus.specs.Unfolding.{unfold_in, unfold_under}
-use Rattle.events.specs.Found.{has_built_in_id, printed_by, step_of, is_lasting}
-use Rattle.row_search.specs.declared.found.Found.{Found}
-use Rattle.row_search.specs.Laws.{MeetsAtHand}
+use Rattle.events.specs.Found.{has_built_in_id, printed_by, step_of}
+use Rattle.found_rows.specs.declared.found.Found.{Found}
+use Rattle.found_rows.specs.AtHand.{MeetsAtHand}
+use Rattle.found_rows.specs.Making.{step_with, times_made, printed_line}
 use Rattle.run_entries.specs.Allowed.{MakesStep}
 use Rattle.play_scene.specs.Scene.{IsShownHere}
 use Rattle.play_hub.specs.declared.entry.PlayEntry.{PlayEntry}
 use Rattle.play_hub.specs.Values.{making_of}
-use Rattle.step_work.specs.Making.{step_with, times_made, printed_line}
 use Rattle.play_draws.specs.declared.making.Ready.{Ready}
 use Rattle.play_draws.specs.Making.{steps_drawn, IsReady}
 

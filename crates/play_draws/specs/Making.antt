@@ -3,26 +3,24 @@ use Rattle.std.specs.Prelude.{◌≡◌, ◌≤◌, ◌<◌, ◌^◌, ℕ, ◌+�
 use Rattle.calculus.specs.Limits.{most_limit}
 use Rattle.calculus.specs.Log.{Step}
 use Rattle.calculus.specs.Outcome.{Prices}
-use Rattle.calculus.specs.Rows.{Row}
 use Rattle.calculus.specs.Runs.{Deploy, Work, work_products, work_price, work_fault}
 use Rattle.calculus.specs.Seeds.{digest_of, Comm}
 use Rattle.calculus.specs.Steps.{same_meeting}
 use Rattle.calculus.specs.Unfolding.{rows_of, UnfoldsUnder}
 use Rattle.event_log.specs.View.{step_of}
 use Rattle.hub_rule.specs.Counts.{things_of}
-use Rattle.row_search.specs.declared.found.Found.{Found}
+use Rattle.found_rows.specs.declared.found.Found.{Found}
+use Rattle.found_rows.specs.Making.{step_with, times_made, printed_line}
 use Rattle.run_entries.specs.Entries.{Making, steps_of}
 use Rattle.play_scene.specs.Plays.{entries_of, most_price}
 use Rattle.play_hub.specs.declared.entry.PlayEntry.{PlayEntry}
-use Rattle.play_hub.specs.Values.{making_of, entry_of}
+use Rattle.play_hub.specs.Values.{entry_of}
 use Rattle.play_hub.specs.Endings.{play_of}
-use Rattle.step_work.specs.Making.{step_with, gone_ids, times_made, printed_line}
 use Rattle.play_draws.specs.declared.making.Ready.{Ready}
-use Rattle.play_draws.specs.declared.means.Means.{Means}
 
 -- these are the prices and the limit of the deploy, and the limit is in range
-abbrev pub Serves : Means → Deploy → Type 0
-Serves m d = (d.prices ≡ m.prices.now) × (d.limit ≡ m.limit) × (m.limit ≤ most_limit m.prices.now)
+abbrev pub Serves : Prices → ℕ → Deploy → Type 0
+Serves p cap d = (d.prices ≡ p) × (d.limit ≡ cap) × (cap ≤ most_limit p)
 
 -- the steps of numbered entries
 abbrev pub steps_drawn : List (ℕ × PlayEntry) → List Step

@@ -7,8 +7,8 @@ use Rattle.group_locks.specs.declared.state.SeatState.{SeatState}
 use Rattle.hub_rule.specs.Counts.{count, things_of}
 use Rattle.hub_rule.specs.Rule.{Carries, kept_if}
 use Rattle.group_locks.specs.Seats.{home_of, drawn_by, tally_of, pile_of, taken_by, offered_by, took_by, due_of, empty_of, over_of, stops_of, SameRoom}
-use Rattle.row_search.specs.declared.found.Found.{Found}
-use Rattle.row_search.specs.Laws.{MeetsAtHand}
+use Rattle.found_rows.specs.declared.found.Found.{Found}
+use Rattle.found_rows.specs.AtHand.{MeetsAtHand}
 use Rattle.run_entries.specs.Allowed.{IdsTell, MeetsNothing, rows_at_hand}
 use Rattle.shard_rows.specs.Hands.{shows}
 use Rattle.shard_tables.specs.Hands.{AreInHand}

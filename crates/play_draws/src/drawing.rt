@@ -4,16 +4,16 @@ ghost use Rattle.calculus.specs.Rows.{Row as Stored};
 ghost use Rattle.calculus.specs.Steps.{is_one_of};
 ghost use Rattle.hub_rule.specs.Counts.{one_if};
 ghost use Rattle.group_locks.specs.Seats.{home_of, held_by, since_of, drawn_by, HasLeave, HasRoom};
-ghost use Rattle.row_search.specs.Laws.{MeetsAtHand};
+ghost use Rattle.found_rows.specs.AtHand.{MeetsAtHand};
 ghost use Rattle.play_draws.specs.Making.{IsReady, Serves};
 ghost use Rattle.play_draws.specs.Turns.{HandCarries, HasTaken, HasWork, HoldsGroup, IsDrawn, IsReadyInHand, IsSame, MeetsNothingInHand};
 
-use crate::making::{Ready, make_ready};
-use crate::means::{Means, Taken};
+use crate::making::{Ready, StepMaker};
+use crate::taken::Taken;
 use calculus::Digest;
+use found_rows::Found;
 use group_locks::{Hub, Seat};
 use play_hub::{PlayEntry, PlayScene, PlayTerms};
-use row_search::Found;
 use shard_tables::ShardTables;
 use space_row::Row;
 use std::alloc::{AllocError, Global};
@@ -133,25 +133,27 @@ fn draw_ready<J: PlayTerms + Sync, T: ShardTables + Sync>(
 }
 
 // The step of the operation in hand with what was found, ready to be drawn. Want of memory is the one error.
-fn ready_step<J: PlayTerms + Sync, T: ShardTables + Sync>(
-    means: Means,
+fn ready_step<M: StepMaker, J: PlayTerms + Sync, T: ShardTables + Sync>(
+    alloc: Global,
+    maker: &M,
     seat: &Seat<PlayScene<J, T>>,
     taken: Taken,
     found: Found,
 ) -> Result<Ready, AllocError>
-    requires means { Serves means J.deploy }
+    requires maker { Serves (M.prices maker.now) (M.limit maker.now) J.deploy }
     requires work { HasTaken taken.op.now taken.from taken.again seat.now.state }
     requires found { (all : List Stored) × (o : Stored) × MeetsAtHand all o found }
     ensures { IfOk result (IsReady J.deploy.prices J.deploy.limit found (drop taken.entry.from (drawn_by seat.now.state))) }
 {
     let drawn = seat.drawn();
-    make_ready(means, found, &drawn[taken.from..], taken.again)
+    maker.make(alloc, found, &drawn[taken.from..], taken.again)
 }
 
 /// Draws one entry of the operation: a step with what it meets in hand, or that it was stored where it meets nothing. Where memory is
 /// wanting all is as it was.
-pub fn draw<J: PlayTerms + Sync, T: ShardTables + Sync>(
-    means: Means,
+pub fn draw<M: StepMaker, J: PlayTerms + Sync, T: ShardTables + Sync>(
+    alloc: Global,
+    maker: &M,
     hub: &Hub<PlayScene<J, T>>,
     seat: &mut Seat<PlayScene<J, T>>,
     held: &mut T::Held,
@@ -163,15 +165,15 @@ pub fn draw<J: PlayTerms + Sync, T: ShardTables + Sync>(
     requires leave { HasLeave seat.old.state × HasRoom seat.old.state }
     requires group { HoldsGroup T.rows J.deploy J.source taken.op.now group (held_by seat.old.state) (T.in_hand held.old) }
     requires since { since_of seat.old.state ≡ [] }
-    requires means { Serves means J.deploy }
+    requires maker { Serves (M.prices maker.now) (M.limit maker.now) J.deploy }
     ensures hand { HandCarries T.rows J.deploy J.source (since_of seat.new.state) (held_by seat.new.state) (T.in_hand held.new) }
     ensures drawn { IfOk result (IsDrawn taken.entry.from seat.old.state seat.new.state) }
     ensures same { OnErr result (IsSame seat.old.state seat.new.state) }
 {
-    match T::first_step(means.alloc, held, taken.op)? {
-        None => draw_stored(means.alloc, hub, seat, held, taken, group),
+    match T::first_step(alloc, held, taken.op)? {
+        None => draw_stored(alloc, hub, seat, held, taken, group),
         Some(found) => {
-            let ready = ready_step(means, seat, taken, found)?;
+            let ready = ready_step(alloc, maker, seat, taken, found)?;
             Ok(draw_ready(hub, seat, held, taken, group, ready))
         }
     }

@@ -1,7 +1,7 @@
 -- What the entries and the shards of a hub that has ended come to.
 use Rattle.std.proofs.Common.{◌≡◌, ◌≢◌, ℕ, cond, List, [], ◌∷◌, ◌++◌, map as each, sym, ap, subst, ◌∙◌, append-nil, All}
 use Rattle.std.specs.Prelude.{ltb, Option, IsPermutation}
-use Rattle.list_laws.proofs.Permutations.{join, moved_so}
+use Rattle.calculus.proofs.Permutations.{join, moved_so}
 use Rattle.calculus.specs.declared.fault.FaultKind.{FaultKind}
 use Rattle.calculus.specs.Form.{IsClosed}
 use Rattle.calculus.specs.Rows.{Row, channels}

@@ -2,8 +2,8 @@
 use Rattle.std.proofs.Common.{◌≡◌, ◌≢◌, ◌≤◌, ℕ, zero, suc, true, List, [], ◌∷◌, ◌++◌, length, map as each, ap, arith, inl, inr, Some, All}
 use Rattle.std.specs.Prelude.{slice_get}
 use Rattle.std.proofs.lemmas.List.Elements.{All-head, All-tail}
-use Rattle.list_laws.proofs.Members.{Member, Every, every-at, member-left}
-use Rattle.list_laws.proofs.Permutations.{moved_so}
+use Rattle.calculus.proofs.Members.{Member, Every, every-at, member-left}
+use Rattle.calculus.proofs.Permutations.{moved_so}
 use Rattle.calculus.specs.Tree.{send, receive, Tree, node}
 use Rattle.calculus.specs.Shape.{listed, at, held}
 use Rattle.calculus.specs.Form.{part, Fits, IsClosed}

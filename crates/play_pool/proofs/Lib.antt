@@ -2,6 +2,3 @@ mod Sums
 mod Causes
 mod Closes
 mod Opens
-mod Beginning
-mod Taken
-pub mod Crossing

@@ -1,10 +1,9 @@
-//! A deploy played by 1 to 32 workers.
+//! A play by many workers.
 #![tactic(auto)]
 
-mod asking;
 mod closing;
 mod opening;
-mod playing;
+mod pool;
 mod side_by_side;
 
-pub use crate::playing::play;
+pub use crate::pool::play_side_by_side;

@@ -1,8 +1,7 @@
 //! The hub of a play is opened.
-ghost use Rattle.std.specs.Prelude.{◌≡◌, ◌<◌, ◌≤◌, ◌^◌, [], length, map, All, IfOk};
-ghost use Rattle.std.specs.List.{All as Each};
+ghost use Rattle.std.specs.Prelude.{◌≡◌, ◌<◌, ◌≤◌, ◌^◌, length, IfOk};
+ghost use Rattle.std.specs.List.{All};
 ghost use Rattle.calculus.specs.Runs.{work_products};
-ghost use Rattle.calculus.specs.Storing.{IsStorable};
 ghost use Rattle.calculus.specs.Unfolding.{rows_of};
 ghost use Rattle.group_locks.specs.Seats.{limit_of, seat_count, spent_of, IsIdle};
 
@@ -14,15 +13,6 @@ use std::alloc::{AllocError, Global};
 
 // The most works with which a hub may open.
 const MOST_WORKS: usize = 1 << 58;
-
-/// That rows may be stored is known of their type.
-pub(crate) fn rows_may_be_stored(rows: &[Row])
-    ensures { All IsStorable rows.now }
-{
-    for row in rows {
-        let _operation = row.op();
-    }
-}
 
 /// A hub over the 64 shards of the base, with what the source offers and with what it cost. Want of memory is the one error.
 pub(crate) fn open_play<J: PlayTerms + Sync, T: ShardTables + Sync>(
@@ -37,7 +27,7 @@ pub(crate) fn open_play<J: PlayTerms + Sync, T: ShardTables + Sync>(
     requires low { (price < 2 ^ 62) × (limit < 2 ^ 62) }
     requires base { J.deploy.rows ≡ base.items }
     requires offers { offers.items ≡ rows_of (work_products J.source) }
-    ensures idle { IfOk result (λ p. Each (λ s. IsIdle p.hub.table.shared.table_id s.state) p.seats.items) }
+    ensures idle { IfOk result (λ p. All (λ s. IsIdle p.hub.table.shared.table_id s.state) p.seats.items) }
     ensures count { IfOk result (λ p. (length p.seats.items ≡ workers) × (seat_count p.hub.table.shared.key ≡ workers)) }
     ensures terms { IfOk result (λ p. (spent_of p.hub.table.shared.key ≡ price) × (limit_of p.hub.table.shared.key ≡ limit)) }
 {

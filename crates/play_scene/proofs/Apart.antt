@@ -5,7 +5,7 @@ use Rattle.calculus.specs.Rows.{Row}
 use Rattle.calculus.specs.Steps.{differ}
 use Rattle.calculus.specs.Runs.{Deploy, Work}
 use Rattle.events.specs.Events.{AreFresh}
-use Rattle.list_laws.proofs.Members.{Member, member-left, member-right}
+use Rattle.calculus.proofs.Members.{Member, member-left, member-right}
 use Rattle.events.specs.Found.{Among, AreAtHand}
 use Rattle.events.proofs.Counts.{ids, one_if, times, bytes_same, distinct-differ, member-times}
 use Rattle.events.proofs.Following.{all-distinct}

@@ -1,8 +1,8 @@
 -- The rows of closed shards are those of the store.
 use Rattle.std.proofs.Common.{◌≡◌, ◌≢◌, ◌≤◌, ◌<◌, ℕ, zero, suc, ◌+◌, Bool, true, false, ◌||◌, cond, List, [], ◌∷◌, ◌++◌, length, map as each, refl, sym, ap, subst, ◌∙◌, arith, inl, inr, eqb, eqb-true, eq-eqb, Some}
 use Rattle.std.specs.Prelude.{filter, slice_get, IsPermutation}
-use Rattle.list_laws.proofs.Members.{Member}
-use Rattle.list_laws.proofs.Permutations.{unmoved, keep, join, over, moved_so, moved_after, moved_before}
+use Rattle.calculus.proofs.Members.{Member}
+use Rattle.calculus.proofs.Permutations.{unmoved, keep, join, over, moved_so, moved_after, moved_before}
 use Rattle.calculus.specs.Tree.{Tree}
 use Rattle.calculus.specs.Rows.{Row, channels}
 use Rattle.calculus.specs.Storing.{shard}

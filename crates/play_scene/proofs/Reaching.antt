@@ -1,7 +1,7 @@
 -- What the log of a hub over the scene of a play leads to.
 use Rattle.std.proofs.Common.{◌≡◌, ℕ, zero, suc, List, [], ◌∷◌, ◌++◌, refl, sym, ap, subst, ◌∙◌, arith, inl, inr, append_assoc, append-nil, Some, None}
 use Rattle.std.specs.Prelude.{Option, slice_get}
-use Rattle.list_laws.proofs.Members.{Member}
+use Rattle.calculus.proofs.Members.{Member}
 use Rattle.calculus.specs.Rows.{Row}
 use Rattle.calculus.specs.Runs.{Deploy, Work}
 use Rattle.events.specs.Events.{AreFresh, first_ids}

@@ -1,11 +1,13 @@
 //! Where a worker runs.
 use rho_outside::{Gate, Moment};
+use std::alloc::Global;
 use std::sync::Wait;
 
-/// Where a worker runs: the runtime by which it waits, the gate that it passes, and its number, counted from 0.
+/// Where a worker runs: the runtime by which it waits, memory, the gate that it passes, and its number, counted from 0.
 #[derive(Drop)]
 pub struct Site<'a, R, G> {
     pub rt: &'a R,
+    pub alloc: Global,
     pub gate: &'a G,
     pub worker: u32,
 }

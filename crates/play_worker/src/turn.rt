@@ -8,7 +8,8 @@ use crate::group::take_shown;
 use crate::site::Site;
 use group_locks::{Hub, Seat, StopCause};
 use play_draws::drawing::{Drawn, draw};
-use play_draws::means::{Means, Taken};
+use play_draws::making::StepMaker;
+use play_draws::taken::Taken;
 use play_hub::{PlayScene, PlayTerms};
 use rho_outside::{Gate, Moment};
 use shard_tables::ShardTables;
@@ -63,9 +64,9 @@ fn settle<R: Wait, J: PlayTerms + Sync, T: ShardTables + Sync>(
 
 /// One turn at the operation in hand: the shards that it needs are taken, an entry is drawn with them, they are given home, and the
 /// entry is charged. The gate is passed as soon as the shards are in hand, and again when they are home.
-pub fn take_turn<R: Wait, G: Gate, J: PlayTerms + Sync, T: ShardTables + Sync>(
+pub fn take_turn<R: Wait, G: Gate, M: StepMaker, J: PlayTerms + Sync, T: ShardTables + Sync>(
     site: &Site<R, G>,
-    means: Means,
+    maker: &M,
     hub: &Hub<PlayScene<J, T>>,
     seat: &mut Seat<PlayScene<J, T>>,
     held: &mut T::Held,
@@ -75,19 +76,19 @@ pub fn take_turn<R: Wait, G: Gate, J: PlayTerms + Sync, T: ShardTables + Sync>(
     requires empty { (k : ℕ) → T.in_hand held.old k ≡ None }
     requires work { HasTaken taken.op.now taken.from taken.again seat.old.state }
     requires leave { HasLeave seat.old.state × HasRoom seat.old.state }
-    requires means { Serves means J.deploy }
+    requires maker { Serves (M.prices maker.now) (M.limit maker.now) J.deploy }
     ensures rest { AtRest hub.now.table.shared.table_id seat.new.state × (due_of seat.new.state ≡ []) }
     ensures empty { (k : ℕ) → T.in_hand held.new k ≡ None }
     ensures over { result ≡ Turn.Over → 0 < stops_of seat.new.state }
     ensures done { result ≡ Turn.Done → hand_of seat.new.state ≡ [] }
     ensures more { (next : Option ℕ) → result ≡ Turn.More next → HasTaken taken.entry.op.now taken.entry.from next seat.new.state }
 {
-    let Ok(shards) = take_shown(site.rt, means.alloc, hub, seat, held, taken.op) else {
+    let Ok(shards) = take_shown(site.rt, site.alloc, hub, seat, held, taken.op) else {
         seat.stop(hub, StopCause::NoMemory);
         return Turn::Over;
     };
     site.pass(Moment::Held { shards });
-    let drawn = draw(means, hub, seat, held, taken, shards);
+    let drawn = draw(site.alloc, maker, hub, seat, held, taken, shards);
     seat.give_group(hub, held);
     site.pass(Moment::Freed { shards });
     match drawn {

@@ -12,14 +12,13 @@ ghost use Rattle.std.specs.Prelude.{◌-◌, ◌<◌, ◌≤◌, IfOk, MatchResu
 
 use crate::parser::Parser;
 use calculus::{Name, Proc};
-use form_ends::{close_map, quoted_name, skip_after, then_one_more, tuple};
+use form_ends::{close_map, plain_process, quoted_name, skip_after, then_one_more, tuple};
+use form_parts::part::{Bracket, Part};
 use form_steps::step::ProcessStep;
-use form_steps::{
-    begin_atom, closing_mark, dropped_quote, first_of, members, paired, plain_process, skip,
-    then_mark,
-};
+use form_steps::{begin_atom, dropped_quote, first_of, members, paired, skip, then_mark};
 use grammar::{Fault, Mark};
-use token_cursor::part::{Bracket, Part};
+use leaf_forms::{brace_close, group_close, name_word, row_none};
+use token_cursor::cursor::closing_mark;
 
 impl<'a> Parser<'a> {
     /// Drop ::= "*" Dropped | Atom
@@ -38,7 +37,7 @@ impl<'a> Parser<'a> {
             Ok(ProcessStep::Group) => {
                 let inner = self.par(free - 1)?;
                 if !skip(&mut self.cursor, Mark::Comma) {
-                    return self.cursor.group_close(inner);
+                    return group_close(&mut self.cursor, inner);
                 }
                 let row = self.row(Bracket::Round, free - 1);
                 tuple(inner, row)
@@ -63,7 +62,7 @@ impl<'a> Parser<'a> {
         ensures shorter { length self.new.cursor.rest.now ≤ length self.old.cursor.rest.now }
     {
         if !skip(&mut self.cursor, Mark::At) {
-            return self.cursor.name_word();
+            return name_word(&mut self.cursor);
         }
         let quoted = self.drop_form(free);
         quoted_name(self.cursor.alloc, quoted)
@@ -79,7 +78,7 @@ impl<'a> Parser<'a> {
         ensures shorter { length self.new.cursor.rest.now ≤ length self.old.cursor.rest.now }
     {
         if !skip(&mut self.cursor, Mark::Colon) {
-            return self.cursor.brace_close(inner);
+            return brace_close(&mut self.cursor, inner);
         }
         let pair = paired(inner, self.par(free - 1));
         let mut pairs = first_of(self.cursor.alloc, pair);
@@ -113,7 +112,7 @@ impl<'a> Parser<'a> {
         ensures shorter { length self.new.cursor.rest.now ≤ length self.old.cursor.rest.now }
     {
         if self.cursor.sees_closing(bracket) {
-            return self.cursor.row_none(bracket);
+            return row_none(&mut self.cursor, bracket);
         }
         let first = self.par(free);
         let mut members = first_of(self.cursor.alloc, first);

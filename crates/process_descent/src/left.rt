@@ -12,9 +12,10 @@ ghost use Rattle.std.specs.Prelude.{◌≡◌, ◌<◌, ◌≤◌, IfOk, MatchRe
 use crate::parser::Parser;
 use calculus::NamePat;
 use form_ends::{close_left, skip_comma_after, then_one_more};
+use form_parts::part::{Left, Part};
 use form_steps::first_of;
 use grammar::Fault;
-use token_cursor::part::{Left, Part};
+use leaf_forms::left_alone;
 
 impl<'a> Parser<'a> {
     /// Left ::= [ PName { "," PName } ] [ [","] "..." "@" ( Word | "_" ) ], with the comma only after a PName
@@ -25,7 +26,7 @@ impl<'a> Parser<'a> {
         ensures shorter { length self.new.cursor.rest.now ≤ length self.old.cursor.rest.now }
     {
         if !self.cursor.sees_name_pattern() {
-            return self.cursor.left_alone();
+            return left_alone(&mut self.cursor);
         }
         let first = self.pattern_name(free);
         let mut pats = first_of(self.cursor.alloc, first);

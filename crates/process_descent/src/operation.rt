@@ -12,10 +12,11 @@ ghost use Rattle.std.specs.Prelude.{◌<◌, ◌≤◌, IfOk, MatchResult, lengt
 use crate::parser::Parser;
 use calculus::Proc;
 use form_ends::{Chain, begin_right, called, next_call, operated};
+use form_parts::part::{Bracket, Part};
 use form_steps::begin_operand;
 use grammar::Fault;
-use token_cursor::part::{Bracket, Part};
-use token_cursor::{Level, process_forms};
+use syntax_forms::process_forms;
+use token_cursor::Level;
 
 impl<'a> Parser<'a> {
     /// The operators of a level and their operands, which lean to the left; or what stands on both sides of the

@@ -14,16 +14,17 @@ ghost use Rattle.std.specs.Prelude.{◌≡◌, ◌<◌, ◌≤◌, IfOk, MatchRe
 use crate::parser::Parser;
 use calculus::{NamePat, Pat};
 use form_ends::{
-    Chain, Joint, closed_form, composed_pattern, join, next_joint, quoted_pattern, sent_pattern,
-    skip_after, then_one_more, tuple_pattern,
+    Chain, Joint, closed_form, composed_pattern, join, next_joint, plain_pattern, quoted_pattern,
+    sent_pattern, skip_after, then_one_more, tuple_pattern,
 };
+use form_parts::part::{Bracket, Part};
 use form_steps::step::{PartStep, PatternStep};
 use form_steps::{
     begin_any_send, begin_part, begin_pattern, begin_send_pattern, close_bundle_pattern,
-    close_same, first_of, member_patterns, negated, plain_pattern, quoted_send_pattern, skip,
+    close_same, first_of, member_patterns, negated, quoted_send_pattern, skip,
 };
 use grammar::{Fault, Mark};
-use token_cursor::part::{Bracket, Part};
+use leaf_forms::{name_any, name_bound, pattern_close};
 
 impl<'a> Parser<'a> {
     /// PPar ::= POne { "|" POne }
@@ -124,7 +125,7 @@ impl<'a> Parser<'a> {
             Ok(PatternStep::Group) => {
                 let inner = self.pattern_par(free - 1)?;
                 if !skip(&mut self.cursor, Mark::Comma) {
-                    return self.cursor.pattern_close(inner);
+                    return pattern_close(&mut self.cursor, inner);
                 }
                 let row = self.pattern_row(Bracket::Round, free - 1);
                 tuple_pattern(inner, row)
@@ -149,10 +150,10 @@ impl<'a> Parser<'a> {
         ensures shorter { length self.new.cursor.rest.now ≤ length self.old.cursor.rest.now }
     {
         if self.cursor.sees(Mark::Underscore) {
-            return self.cursor.name_any();
+            return name_any(&mut self.cursor);
         }
         if !skip(&mut self.cursor, Mark::At) {
-            return self.cursor.name_bound();
+            return name_bound(&mut self.cursor);
         }
         let quoted = self.pattern_joined(Some(Joint::Either), free);
         quoted_pattern(self.cursor.alloc, quoted)

@@ -15,9 +15,11 @@ ghost use Rattle.std.specs.Prelude.{◌≡◌, ◌-◌, ◌<◌, ◌≤◌, IfOk
 use crate::parser::Parser;
 use calculus::Pat;
 use form_ends::{close_pairs, close_sequence, skip_after, skip_comma_after, then_one_more};
-use form_steps::{closing_mark, first_of, paired, skip, then_mark};
+use form_parts::part::{Bracket, Part, Sequence};
+use form_steps::{first_of, paired, skip, then_mark};
 use grammar::{Fault, Mark};
-use token_cursor::part::{Bracket, Part, Sequence};
+use leaf_forms::{pattern_brace_close, pattern_row_none, sequence_none, sequence_only_rest};
+use token_cursor::cursor::closing_mark;
 
 impl<'a> Parser<'a> {
     /// Row ::= [ PPar { "," PPar } ], and the sign that closes it
@@ -33,7 +35,7 @@ impl<'a> Parser<'a> {
         ensures shorter { length self.new.cursor.rest.now ≤ length self.old.cursor.rest.now }
     {
         if self.cursor.sees_closing(bracket) {
-            return self.cursor.pattern_row_none(bracket);
+            return pattern_row_none(&mut self.cursor, bracket);
         }
         let first = self.pattern_par(free);
         let mut members = first_of(self.cursor.alloc, first);
@@ -58,10 +60,10 @@ impl<'a> Parser<'a> {
         ensures shorter { length self.new.cursor.rest.now ≤ length self.old.cursor.rest.now }
     {
         if self.cursor.sees_closing(bracket) {
-            return self.cursor.sequence_none(bracket);
+            return sequence_none(&mut self.cursor, bracket);
         }
         if self.cursor.sees(Mark::Ellipsis) {
-            return self.cursor.sequence_only_rest(bracket);
+            return sequence_only_rest(&mut self.cursor, bracket);
         }
         let first = self.pattern_par(free);
         let mut pats = first_of(self.cursor.alloc, first);
@@ -82,7 +84,7 @@ impl<'a> Parser<'a> {
         ensures shorter { length self.new.cursor.rest.now ≤ length self.old.cursor.rest.now }
     {
         if !skip(&mut self.cursor, Mark::Colon) {
-            return self.cursor.pattern_brace_close(first);
+            return pattern_brace_close(&mut self.cursor, first);
         }
         let pair = paired(first, self.pattern_par(free - 1));
         let mut pairs = first_of(self.cursor.alloc, pair);

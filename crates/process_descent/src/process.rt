@@ -13,17 +13,19 @@ ghost use Rattle.std.specs.Prelude.{◌≡◌, ◌<◌, ◌≤◌, IfOk, MatchRe
 use crate::parser::Parser;
 use calculus::Proc;
 use form_ends::{
-    begin_new, composed, contract_head, contract_with_body, if_with_else, new_with_body, sent,
-    skip_after, then_one_more,
+    close_receive, composed, contract_head, contract_with_body, declared_names, if_with_else,
+    new_with_body, sent, skip_after, skip_separator_after, then_marks, then_one_more,
 };
+use form_parts::part::{Bracket, Part};
+use form_parts::parts;
 use form_steps::step::{FormKey, TermStep};
 use form_steps::{
-    begin_send, begin_term, both, close_bundle, first_of, leading_form, quoted_send, skip,
-    then_mark,
+    arrow_mark, begin_keyed, begin_send, begin_term, both, bound, close_bundle, first_of,
+    leading_form, next_separator, quoted_send, skip, then_mark,
 };
 use grammar::{Fault, Mark};
-use token_cursor::part::{Bracket, Part};
-use token_cursor::{Level, process_forms};
+use syntax_forms::process_forms;
+use token_cursor::Level;
 
 impl<'a> Parser<'a> {
     /// Par ::= One { "|" One }
@@ -55,67 +57,75 @@ impl<'a> Parser<'a> {
         }
     }
 
-    /// A form that begins with this key.
+    /// A form that begins with this key:
+    /// New ::= "new" Decl { "," Decl } "in" One
+    /// If ::= "if" "(" Par ")" Two [ "else" One ]
+    /// Contract ::= "contract" Name "(" Left ")" "=" One
+    /// For ::= "for" "(" Binds ")" "{" Par "}"
+    /// Match ::= "match" Or "{" Case { Case } "}"
     #[cycle(parse)]
     pub(crate) fn form(&mut self, key: FormKey, free: u32) -> Result<Part<Proc>, Fault>
         ensures reads { Gives free (form_sort key) of_proc (view self.old.cursor.rest.now) result (view self.new.cursor.rest.now) }
         ensures room { IfOk result (λ p. p.height ≤ free) }
         ensures shorter { length self.new.cursor.rest.now ≤ length self.old.cursor.rest.now }
     {
+        begin_keyed(&mut self.cursor, key, free)?;
         match key {
-            FormKey::New => self.new_form(free),
-            FormKey::If => self.if_form(free),
-            FormKey::Contract => self.contract_form(free),
-            FormKey::For => self.for_form(free),
-            FormKey::Match => self.match_form(free),
+            FormKey::New => {
+                let names = declared_names(&mut self.cursor)?;
+                let body = self.one(free - 1);
+                new_with_body(self.cursor.alloc, names, body)
+            }
+            FormKey::If => {
+                let condition = self.par(free - 1);
+                let test = then_mark(&mut self.cursor, condition, Mark::Close)?;
+                let arms = both(test, self.two(free - 1))?;
+                if !skip(&mut self.cursor, Mark::Else) {
+                    return process_forms::if_only(self.cursor.alloc, arms.0, arms.1);
+                }
+                let other = self.one(free - 1);
+                if_with_else(self.cursor.alloc, arms, other)
+            }
+            FormKey::Contract => {
+                let channel = self.name(free - 1);
+                let name = then_mark(&mut self.cursor, channel, Mark::Open)?;
+                let left = self.left(free - 1);
+                let head = contract_head(&mut self.cursor, name, left)?;
+                let body = self.one(free - 1);
+                contract_with_body(self.cursor.alloc, head, body)
+            }
+            FormKey::For => {
+                let pats = self.left(free - 1);
+                let kind = self.cursor.arrow();
+                let left = then_mark(&mut self.cursor, pats, arrow_mark(kind))?;
+                let first = bound(left, self.name(free - 1));
+                let separator = next_separator(&self.cursor);
+                let mut binds = first_of(self.cursor.alloc, first);
+                let mut more = 15;
+                'binds: while skip_separator_after(&mut self.cursor, &binds, separator, more) {
+                    let next = self.bind(kind, free);
+                    binds = then_one_more(binds, next);
+                    more -= 1;
+                }
+                let head = then_marks(&mut self.cursor, binds, Mark::Close, Mark::OpenBrace)?;
+                let body = self.par(free - 1);
+                close_receive(&mut self.cursor, kind, head, body)
+            }
+            FormKey::Match => {
+                let value = self.level(Some(Level::Or), free - 1);
+                let target = then_mark(&mut self.cursor, value, Mark::OpenBrace)?;
+                let mut cases = process_forms::no_cases(self.cursor.alloc, target.height);
+                'cases: loop {
+                    cases = match self.case(cases, free) {
+                        Ok(cases) => cases,
+                        Err(fault) => return parts::give_up(target, fault),
+                    };
+                    if skip(&mut self.cursor, Mark::CloseBrace) {
+                        return process_forms::matches(self.cursor.alloc, target.value, cases);
+                    }
+                }
+            }
         }
-    }
-
-    /// New ::= "new" Decl { "," Decl } "in" One
-    #[cycle(parse)]
-    pub(crate) fn new_form(&mut self, free: u32) -> Result<Part<Proc>, Fault>
-        ensures reads { Gives free Sort.New of_proc (view self.old.cursor.rest.now) result (view self.new.cursor.rest.now) }
-        ensures room { IfOk result (λ p. p.height ≤ free) }
-        ensures shorter { length self.new.cursor.rest.now ≤ length self.old.cursor.rest.now }
-    {
-        let names = begin_new(&mut self.cursor, free)?;
-        let body = self.one(free - 1);
-        new_with_body(self.cursor.alloc, names, body)
-    }
-
-    /// If ::= "if" "(" Par ")" Two [ "else" One ]
-    #[cycle(parse)]
-    pub(crate) fn if_form(&mut self, free: u32) -> Result<Part<Proc>, Fault>
-        ensures reads { Gives free Sort.If of_proc (view self.old.cursor.rest.now) result (view self.new.cursor.rest.now) }
-        ensures room { IfOk result (λ p. p.height ≤ free) }
-        ensures shorter { length self.new.cursor.rest.now ≤ length self.old.cursor.rest.now }
-    {
-        self.cursor.opens(Mark::If, 0, free)?;
-        self.cursor.expect(Mark::Open)?;
-        let condition = self.par(free - 1);
-        let test = then_mark(&mut self.cursor, condition, Mark::Close)?;
-        let arms = both(test, self.two(free - 1))?;
-        if !skip(&mut self.cursor, Mark::Else) {
-            return process_forms::if_only(self.cursor.alloc, arms.0, arms.1);
-        }
-        let other = self.one(free - 1);
-        if_with_else(self.cursor.alloc, arms, other)
-    }
-
-    /// Contract ::= "contract" Name "(" Left ")" "=" One
-    #[cycle(parse)]
-    pub(crate) fn contract_form(&mut self, free: u32) -> Result<Part<Proc>, Fault>
-        ensures reads { Gives free Sort.Contract of_proc (view self.old.cursor.rest.now) result (view self.new.cursor.rest.now) }
-        ensures room { IfOk result (λ p. p.height ≤ free) }
-        ensures shorter { length self.new.cursor.rest.now ≤ length self.old.cursor.rest.now }
-    {
-        self.cursor.opens(Mark::Contract, 0, free)?;
-        let channel = self.name(free - 1);
-        let name = then_mark(&mut self.cursor, channel, Mark::Open)?;
-        let left = self.left(free - 1);
-        let head = contract_head(&mut self.cursor, name, left)?;
-        let body = self.one(free - 1);
-        contract_with_body(self.cursor.alloc, head, body)
     }
 
     /// Two ::= For | Match | Bundle | Name ( "!" | "!!" ) "(" [ Par { "," Par } ] ")" | Or

@@ -1,23 +1,21 @@
 //! Calls with given words and files.
-use crate::Harness;
-use crate::shown::{Of, tell_all};
-use rho_outside::OpenGate;
-use std::alloc::Global;
-use std::sync::Wait;
-use std::thread::Threads;
+use call_harness::{Ended, Harness, Meeting, Of, Outside, tell_all};
+use std::alloc::{AllocError, Global};
 use table_lines::LineFault;
 
 /// A call. `shows` is what is shown of it, names with `+` between them; the fields are its words, and behind each `<>` a file,
 /// its name and its text with `=` between them, or which call of the files or of the output fails.
-pub fn answer<R: Threads + Wait + Sync>(
-    rt: &R,
+pub fn answer<F: Fn(&Meeting, &[String], &mut Outside) -> Result<Ended, AllocError>>(
+    run: &F,
     alloc: Global,
     shows: &str,
     fields: &str,
-) -> Result<String, LineFault> {
+) -> Result<String, LineFault>
+    requires { F.IsAlwaysCallable run.now }
+{
     let mut harness = Harness::new(alloc);
     let words = set_files(&mut harness, fields);
-    harness.call(rt, &OpenGate, words);
+    harness.call(run, words);
     tell_all(&mut harness, Of::Call, shows);
     harness.told()
 }

@@ -1,12 +1,9 @@
 //! Runs the examples in memory: each is deployed from the empty state, and its log is replayed.
-use crate::Harness;
-use crate::calling::{MOST_BYTES, Told, call};
+use call_harness::{Ended, Harness, MOST_BYTES, Meeting, Outside, Told, call};
 use rho_outside::{FileShelf, Shelf};
-use std::alloc::Global;
+use std::alloc::{AllocError, Global};
 use std::rt::Files;
 use std::str;
-use std::sync::Wait;
-use std::thread::Threads;
 use table_lines::LineFault;
 
 /// The examples, by the names of their files.
@@ -39,35 +36,61 @@ fn no_file(alloc: Global, name: &str) -> LineFault {
     }
 }
 
-// Takes the source of an example and the prices, and makes the empty state.
-fn set_inputs<R: Threads + Wait + Sync + Files>(rt: &R, harness: &mut Harness, source: &str) {
+// Takes the source of an example and the prices.
+fn take_files<R: Files>(rt: &R, harness: &mut Harness, source: &str) {
     take_file(rt, harness, source);
     take_file(rt, harness, "prices.toml");
-    let text = String::from_str(harness.alloc, "genesis empty");
-    call(rt, harness, text, "next");
 }
 
-fn deploy<R: Threads + Wait + Sync>(rt: &R, harness: &mut Harness, source: &str) -> Told {
+fn genesis<F: Fn(&Meeting, &[String], &mut Outside) -> Result<Ended, AllocError>>(
+    run: &F,
+    harness: &mut Harness,
+)
+    requires { F.IsAlwaysCallable run.now }
+{
+    let text = String::from_str(harness.alloc, "genesis empty");
+    call(run, harness, text, "next");
+}
+
+fn deploy<F: Fn(&Meeting, &[String], &mut Outside) -> Result<Ended, AllocError>>(
+    run: &F,
+    harness: &mut Harness,
+    source: &str,
+) -> Told
+    requires { F.IsAlwaysCallable run.now }
+{
     let alloc = harness.alloc;
     let text = format!(in alloc;
         "deploy {source} --state empty --prices prices.toml --log log --next next --limit 1000"
     );
-    call(rt, harness, text, "next")
+    call(run, harness, text, "next")
 }
 
-fn replay<R: Threads + Wait + Sync>(rt: &R, harness: &mut Harness, source: &str) -> Told {
+fn replay<F: Fn(&Meeting, &[String], &mut Outside) -> Result<Ended, AllocError>>(
+    run: &F,
+    harness: &mut Harness,
+    source: &str,
+) -> Told
+    requires { F.IsAlwaysCallable run.now }
+{
     let alloc = harness.alloc;
     let text = format!(in alloc;
         "replay {source} --state empty --prices prices.toml --log log --next again"
     );
-    call(rt, harness, text, "again")
+    call(run, harness, text, "again")
 }
 
-// What an example prints, and whether its replay says and leaves the same.
-fn tell_example<R: Threads + Wait + Sync + Files>(rt: &R, harness: &mut Harness, source: &str) {
-    set_inputs(rt, harness, source);
-    let played = deploy(rt, harness, source);
-    let replayed = replay(rt, harness, source);
+// What an example prints, and whether its replay says and leaves the same. Its files were taken.
+fn tell_example<F: Fn(&Meeting, &[String], &mut Outside) -> Result<Ended, AllocError>>(
+    run: &F,
+    harness: &mut Harness,
+    source: &str,
+)
+    requires { F.IsAlwaysCallable run.now }
+{
+    genesis(run, harness);
+    let played = deploy(run, harness, source);
+    let replayed = replay(run, harness, source);
     tell_both(harness, source, &played, &replayed);
 }
 
@@ -95,11 +118,18 @@ fn printed(report: &[u8]) -> &str {
 }
 
 /// What each example came to: its codes and what it printed, one example after another. Their files lie where the program runs.
-pub fn told<R: Threads + Wait + Sync + Files>(rt: &R, alloc: Global) -> Result<String, LineFault> {
+pub fn told<R: Files, F: Fn(&Meeting, &[String], &mut Outside) -> Result<Ended, AllocError>>(
+    rt: &R,
+    run: &F,
+    alloc: Global,
+) -> Result<String, LineFault>
+    requires { F.IsAlwaysCallable run.now }
+{
     let mut harness = Harness::new(alloc);
     for source in EXAMPLES {
         harness.clear_files();
-        tell_example(rt, &mut harness, *source);
+        take_files(rt, &mut harness, *source);
+        tell_example(run, &mut harness, *source);
     }
     harness.told()
 }

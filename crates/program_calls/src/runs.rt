@@ -1,11 +1,7 @@
 //! Deploys and replays of given sources. The state is `s`, the prices `p`, the source `d`, the log `l`, and the next states
 //! are `n` of a deploy and `m` of a replay.
-use crate::Harness;
-use crate::shown::{Of, tell_all};
-use rho_outside::OpenGate;
-use std::alloc::Global;
-use std::sync::Wait;
-use std::thread::Threads;
+use call_harness::{Ended, Harness, Meeting, Of, Outside, tell_all};
+use std::alloc::{AllocError, Global};
 use table_lines::{LineFault, hex_bytes, number};
 
 /// A state without rows: its name, the version, a root of zeros and a number of rows.
@@ -15,19 +11,21 @@ const PRICES: &str =
     "comm = 10\\nsend = 3\\nreceive = 4\\nname = 2\\ncase = 1\\nop = 1\\nbyte = 0\\n";
 
 /// The answer to a line of this kind with these fields.
-pub fn answer<R: Threads + Wait + Sync>(
-    rt: &R,
+pub fn answer<F: Fn(&Meeting, &[String], &mut Outside) -> Result<Ended, AllocError>>(
+    run: &F,
     alloc: Global,
     word: &str,
     fields: &str,
-) -> Result<String, LineFault> {
+) -> Result<String, LineFault>
+    requires { F.IsAlwaysCallable run.now }
+{
     let mut harness = Harness::new(alloc);
     match word {
-        "deploy" => deploy(rt, &mut harness, fields),
-        "deploy-of" => deploy_of(rt, &mut harness, fields),
-        "deploy-failing" => deploy_failing(rt, &mut harness, fields),
-        "deploy-and-replay" => deploy_and_replay(rt, &mut harness, fields),
-        "replay" => replay(rt, &mut harness, fields),
+        "deploy" => deploy(run, &mut harness, fields),
+        "deploy-of" => deploy_of(run, &mut harness, fields),
+        "deploy-failing" => deploy_failing(run, &mut harness, fields),
+        "deploy-and-replay" => deploy_and_replay(run, &mut harness, fields),
+        "replay" => replay(run, &mut harness, fields),
         _ => harness.fail(LineFault::Kind),
     }
     harness.told()
@@ -59,50 +57,75 @@ fn keep_inputs(harness: &mut Harness, state: &str, prices: &str, source: &str) {
 }
 
 // Deploys the source.
-fn run_deploy<R: Threads + Wait + Sync>(rt: &R, harness: &mut Harness, limit: &str) {
+fn run_deploy<F: Fn(&Meeting, &[String], &mut Outside) -> Result<Ended, AllocError>>(
+    run: &F,
+    harness: &mut Harness,
+    limit: &str,
+)
+    requires { F.IsAlwaysCallable run.now }
+{
     let alloc = harness.alloc;
     harness.clear_output();
     let text = format!(in alloc; "deploy d --state s --prices p --limit {limit} --log l --next n");
-    harness.call_made(rt, &OpenGate, text);
+    harness.call_made(run, text);
 }
 
 // Replays the log.
-fn run_replay<R: Threads + Wait + Sync>(rt: &R, harness: &mut Harness) {
+fn run_replay<F: Fn(&Meeting, &[String], &mut Outside) -> Result<Ended, AllocError>>(
+    run: &F,
+    harness: &mut Harness,
+)
+    requires { F.IsAlwaysCallable run.now }
+{
     harness.clear_output();
-    harness.call(
-        rt,
-        &OpenGate,
-        "replay d --state s --prices p --log l --next m",
-    );
+    harness.call(run, "replay d --state s --prices p --log l --next m");
 }
 
 /// A deploy. The fields are what is shown, the limit and the source.
-fn deploy<R: Threads + Wait + Sync>(rt: &R, harness: &mut Harness, fields: &str) {
+fn deploy<F: Fn(&Meeting, &[String], &mut Outside) -> Result<Ended, AllocError>>(
+    run: &F,
+    harness: &mut Harness,
+    fields: &str,
+)
+    requires { F.IsAlwaysCallable run.now }
+{
     let (shows, limit, source) = three(harness, fields);
     keep_inputs(harness, EMPTY, PRICES, source);
-    run_deploy(rt, harness, limit);
+    run_deploy(run, harness, limit);
     tell_all(harness, Of::Run, shows);
 }
 
 /// A deploy of given inputs. The fields are what is shown, and then with `<>` between them the state, the prices, the
 /// limit and the source.
-fn deploy_of<R: Threads + Wait + Sync>(rt: &R, harness: &mut Harness, fields: &str) {
+fn deploy_of<F: Fn(&Meeting, &[String], &mut Outside) -> Result<Ended, AllocError>>(
+    run: &F,
+    harness: &mut Harness,
+    fields: &str,
+)
+    requires { F.IsAlwaysCallable run.now }
+{
     let (shows, fields) = split(harness, fields, " ");
     let (state, fields) = split(harness, fields, " <> ");
     let (prices, fields) = split(harness, fields, " <> ");
     let (limit, source) = split(harness, fields, " <> ");
     keep_inputs(harness, state, prices, source);
-    run_deploy(rt, harness, limit);
+    run_deploy(run, harness, limit);
     tell_all(harness, Of::Run, shows);
 }
 
 /// A deploy of which one call of the shelf fails. The fields are its number, what is shown, the limit and the source.
-fn deploy_failing<R: Threads + Wait + Sync>(rt: &R, harness: &mut Harness, fields: &str) {
+fn deploy_failing<F: Fn(&Meeting, &[String], &mut Outside) -> Result<Ended, AllocError>>(
+    run: &F,
+    harness: &mut Harness,
+    fields: &str,
+)
+    requires { F.IsAlwaysCallable run.now }
+{
     let (call, fields) = split(harness, fields, " ");
     let (shows, limit, source) = three(harness, fields);
     keep_inputs(harness, EMPTY, PRICES, source);
     fail_file(harness, call);
-    run_deploy(rt, harness, limit);
+    run_deploy(run, harness, limit);
     tell_all(harness, Of::Run, shows);
 }
 
@@ -116,12 +139,18 @@ fn fail_file(harness: &mut Harness, call: &str) {
 
 /// A deploy and the replay of its log. The fields are what is shown of the replay, the limit and the source. The status of
 /// the deploy stands first.
-fn deploy_and_replay<R: Threads + Wait + Sync>(rt: &R, harness: &mut Harness, fields: &str) {
+fn deploy_and_replay<F: Fn(&Meeting, &[String], &mut Outside) -> Result<Ended, AllocError>>(
+    run: &F,
+    harness: &mut Harness,
+    fields: &str,
+)
+    requires { F.IsAlwaysCallable run.now }
+{
     let (shows, limit, source) = three(harness, fields);
     keep_inputs(harness, EMPTY, PRICES, source);
-    run_deploy(rt, harness, limit);
+    run_deploy(run, harness, limit);
     tell_status(harness);
-    run_replay(rt, harness);
+    run_replay(run, harness);
     tell_all(harness, Of::Run, shows);
 }
 
@@ -133,11 +162,17 @@ fn tell_status(harness: &mut Harness) {
 }
 
 /// A replay. The fields are what is shown, the digits of the log, and the source.
-fn replay<R: Threads + Wait + Sync>(rt: &R, harness: &mut Harness, fields: &str) {
+fn replay<F: Fn(&Meeting, &[String], &mut Outside) -> Result<Ended, AllocError>>(
+    run: &F,
+    harness: &mut Harness,
+    fields: &str,
+)
+    requires { F.IsAlwaysCallable run.now }
+{
     let (shows, log, source) = three(harness, fields);
     keep_inputs(harness, EMPTY, PRICES, source);
     let log = hex_bytes(harness.alloc, log);
     harness.keep_read("l", log);
-    run_replay(rt, harness);
+    run_replay(run, harness);
     tell_all(harness, Of::Run, shows);
 }

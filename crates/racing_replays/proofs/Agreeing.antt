@@ -6,7 +6,7 @@ use Rattle.calculus.specs.Rows.{Row}
 use Rattle.calculus.specs.Unfolding.{rows_of, digest}
 use Rattle.calculus.specs.Steps.{Bag, Meeting, standing, stored_rows, is_one_of, same_meeting, stays, all_persistent, right_repeat, meeting}
 use Rattle.calculus.specs.Runs.{Deploy, Work, work_products}
-use Rattle.list_laws.proofs.Members.{Member, Every, each-there}
+use Rattle.calculus.proofs.Members.{Member, Every, each-there}
 use Rattle.events.specs.Found.{without}
 use Rattle.events.specs.Events.{first_ids, digests}
 use Rattle.events.proofs.Orders.{member-moved, without-moved}
@@ -21,9 +21,9 @@ use Rattle.racing_replays.proofs.Ledger.{one-flat, flat-one}
 use Rattle.racing_replays.proofs.Keeping.{offers, universe, gone, all_gone, Kept}
 use Rattle.racing_replays.proofs.Tries.{Walked, walked}
 use Rattle.racing_replays.proofs.Confluent.{kept-all, walk-maximal, all-done}
-use Rattle.list_laws.specs.Exchanges.{Exchanges, nothing, under, neighbours, then}
+use Rattle.calculus.specs.Exchanges.{Exchanges, nothing, under, neighbours, then}
 use Rattle.racing_replays.proofs.InOrder.{order-same}
-use Rattle.list_laws.proofs.Permutations.{exchanges, unmoved, join, moved_after, moved_before, all_over, moved_so}
+use Rattle.calculus.proofs.Permutations.{exchanges, unmoved, join, moved_after, moved_before, all_over, moved_so}
 
 offers-exchanged : {ds es : List DoneStep} → Exchanges ds es → IsPermutation (offers ds) (offers es)
 offers-exchanged nothing = unmoved []

@@ -5,7 +5,7 @@ use Rattle.calculus.specs.Log.{Step}
 use Rattle.calculus.specs.Steps.{Meeting, meeting}
 use Rattle.calculus.specs.Candidates.{IsLeastAllowed}
 use Rattle.calculus.specs.Runs.{verdict, done, Leads, IsEnd}
-use Rattle.list_laws.proofs.Permutations.{join, moved_so}
+use Rattle.calculus.proofs.Permutations.{join, moved_so}
 use Rattle.events.specs.Events.{AreFresh}
 use Rattle.events.proofs.Following.{append_nothing}
 use Rattle.fresh_digests.proofs.Concluding.{legal_lists_are_fresh_or_show_an_id}

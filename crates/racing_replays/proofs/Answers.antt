@@ -13,7 +13,7 @@ use Rattle.racing_replays.proofs.Keeping.{universe}
 use Rattle.racing_replays.proofs.Agreeing.{fresh-rows, full-agrees}
 use Rattle.racing_replays.proofs.Coming.{comes-to}
 use Rattle.racing_replays.proofs.Legal.{goes-on, Reaches, reach-all, reach-none, stays-left, filled-end}
-use Rattle.list_laws.proofs.Permutations.{moved_so}
+use Rattle.calculus.proofs.Permutations.{moved_so}
 
 -- what is done in the one order is done in the other
 pub done-moved : (i : ℕ) (ds es : List DoneStep) → IsPermutation ds es → is_done i ds ≡ true → is_done i es ≡ true

@@ -5,7 +5,7 @@ use Rattle.calculus.specs.Outcome.{Prices}
 use Rattle.calculus.specs.Log.{Step}
 use Rattle.calculus.specs.Rows.{Row}
 use Rattle.calculus.specs.Steps.{Bag, Meeting, standing, stored_rows, is_one_of, meeting}
-use Rattle.list_laws.proofs.Members.{Member, member-split, member-left, member-right}
+use Rattle.calculus.proofs.Members.{Member, member-split, member-left, member-right}
 use Rattle.events.specs.Events.{stored}
 use Rattle.events.proofs.Counts.{ids, times, AreDistinct}
 use Rattle.events.proofs.Standing.{ids-times, standing-times, no-more}
@@ -20,7 +20,7 @@ use Rattle.racing_replays.proofs.Walking.{kept-untried}
 use Rattle.racing_replays.proofs.Together.{InBoth, meets-too}
 use Rattle.racing_replays.proofs.Uses.{next-is}
 use Rattle.racing_replays.proofs.Going.{Going, all-counts, store-distinct}
-use Rattle.list_laws.proofs.Permutations.{join, unmoved, moved_after, over}
+use Rattle.calculus.proofs.Permutations.{join, unmoved, moved_after, over}
 
 -- what stands at one place is one
 pub same-place : {A : Type 0} (xs : List A) (u : A) (ys zs : List A) (v : A) (ws : List A) → xs ++ u ∷ ys ≡ zs ++ v ∷ ws → length xs ≡ length zs → u ≡ v

@@ -5,7 +5,7 @@ use Rattle.calculus.specs.Log.{Step}
 use Rattle.calculus.specs.Rows.{Row}
 use Rattle.calculus.specs.Steps.{Bag, Meeting, stored_rows, meeting}
 use Rattle.calculus.specs.Runs.{Deploy, Work, Verdict, done, exhausted, faulted, verdict, cost, total, next_rows}
-use Rattle.list_laws.proofs.Permutations.{unmoved, moved_so}
+use Rattle.calculus.proofs.Permutations.{unmoved, moved_so}
 use Rattle.events.proofs.Counts.{ids, AreDistinct}
 use Rattle.replays.specs.Replays.{output_of}
 use Rattle.racing_replays.specs.Replaying.{Replay, done_steps, in_order}

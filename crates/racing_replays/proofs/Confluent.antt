@@ -6,7 +6,7 @@ use Rattle.calculus.specs.Outcome.{Prices}
 use Rattle.calculus.specs.Log.{Step}
 use Rattle.calculus.specs.Steps.{Bag, Meeting, standing, meeting, printed_line}
 use Rattle.calculus.specs.Runs.{Work, body_work}
-use Rattle.list_laws.proofs.Members.{Member, member-split, member-left, member-right}
+use Rattle.calculus.proofs.Members.{Member, member-split, member-left, member-right}
 use Rattle.events.proofs.Counts.{ids, AreDistinct}
 use Rattle.events.proofs.Meetings.{Joined, meeting_at}
 use Rattle.racing_replays.specs.Replaying.{DoneStep, Replay, done_steps, is_done, names, any_among, all_done, Does, Replays, none_yet, one_more, IsMaximal}

@@ -5,7 +5,7 @@ use Rattle.std.proofs.lemmas.Bool.{eqb-true, eq-eqb}
 use Rattle.calculus.specs.Log.{Step}
 use Rattle.calculus.specs.Steps.{Meeting, meeting, printed_line}
 use Rattle.calculus.specs.Runs.{Deploy, Work, Leads}
-use Rattle.list_laws.proofs.Members.{Member, member-split, member-left, member-right}
+use Rattle.calculus.proofs.Members.{Member, member-split, member-left, member-right}
 use Rattle.events.proofs.Counts.{ids, AreDistinct}
 use Rattle.events.proofs.Following.{append_nothing}
 use Rattle.replays.specs.Replays.{StopsAt}

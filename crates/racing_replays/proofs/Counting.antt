@@ -3,7 +3,7 @@ use Rattle.std.proofs.Common.{◌≡◌, ◌≤◌, ℕ, suc, ◌+◌, Bool, tru
 use Rattle.std.specs.Prelude.{count_by}
 use Rattle.std.proofs.lemmas.List.Sums.{sum_by-cons}
 use Rattle.calculus.specs.Log.{Step}
-use Rattle.list_laws.proofs.Members.{Member}
+use Rattle.calculus.proofs.Members.{Member}
 use Rattle.racing_replays.specs.Replaying.{DoneStep, done_steps}
 use Rattle.racing_replays.proofs.Lists.{AreSingle, tally, tally-in}
 

@@ -6,7 +6,7 @@ use Rattle.calculus.specs.Log.{Step}
 use Rattle.calculus.specs.Rows.{Row}
 use Rattle.calculus.specs.Steps.{Bag, Meeting, standing, stored_rows, is_one_of, meeting, printed_line, bag_after}
 use Rattle.calculus.specs.Runs.{Work}
-use Rattle.list_laws.proofs.Members.{Member, member-split, each-there}
+use Rattle.calculus.proofs.Members.{Member, member-split, each-there}
 use Rattle.events.specs.Found.{without, leaving_rows}
 use Rattle.events.proofs.Counts.{ids, times, AreDistinct, member-times, one_of-times}
 use Rattle.events.proofs.Lookups.{rows_with, rows_with-there}

@@ -4,7 +4,7 @@ use Rattle.std.specs.Prelude.{◌⊎◌, ltb, flat_map}
 use Rattle.std.proofs.lemmas.Bool.{ltb-true, lt-ltb}
 use Rattle.calculus.specs.Log.{Step}
 use Rattle.calculus.specs.Steps.{Bag, standing, is_one_of}
-use Rattle.list_laws.proofs.Members.{Member}
+use Rattle.calculus.proofs.Members.{Member}
 use Rattle.events.proofs.Counts.{ids}
 use Rattle.racing_replays.specs.Replaying.{DoneStep, rows_by, is_done, names, ids_before, all_among, any_among, all_done, is_due}
 use Rattle.racing_replays.proofs.Ledger.{one-here, one-first, one-next, one-split, one-left, one-right, one-flat, flat-one}

@@ -6,7 +6,7 @@ use Rattle.calculus.specs.Log.{Step}
 use Rattle.calculus.specs.Rows.{Row}
 use Rattle.calculus.specs.Steps.{Bag, Meeting, standing, meeting, printed_line}
 use Rattle.calculus.specs.Runs.{Work, body_work}
-use Rattle.list_laws.proofs.Members.{Member, Every, member-split, each-there}
+use Rattle.calculus.proofs.Members.{Member, Every, member-split, each-there}
 use Rattle.events.proofs.Counts.{ids, AreDistinct}
 use Rattle.events.proofs.Lookups.{rows_with, rows_with-there}
 use Rattle.events.proofs.Meetings.{Joined, join, meeting_at, MadeBy, made_by}

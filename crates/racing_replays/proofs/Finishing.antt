@@ -7,7 +7,7 @@ use Rattle.calculus.specs.Log.{Step}
 use Rattle.calculus.specs.Rows.{Row}
 use Rattle.calculus.specs.Steps.{Bag, Meeting, standing, stored_rows, is_one_of, same_meeting, meeting, printed_line, bag_after}
 use Rattle.calculus.specs.Runs.{Work, body_work}
-use Rattle.list_laws.proofs.Members.{Member, member-split, member-left, member-right, every-at}
+use Rattle.calculus.proofs.Members.{Member, member-split, member-left, member-right, every-at}
 use Rattle.events.specs.Events.{stored}
 use Rattle.events.specs.Found.{without, leaving_rows}
 use Rattle.events.proofs.Orders.{without-moved, times-moved}
@@ -31,7 +31,7 @@ use Rattle.racing_replays.proofs.Together.{InBoth, meets-too}
 use Rattle.racing_replays.proofs.Uses.{next-is}
 use Rattle.racing_replays.proofs.Going.{universe-more, Going, named-there, all-counts, store-times, store-distinct, store-there, not-both}
 use Rattle.racing_replays.proofs.Arriving.{same-place, step-there}
-use Rattle.list_laws.proofs.Permutations.{moved_before}
+use Rattle.calculus.proofs.Permutations.{moved_before}
 
 -- what is done after one more was done before, or is that one
 pub done-less : (j : ℕ) (ds : List DoneStep) (e : DoneStep) → is_done j (ds ++ e ∷ []) ≡ true → (is_done j ds ≡ true) ⊎ (j ≡ e.index)

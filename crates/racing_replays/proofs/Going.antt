@@ -5,7 +5,7 @@ use Rattle.calculus.specs.Outcome.{Prices}
 use Rattle.calculus.specs.Log.{Step}
 use Rattle.calculus.specs.Rows.{Row}
 use Rattle.calculus.specs.Steps.{Bag, Meeting, standing, stored_rows, is_one_of, meeting, printed_line}
-use Rattle.list_laws.proofs.Members.{Member, member-split, member-left, every-at}
+use Rattle.calculus.proofs.Members.{Member, member-split, member-left, every-at}
 use Rattle.events.specs.Events.{stored}
 use Rattle.events.proofs.Orders.{member-moved, times-moved}
 use Rattle.events.proofs.Counts.{ids, times, AreDistinct, member-times}
@@ -18,7 +18,7 @@ use Rattle.racing_replays.proofs.Keeping.{offers, universe, Kept}
 use Rattle.racing_replays.proofs.Transfer.{bag-distinct, in-universe}
 use Rattle.racing_replays.proofs.Doing.{entry, flat-more}
 use Rattle.racing_replays.proofs.Within.{before-does, kept-within}
-use Rattle.list_laws.proofs.Permutations.{moved_so}
+use Rattle.calculus.proofs.Permutations.{moved_so}
 
 pub universe-more : (b : Bag) (x : List ℕ) (ds : List DoneStep) (e : DoneStep) → times x (ids (universe b (ds ++ e ∷ []))) ≡ times x (ids (universe b ds)) + times x (ids (rows_by e))
 universe-more b x ds e = omega (

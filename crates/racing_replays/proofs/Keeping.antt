@@ -4,7 +4,7 @@ use Rattle.std.specs.Prelude.{flat_map, Option, Some, None}
 use Rattle.calculus.specs.Log.{Step}
 use Rattle.calculus.specs.Rows.{Row}
 use Rattle.calculus.specs.Steps.{Bag, standing, stored_rows, is_one_of}
-use Rattle.list_laws.proofs.Members.{Member}
+use Rattle.calculus.proofs.Members.{Member}
 use Rattle.events.specs.Found.{without, leaving_rows}
 use Rattle.events.proofs.Counts.{ids, times, AreDistinct, times-one_of, one_of-times}
 use Rattle.events.proofs.Lookups.{row_with, rows_with, rows_with-have, row_with-there}

@@ -4,7 +4,7 @@ use Rattle.std.specs.Prelude.{◌⊎◌, eqb, flat_map}
 use Rattle.std.specs.Str.{bytes_eq}
 use Rattle.std.proofs.lemmas.Bool.{eqb-true, eq-eqb}
 use Rattle.calculus.specs.Steps.{is_one_of}
-use Rattle.list_laws.proofs.Members.{Member}
+use Rattle.calculus.proofs.Members.{Member}
 use Rattle.events.proofs.Counts.{bytes_same, same_bytes}
 use Rattle.racing_replays.specs.Replaying.{DoneStep, is_done, any_among}
 

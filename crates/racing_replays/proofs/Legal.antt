@@ -9,7 +9,7 @@ use Rattle.calculus.specs.Unfolding.{unfold_in, Unfolds}
 use Rattle.calculus.specs.Steps.{Bag, Meeting, standing, is_one_of, meeting, printed_line}
 use Rattle.calculus.specs.Runs.{Deploy, source_seed, Work, State, body_work, moved, step_from, steps_from, begun, Leads}
 use Rattle.calculus.proofs.States.{one_unfolding, body_keeps}
-use Rattle.list_laws.proofs.Members.{Member, member-split, member-left, member-right, every-at}
+use Rattle.calculus.proofs.Members.{Member, member-split, member-left, member-right, every-at}
 use Rattle.events.proofs.Counts.{ids, AreDistinct, member-times, times-one_of}
 use Rattle.events.proofs.Meetings.{MadeBy, made_by}
 use Rattle.events.proofs.Spent.{row-of-id}

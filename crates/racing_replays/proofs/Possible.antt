@@ -7,7 +7,7 @@ use Rattle.calculus.specs.Rows.{Row, stdout, stdout_ack}
 use Rattle.calculus.specs.Unfolding.{rows_of}
 use Rattle.calculus.specs.Steps.{Meeting, standing, same_meeting, stays, all_persistent, right_repeat, meeting, printed_line, line}
 use Rattle.calculus.specs.Runs.{Deploy, Work, work_products, body_work}
-use Rattle.list_laws.proofs.Members.{Member, Every}
+use Rattle.calculus.proofs.Members.{Member, Every}
 use Rattle.events.specs.Events.{stored}
 use Rattle.events.specs.Found.{met, leaving_rows, without, has_built_in_id, printed_by}
 use Rattle.events.proofs.Counts.{ids, AreDistinct}

@@ -7,7 +7,7 @@ use Rattle.calculus.specs.Rows.{Row}
 use Rattle.calculus.specs.Unfolding.{digest}
 use Rattle.calculus.specs.Steps.{Bag}
 use Rattle.calculus.specs.Runs.{Work, work_products}
-use Rattle.list_laws.proofs.Members.{Member}
+use Rattle.calculus.proofs.Members.{Member}
 use Rattle.events.specs.Events.{first_ids, digests}
 use Rattle.events.proofs.Counts.{ids, times, AreDistinct, differ-distinct, distinct-differ, times-append}
 use Rattle.events.proofs.Following.{append_nothing}

@@ -6,7 +6,7 @@ use Rattle.calculus.specs.Rows.{Row}
 use Rattle.calculus.specs.Unfolding.{rows_of}
 use Rattle.calculus.specs.Steps.{Meeting, standing, meeting, printed_line}
 use Rattle.calculus.specs.Runs.{Deploy, Work, work_products}
-use Rattle.list_laws.proofs.Members.{Member, member-left, member-right}
+use Rattle.calculus.proofs.Members.{Member, member-left, member-right}
 use Rattle.events.specs.Events.{stored}
 use Rattle.events.proofs.Counts.{ids, AreDistinct}
 use Rattle.events.proofs.Following.{append_nothing}

@@ -4,7 +4,7 @@ use Rattle.std.specs.Prelude.{Some, eqb, count_by}
 use Rattle.calculus.specs.Log.{Step}
 use Rattle.calculus.specs.Rows.{Row}
 use Rattle.calculus.specs.Steps.{Bag, Meeting, standing, is_one_of, same_meeting, stays, all_persistent, right_repeat, meeting, printed_line}
-use Rattle.list_laws.proofs.Members.{Member, Every, each-there}
+use Rattle.calculus.proofs.Members.{Member, Every, each-there}
 use Rattle.events.proofs.Counts.{ids, AreDistinct, member-times, times-one_of}
 use Rattle.events.proofs.Meetings.{Joined, join, meeting_at, MadeBy, made_by, makes}
 use Rattle.racing_replays.specs.Replaying.{names}

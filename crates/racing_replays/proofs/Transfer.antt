@@ -5,7 +5,7 @@ use Rattle.std.specs.Str.{bytes_eq}
 use Rattle.calculus.specs.Log.{Step}
 use Rattle.calculus.specs.Rows.{Row}
 use Rattle.calculus.specs.Steps.{Bag, Meeting, standing, stored_rows, is_one_of, same_ids, same_meeting, stays, all_persistent, right_repeat, meeting, printed_line}
-use Rattle.list_laws.proofs.Members.{Member, Every, member-split, member-left, member-right, each-there}
+use Rattle.calculus.proofs.Members.{Member, Every, member-split, member-left, member-right, each-there}
 use Rattle.events.proofs.Counts.{ids, times, AreDistinct, bytes_same, member-times, times-one_of}
 use Rattle.events.proofs.Meetings.{Joined, join, meeting_at, MadeBy, made_by, makes}
 use Rattle.events.proofs.Printing.{line-of}

@@ -4,7 +4,7 @@ use Rattle.std.specs.Prelude.{◌⊎◌, count_by}
 use Rattle.std.proofs.lemmas.List.Sums.{sum_by-append, sum_by-cons}
 use Rattle.calculus.specs.Log.{Step}
 use Rattle.calculus.specs.Steps.{Bag, is_one_of, same_meeting}
-use Rattle.list_laws.proofs.Members.{Member, member-each}
+use Rattle.calculus.proofs.Members.{Member, member-each}
 use Rattle.racing_replays.specs.Replaying.{DoneStep, Replay, done_steps, is_done, names, any_among, all_done}
 use Rattle.racing_replays.specs.Laws.{first_bag}
 use Rattle.racing_replays.specs.Counted.{names_id, UsesAreCounted, RepeatsAreCounted}

@@ -4,7 +4,7 @@ use Rattle.std.specs.Prelude.{leb}
 use Rattle.std.proofs.lemmas.Bool.{le-leb}
 use Rattle.calculus.specs.Log.{Step}
 use Rattle.calculus.specs.Steps.{is_one_of}
-use Rattle.list_laws.proofs.Members.{Member}
+use Rattle.calculus.proofs.Members.{Member}
 use Rattle.racing_replays.specs.Replaying.{names}
 use Rattle.racing_replays.specs.Racing.{next_use}
 

@@ -3,9 +3,9 @@ use Rattle.std.specs.Prelude.{◌≡◌, ◌⊎◌, ℕ, IfOk}
 use Rattle.rho_outside.specs.Causes.{Rose}
 use Rattle.rho_outside.specs.Told.{Told}
 use Rattle.command_words.specs.Commands.{RunRequest}
+use Rattle.input_faults.specs.declared.state_fault.StateFault.{StateFault}
 use Rattle.run_inputs.specs.Inputs.{Refusal, accepted_state, accepted}
 use Rattle.base_states.specs.Bases.{IsNoState}
-use Rattle.state_reader.specs.declared.fault.StateFault.{StateFault}
 use Rattle.run_inputs.specs.Runnable.{HasProcess, HasState, OwnsIds}
 use Rattle.run_inputs.specs.Refused.{IsRefusal, Says, SaysNoState, SaysOf}
 use Rattle.run_inputs.specs.Ended.{DeployEnds}

@@ -21,7 +21,7 @@ use name_seed::bytes_digest;
 use next_states::KnownState;
 use numbered_jobs::Crew;
 use play_outcome::Played;
-use play_pool::play;
+use play_runs::play;
 use readable_logs::steps_are_readable;
 use rho_outside::{Gate, Shelf, Sink};
 use rspace_table::SpaceTables;

@@ -2,8 +2,8 @@
 ghost use Rattle.std.specs.Prelude.{◌≡◌, ◌≤◌, [], IfOk, None, length};
 ghost use Rattle.calculus.specs.Form.{IsClosed};
 ghost use Rattle.made_input.specs.MadeInput.{made_text};
+ghost use Rattle.input_faults.specs.Refusals.{refusal_of};
 ghost use Rattle.run_inputs.specs.Given.{task_of, IsBase};
-ghost use Rattle.sources.specs.Faults.{refusal_of};
 ghost use Rattle.sources.specs.Sources.{IsSourceOf};
 ghost use Rattle.states.specs.States.{state_text};
 ghost use Rattle.recorded_runs.specs.Made.{made_task};

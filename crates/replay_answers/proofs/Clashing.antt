@@ -2,8 +2,8 @@
 use Rattle.std.proofs.Common.{◌≡◌, ℕ, suc, ◌+◌, true, false, List, [], ◌∷◌, ◌++◌, length, map as each, refl, sym, ap, subst, ◌∙◌, arith, inl, inr, append_assoc, append-nil}
 use Rattle.std.specs.Prelude.{◌⊎◌, IsPermutation}
 use Rattle.std.proofs.lemmas.List.{map-append}
-use Rattle.list_laws.proofs.Members.{Member, member-split}
-use Rattle.list_laws.proofs.Permutations.{join, unmoved, each-moved, moved_after, moved_back, moved_so}
+use Rattle.calculus.proofs.Members.{Member, member-split}
+use Rattle.calculus.proofs.Permutations.{join, unmoved, each-moved, moved_after, moved_back, moved_so}
 use Rattle.calculus.specs.Log.{Step}
 use Rattle.calculus.specs.Outcome.{Prices}
 use Rattle.calculus.specs.Runs.{source_seed, Deploy, State, Work, Leads, made_digests}

@@ -1,7 +1,7 @@
 -- Each log has one answer, so all results that give it say the same.
 use Rattle.std.proofs.Common.{◌≡◌, List, [], refl, sym, ap, ◌∙◌, subst}
 use Rattle.std.specs.Prelude.{◌≢◌, Some, Result, Ok, Err, IsPermutation}
-use Rattle.list_laws.proofs.Permutations.{join, moved_so, unmoved}
+use Rattle.calculus.proofs.Permutations.{join, moved_so, unmoved}
 use Rattle.calculus.specs.Form.{IsClosed}
 use Rattle.calculus.specs.Log.{Header, Step}
 use Rattle.calculus.specs.Rows.{Row}

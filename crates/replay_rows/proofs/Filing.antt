@@ -14,7 +14,7 @@ use Rattle.std.proofs.lemmas.Map.Text.{is_eq-slice_cmp}
 use Rattle.std.proofs.lemmas.Map.Keys.{sorted_head}
 use Rattle.std.proofs.lemmas.Slice.Eq.{bytes_eq-Decides}
 use Rattle.std.proofs.lemmas.List.{map-append}
-use Rattle.list_laws.proofs.Permutations.{moved_after, over}
+use Rattle.calculus.proofs.Permutations.{moved_after, over}
 use Rattle.replay_rows.specs.Filing.{is_key, Filed, seen_in_all}
 
 abbrev pub order : List ℕ → List ℕ → Ordering

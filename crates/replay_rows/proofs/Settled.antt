@@ -5,7 +5,7 @@ use Rattle.std.specs.Map.{lookup, set_value, remove_entry, keys_of}
 use Rattle.std.specs.List.Sorted.{IsStrictlySortedBy}
 use Rattle.std.proofs.lemmas.Grind.{flat_map-append}
 use Rattle.std.proofs.lemmas.Map.Keys.{sorted_tail}
-use Rattle.list_laws.proofs.Members.{Member, member-split}
+use Rattle.calculus.proofs.Members.{Member, member-split}
 use Rattle.replay_rows.specs.Filing.{is_key, Filed, seen_in_all, AllHave, AreUnder, first_with}
 use Rattle.replay_rows.proofs.Filing.{order, key-is, is-same, is-other, none-later, not-found}
 use Rattle.replay_rows.proofs.Under.{other-id, none-has}

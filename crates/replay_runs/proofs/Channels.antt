@@ -1,8 +1,8 @@
 -- Rows that may be stored have channels.
 use Rattle.std.proofs.Common.{◌≡◌, ◌≢◌, ◌≤◌, ℕ, true, List, [], ◌∷◌, length, map as each, sym, subst, arith, inl, inr}
 use Rattle.std.specs.Prelude.{All, IsPermutation}
-use Rattle.list_laws.proofs.Members.{Member}
-use Rattle.list_laws.proofs.Permutations.{moved_so}
+use Rattle.calculus.proofs.Members.{Member}
+use Rattle.calculus.proofs.Permutations.{moved_so}
 use Rattle.calculus.specs.Tree.{send, receive, Tree, node}
 use Rattle.calculus.specs.Shape.{at, held, listed}
 use Rattle.calculus.specs.Form.{part, Fits}

@@ -1,7 +1,7 @@
 -- The answer to a log whose hub is closed.
 use Rattle.std.proofs.Common.{◌≡◌, ◌≢◌, ◌<◌, ℕ, true, List, [], ◌∷◌, ◌++◌, length, map as each, refl, ap, sym, ◌∙◌, subst, arith, inl, inr}
 use Rattle.std.specs.Prelude.{◌⊎◌, None, Result, Ok, Err, IsPermutation}
-use Rattle.list_laws.proofs.Permutations.{join, moved_so}
+use Rattle.calculus.proofs.Permutations.{join, moved_so}
 use Rattle.calculus.specs.Log.{Step, Header}
 use Rattle.calculus.specs.Rows.{channels, Row, stdout, stdout_ack}
 use Rattle.calculus.specs.Runs.{Deploy, Work, Verdict, done, exhausted, faulted, verdict, next_rows, IsEnd}

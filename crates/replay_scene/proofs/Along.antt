@@ -6,8 +6,8 @@ use Rattle.calculus.specs.Rows.{Row}
 use Rattle.calculus.specs.Unfolding.{rows_of}
 use Rattle.calculus.specs.Steps.{standing}
 use Rattle.calculus.specs.Runs.{Deploy, Work, work_products}
-use Rattle.list_laws.proofs.Members.{Member, member-split, member-left, member-right}
-use Rattle.list_laws.proofs.Permutations.{unmoved}
+use Rattle.calculus.proofs.Members.{Member, member-split, member-left, member-right}
+use Rattle.calculus.proofs.Permutations.{unmoved}
 use Rattle.events.specs.Events.{AreFresh}
 use Rattle.events.proofs.Standing.{built_ins}
 use Rattle.hub_rule.specs.Counts.{numbered, things_of}

@@ -1,6 +1,6 @@
 -- Small facts of lists.
 use Rattle.std.proofs.Common.{◌≡◌, ℕ, Bool, true, false, cond, List, [], ◌∷◌, ◌++◌, map as each, refl, sym, ap, ◌∙◌, inl, inr, eqb, eqb-true, eq-eqb}
-use Rattle.list_laws.proofs.Members.{Member, Every}
+use Rattle.calculus.proofs.Members.{Member, Every}
 use Rattle.replay_scene.specs.Spaces.{IsIn}
 use Rattle.replay_scene.specs.Entries.{but_index}
 

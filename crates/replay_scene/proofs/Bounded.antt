@@ -5,7 +5,7 @@ use Rattle.std.proofs.lemmas.List.Sums.{sum_by-cons}
 use Rattle.calculus.specs.Outcome.{Prices}
 use Rattle.calculus.specs.Log.{Step}
 use Rattle.calculus.specs.Steps.{Bag, printed_line}
-use Rattle.list_laws.proofs.Members.{Member, member-split}
+use Rattle.calculus.proofs.Members.{Member, member-split}
 use Rattle.racing_replays.specs.Replaying.{DoneStep, Replay, done_steps, Replays, none_yet, one_more, Does}
 use Rattle.racing_replays.proofs.Lists.{AreSingle, single-more}
 use Rattle.racing_replays.proofs.Ledger.{entry-done}

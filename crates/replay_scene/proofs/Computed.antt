@@ -10,8 +10,8 @@ use Rattle.calculus.specs.Log.{Step}
 use Rattle.calculus.specs.Examples.{num, step, datum, receiver}
 use Rattle.calculus.specs.Rows.{stdout, stdout_ack}
 use Rattle.calculus.specs.Storing.{shard}
-use Rattle.list_laws.proofs.Members.{Member}
-use Rattle.list_laws.proofs.Permutations.{unmoved}
+use Rattle.calculus.proofs.Members.{Member}
+use Rattle.calculus.proofs.Permutations.{unmoved}
 use Rattle.events.specs.Examples.{no_work}
 use Rattle.events.specs.Laws.{Begins}
 use Rattle.events.proofs.Counts.{same_bytes}

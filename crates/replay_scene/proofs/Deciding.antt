@@ -6,7 +6,7 @@ use Rattle.calculus.specs.Unfolding.{Unfolds}
 use Rattle.calculus.specs.Steps.{Bag, Meeting, standing, differ, meeting, stored_rows}
 use Rattle.calculus.specs.Runs.{Deploy, source_seed, Work}
 use Rattle.calculus.proofs.States.{one_unfolding}
-use Rattle.list_laws.proofs.Permutations.{join, moved_so, moved-nothing, each-moved}
+use Rattle.calculus.proofs.Permutations.{join, moved_so, moved-nothing, each-moved}
 use Rattle.events.specs.Events.{stored, AreFresh}
 use Rattle.events.proofs.Counts.{ids, AreDistinct}
 use Rattle.events.proofs.Orders.{member-moved, times-moved}

@@ -5,7 +5,7 @@ use Rattle.calculus.specs.Log.{Step}
 use Rattle.calculus.specs.Rows.{Row, stdout, stdout_ack}
 use Rattle.calculus.specs.Steps.{standing, is_one_of}
 use Rattle.calculus.specs.Runs.{Deploy}
-use Rattle.list_laws.proofs.Members.{Member, member-left, member-right, member-each}
+use Rattle.calculus.proofs.Members.{Member, member-left, member-right, member-each}
 use Rattle.events.specs.Events.{stored}
 use Rattle.events.specs.Found.{without, leaving_rows, printed_by}
 use Rattle.events.proofs.Counts.{ids, member-times, times-one_of}

@@ -5,7 +5,7 @@ use Rattle.calculus.specs.Log.{Step}
 use Rattle.calculus.specs.Rows.{Row}
 use Rattle.calculus.specs.Steps.{Bag, Meeting, standing, meeting}
 use Rattle.calculus.specs.Runs.{Deploy, Work}
-use Rattle.list_laws.proofs.Members.{Member, Every, every-at, member-split, member-left, member-right, member-each}
+use Rattle.calculus.proofs.Members.{Member, Every, every-at, member-split, member-left, member-right, member-each}
 use Rattle.events.specs.Events.{stored}
 use Rattle.events.specs.Found.{met, without}
 use Rattle.events.proofs.Counts.{ids, AreDistinct}

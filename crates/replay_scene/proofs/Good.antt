@@ -4,7 +4,7 @@ use Rattle.std.specs.Prelude.{true, Option, Some, None, count_by, ◌∷◌}
 use Rattle.calculus.specs.Log.{Step}
 use Rattle.calculus.specs.Rows.{Row, channels}
 use Rattle.calculus.specs.Steps.{Bag, standing}
-use Rattle.list_laws.proofs.Members.{Member}
+use Rattle.calculus.proofs.Members.{Member}
 use Rattle.racing_replays.specs.Counted.{names_id}
 use Rattle.replay_scene.specs.Spaces.{SeenRow, NewRow, IndexTry, DidStep, Space, steps_did}
 

@@ -1,9 +1,9 @@
 -- What shards in hand tell of a space.
 use Rattle.std.proofs.Common.{◌≡◌, ℕ, true, List, [], ◌∷◌, ◌++◌, map as each, sym, ap, subst, ◌∙◌, inl, inr}
 use Rattle.std.specs.Prelude.{◌⊎◌}
-use Rattle.list_laws.proofs.Members.{Member, member-split, member-left, member-right}
+use Rattle.calculus.proofs.Members.{Member, member-split, member-left, member-right}
 use Rattle.events.proofs.Orders.{member-moved}
-use Rattle.list_laws.proofs.Permutations.{moved_so}
+use Rattle.calculus.proofs.Permutations.{moved_so}
 use Rattle.hub_rule.specs.Counts.{Each}
 use Rattle.replay_scene.specs.Spaces.{SeenRow, Part, Space, seen_in, IsPart}
 use Rattle.shard_rows.proofs.Following.{kept-in, kept-was}

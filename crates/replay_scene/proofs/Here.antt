@@ -5,7 +5,7 @@ use Rattle.calculus.specs.Log.{Step}
 use Rattle.calculus.specs.Rows.{Row}
 use Rattle.calculus.specs.Steps.{standing}
 use Rattle.calculus.specs.Runs.{Deploy}
-use Rattle.list_laws.proofs.Members.{Member, member-left, member-right}
+use Rattle.calculus.proofs.Members.{Member, member-left, member-right}
 use Rattle.events.specs.Events.{stored}
 use Rattle.events.proofs.Counts.{ids, times, AreDistinct, member-times, times-one_of, one_of-times}
 use Rattle.events.proofs.Standing.{ids-times}

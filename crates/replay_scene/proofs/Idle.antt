@@ -8,7 +8,7 @@ use Rattle.calculus.specs.Rows.{Row, channels, stdout, stdout_ack}
 use Rattle.calculus.specs.Storing.{shard}
 use Rattle.calculus.specs.Steps.{Meeting, standing, is_one_of}
 use Rattle.calculus.specs.Runs.{Deploy}
-use Rattle.list_laws.proofs.Members.{Member, Every, every-at, member-each}
+use Rattle.calculus.proofs.Members.{Member, Every, every-at, member-each}
 use Rattle.events.specs.Events.{stored}
 use Rattle.events.proofs.Counts.{ids, times, one_if, same_bytes, member-times, times-one_of}
 use Rattle.events.proofs.Spent.{row-of-id}

@@ -3,7 +3,7 @@ use Rattle.std.proofs.Common.{◌≡◌, ℕ, ◌≤◌, Bool, List, [], ◌∷�
 use Rattle.std.specs.Prelude.{flat_map, Some}
 use Rattle.calculus.specs.Log.{Step}
 use Rattle.calculus.specs.Runs.{Deploy}
-use Rattle.list_laws.proofs.Permutations.{join, moved_before}
+use Rattle.calculus.proofs.Permutations.{join, moved_before}
 use Rattle.events.proofs.Counts.{ids, times}
 use Rattle.racing_replays.specs.Laws.{first_bag, IsFresh}
 use Rattle.replay_scene.specs.Spaces.{NewRow, IndexTry, Job, arrive, try_index, Space, new_row}

@@ -7,7 +7,7 @@ use Rattle.calculus.specs.Log.{Step}
 use Rattle.calculus.specs.Rows.{Row, channels}
 use Rattle.calculus.specs.Steps.{Bag, is_one_of}
 use Rattle.calculus.specs.Runs.{Deploy}
-use Rattle.list_laws.proofs.Members.{Member, member-split, member-left, member-right, member-each}
+use Rattle.calculus.proofs.Members.{Member, member-split, member-left, member-right, member-each}
 use Rattle.run_entries.specs.Entries.{Making}
 use Rattle.racing_replays.specs.Replaying.{DoneStep}
 use Rattle.racing_replays.specs.Laws.{first_bag, IsFresh}

@@ -3,8 +3,8 @@ use Rattle.std.proofs.Common.{◌≡◌, ℕ, Bool, true, List, [], ◌∷◌, �
 use Rattle.calculus.specs.Log.{Step}
 use Rattle.calculus.specs.Steps.{is_one_of}
 use Rattle.calculus.specs.Runs.{Deploy}
-use Rattle.list_laws.proofs.Members.{Member, member-flat}
-use Rattle.list_laws.proofs.Permutations.{join, moved_before}
+use Rattle.calculus.proofs.Members.{Member, member-flat}
+use Rattle.calculus.proofs.Permutations.{join, moved_before}
 use Rattle.events.proofs.Counts.{ids, times, AreDistinct}
 use Rattle.events.proofs.Orders.{member-moved}
 use Rattle.events.proofs.Standing.{built_ins, ids-times}

@@ -4,7 +4,7 @@ use Rattle.std.specs.Prelude.{◌⊎◌, flat_map, Some}
 use Rattle.calculus.specs.Log.{Step}
 use Rattle.calculus.specs.Rows.{Row}
 use Rattle.calculus.specs.Steps.{Meeting, standing, is_one_of}
-use Rattle.list_laws.proofs.Members.{Member, every-at, member-split, member-left, member-right, member-each}
+use Rattle.calculus.proofs.Members.{Member, every-at, member-split, member-left, member-right, member-each}
 use Rattle.events.specs.Events.{stored}
 use Rattle.events.specs.Found.{met, without, leaving_rows}
 use Rattle.events.proofs.Counts.{ids, AreDistinct, member-times, times-one_of}

@@ -1,9 +1,9 @@
 -- A member is taken out of lists that are the same up to order.
 use Rattle.std.proofs.Common.{◌≡◌, ℕ, ◌≤◌, Bool, true, false, cond, List, [], ◌∷◌, ◌++◌, map as each, IsPermutation, refl, ap, subst, arith, inl, inr, eqb, eq-eqb, eqb-true}
 use Rattle.std.specs.Str.{bytes_eq}
-use Rattle.list_laws.proofs.Members.{Member}
-use Rattle.list_laws.specs.Exchanges.{Exchanges, nothing, under, neighbours, then}
-use Rattle.list_laws.proofs.Permutations.{exchanges, permuted, unmoved, keep, exchange, join, moved_back}
+use Rattle.calculus.proofs.Members.{Member}
+use Rattle.calculus.specs.Exchanges.{Exchanges, nothing, under, neighbours, then}
+use Rattle.calculus.proofs.Permutations.{exchanges, permuted, unmoved, keep, exchange, join, moved_back}
 use Rattle.events.proofs.Counts.{ids, times, one_if, member-times, same_bytes}
 use Rattle.replay_scene.specs.Spaces.{NewRow}
 use Rattle.replay_scene.specs.Entries.{but_row, but_index}

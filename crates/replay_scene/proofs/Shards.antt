@@ -6,9 +6,9 @@ use Rattle.std.specs.Str.{bytes_eq}
 use Rattle.calculus.specs.Log.{Step}
 use Rattle.calculus.specs.Rows.{Row}
 use Rattle.calculus.specs.Steps.{is_one_of, differ}
-use Rattle.list_laws.specs.Exchanges.{Exchanges, nothing, under, neighbours, then}
-use Rattle.list_laws.proofs.Members.{Member, member-left, member-right}
-use Rattle.list_laws.proofs.Permutations.{exchanges, unmoved, all_over, moved_before, moved_after, join, each-moved}
+use Rattle.calculus.specs.Exchanges.{Exchanges, nothing, under, neighbours, then}
+use Rattle.calculus.proofs.Members.{Member, member-left, member-right}
+use Rattle.calculus.proofs.Permutations.{exchanges, unmoved, all_over, moved_before, moved_after, join, each-moved}
 use Rattle.events.proofs.Counts.{ids, times, one_if, AreDistinct, distinct-differ}
 use Rattle.events.proofs.Orders.{times-moved}
 use Rattle.racing_replays.specs.Replaying.{ids_of}

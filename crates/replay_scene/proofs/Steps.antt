@@ -4,7 +4,7 @@ use Rattle.std.specs.Prelude.{◌⊎◌, flat_map, Some}
 use Rattle.calculus.specs.Log.{Step}
 use Rattle.calculus.specs.Steps.{Bag}
 use Rattle.calculus.specs.Runs.{Deploy}
-use Rattle.list_laws.proofs.Members.{Member, member-split}
+use Rattle.calculus.proofs.Members.{Member, member-split}
 use Rattle.racing_replays.specs.Racing.{arrival, done_index, idle_try}
 use Rattle.racing_replays.specs.Laws.{first_bag}
 use Rattle.replay_scene.specs.Spaces.{NewRow, IndexTry, Job, arrive, try_index, Space, new_row}

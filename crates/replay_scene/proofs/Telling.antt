@@ -5,7 +5,7 @@ use Rattle.calculus.specs.Log.{Step}
 use Rattle.calculus.specs.Rows.{Row}
 use Rattle.calculus.specs.Steps.{Bag, Meeting, meeting, stored_rows}
 use Rattle.calculus.specs.Runs.{Deploy, Work, Verdict, done, exhausted, faulted, next_rows, IsEnd}
-use Rattle.list_laws.proofs.Permutations.{unmoved}
+use Rattle.calculus.proofs.Permutations.{unmoved}
 use Rattle.events.specs.Events.{stored}
 use Rattle.replays.specs.Replays.{outcome_of, output_of, deploy_under, by_step, by_rest, by_end}
 use Rattle.replay_scene.specs.Closing.{IsLegalLog, in_log_order, did_verdict, IsDidOutcome}

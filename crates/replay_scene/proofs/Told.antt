@@ -4,7 +4,7 @@ use Rattle.std.specs.Str.{bytes_eq}
 use Rattle.calculus.specs.Log.{Step}
 use Rattle.calculus.specs.Rows.{Row}
 use Rattle.calculus.specs.Runs.{Deploy}
-use Rattle.list_laws.proofs.Members.{Member, member-each}
+use Rattle.calculus.proofs.Members.{Member, member-each}
 use Rattle.events.proofs.Counts.{ids, times, one_if, member-times, same_bytes}
 use Rattle.hub_rule.specs.Counts.{Each}
 use Rattle.racing_replays.specs.Racing.{next_use}

@@ -4,7 +4,7 @@ use Rattle.std.specs.Prelude.{option_map, flat_map}
 use Rattle.calculus.specs.Log.{Step}
 use Rattle.event_log.specs.declared.log.LogStep.{LogStep}
 use Rattle.event_log.specs.View.{step_of, steps_of}
-use Rattle.list_laws.proofs.Permutations.{unmoved}
+use Rattle.calculus.proofs.Permutations.{unmoved}
 use Rattle.run_entries.specs.Entries.{Making}
 use Rattle.replay_scene.specs.Spaces.{IndexTry}
 use Rattle.replay_scene.specs.Entries.{does, left_of, PartBecomes}

@@ -1,7 +1,7 @@
 -- What the shards in hand show, as the draws of a replay's hub ask it.
 use Rattle.std.proofs.Common.{◌≡◌, ◌<◌, ℕ, suc, ◌+◌, Bool, true, false, List, [], ◌∷◌, ◌++◌, length, refl, sym, ap, subst, ◌∙◌, inl, inr, arith, eqb, eqb-true}
 use Rattle.std.specs.Prelude.{◌⊎◌, Option, Some, None, IsSome}
-use Rattle.list_laws.proofs.Members.{Member, member-split, member-left, member-right}
+use Rattle.calculus.proofs.Members.{Member, member-split, member-left, member-right}
 use Rattle.calculus.specs.Log.{Step}
 use Rattle.calculus.specs.Storing.{shard}
 use Rattle.hub_rule.specs.Counts.{count, one_if, Each}

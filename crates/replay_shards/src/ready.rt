@@ -1,6 +1,6 @@
 //! What a step may be done with.
+use found_rows::Found;
 use replay_rows::sharded::ShardedChannel;
-use row_search::Found;
 
 /// The number of a step that is to be tried, with a channel of one of the rows that it names.
 #[derive(Drop)]

@@ -1,3 +1,4 @@
+pub mod Firsts
 pub mod Stepping
 pub mod Placing
 pub mod Arriving

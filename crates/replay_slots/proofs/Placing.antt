@@ -2,7 +2,7 @@
 use Rattle.std.proofs.Common.{◌≡◌, ◌<◌, ◌≤◌, ◌+◌, ℕ, zero, suc, Bool, true, false, cond, List, [], ◌∷◌, ◌++◌, map as each, length, refl, sym, ap, subst, ◌∙◌, inl, inr, arith, get_or}
 use Rattle.std.specs.Prelude.{◌⊎◌, set, Some, None, IsSome, option_map}
 use Rattle.std.specs.Str.{bytes_eq}
-use Rattle.list_laws.proofs.Members.{Member, member-left, member-right}
+use Rattle.calculus.proofs.Members.{Member, member-left, member-right}
 use Rattle.replay_scene.specs.Spaces.{SeenRow, Part}
 use Rattle.replay_rows.specs.Rows.{part_of, find_seen}
 use Rattle.replay_slots.specs.Hands.{InHand, Slot, parts_of, shard_at, shown_at, all_shown, AreSlotsFiled, IsSlotFiled, HasRoomAt}

@@ -4,7 +4,7 @@ use Rattle.std.specs.Prelude.{◌⊎◌, ◌↔◌, count_by, Option, Some, None
 use Rattle.calculus.specs.Log.{Step}
 use Rattle.calculus.specs.Rows.{Row}
 use Rattle.calculus.specs.Steps.{Bag, standing, is_one_of}
-use Rattle.list_laws.proofs.Members.{Member}
+use Rattle.calculus.proofs.Members.{Member}
 use Rattle.events.proofs.Counts.{ids, times, AreDistinct, member-times, times-one_of, one_of-times}
 use Rattle.events.proofs.Standing.{ids-times}
 use Rattle.racing_replays.specs.Replaying.{DoneStep, done_steps, rows_by, is_done, names, ids_before, is_due, all_done, ids_of}

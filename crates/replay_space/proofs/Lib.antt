@@ -7,5 +7,4 @@ pub mod Drafting
 pub mod Placed
 pub mod Kept
 pub mod Computed
-pub mod Turned
 pub mod Fitting

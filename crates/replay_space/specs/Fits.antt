@@ -1,7 +1,6 @@
 -- Rows that fit a step of a log, by what is kept of them.
 use Rattle.std.specs.Prelude.{◌≡◌, ◌↔◌, true, ◌&&◌, ◌||◌, eqb, List, [], ◌∷◌, ◌++◌, count_by, Some, None}
 use Rattle.calculus.specs.Log.{Step}
-use Rattle.calculus.specs.Rows.{Row}
 use Rattle.calculus.specs.Steps.{Meeting, differ, same_meeting, meeting}
 use Rattle.calculus.specs.Runs.{Deploy, Work}
 use Rattle.events.specs.Events.{stored}
@@ -10,12 +9,7 @@ use Rattle.racing_replays.specs.Replaying.{names, ids_of, is_due}
 use Rattle.racing_replays.specs.Racing.{RacingState, Races}
 use Rattle.racing_replays.specs.Laws.{first_bag, IsFresh}
 use Rattle.racing_replays.specs.Possible.{HaveArrived, Fits}
-use Rattle.replay_space.specs.declared.seen.Seen.{Seen}
 use Rattle.replay_space.specs.Kept.{SeenRow, bare, Throughout, IsSeen, IsTheirTurn}
-
--- what is kept of a row
-abbrev pub seen_of : Seen Row → SeenRow
-seen_of q = record { row = q.row; from = q.from; done = q.done }
 
 -- Rows fit a step that stands in the log after these: they have the ids that it names, those of its data differ, and they meet; the step is the next use of each, and none was offered by a
 -- step that is not below it; and its repeat number is how often it stands before itself, and 0 unless no row leaves.

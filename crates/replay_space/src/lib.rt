@@ -1,4 +1,4 @@
-//! What a worker of a replay reads of a log, and which step it may do now.
+//! What a worker of a replay reads of a log.
 #![tactic(auto)]
 
 mod draft;
@@ -10,8 +10,6 @@ mod naming;
 mod repeats;
 pub mod rig;
 pub mod seen;
-pub mod turn;
 
 pub use rig::Rig;
 pub use seen::Seen;
-pub use turn::are_turns;

@@ -6,7 +6,7 @@ use Rattle.std.specs.Prelude.{◌⊎◌, Result, Ok, Err, IfOk, OnOk, filter, sl
 use Rattle.std.proofs.Math.Seq.{take-suc}
 use Rattle.std.proofs.lemmas.List.Elements.{All-nil, All-cons, All-append}
 use Rattle.std.proofs.lemmas.List.{map-append}
-use Rattle.list_laws.proofs.Permutations.{join, moved_before}
+use Rattle.calculus.proofs.Permutations.{join, moved_before}
 use Rattle.calculus.specs.Rows.{Row}
 use Rattle.shard_rows.specs.Shards.{stands_in}
 use Rattle.replay_scene.specs.Spaces.{SeenRow, Part, IndexTry, new_row, seen_in, standing_row}

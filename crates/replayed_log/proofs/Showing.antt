@@ -2,7 +2,7 @@
 use Rattle.std.proofs.Common.{◌≡◌, ◌≤◌, ℕ, suc, true, List, [], ◌∷◌, ◌++◌, length, refl, sym, ap, subst, ◌∙◌, inl, inr, arith}
 use Rattle.std.specs.Prelude.{◌⊎◌, Option, Some, None, is_some, MatchOption}
 use Rattle.std.proofs.lemmas.List.{length-append}
-use Rattle.list_laws.proofs.Members.{Member, member-split}
+use Rattle.calculus.proofs.Members.{Member, member-split}
 use Rattle.calculus.specs.Log.{Step}
 use Rattle.calculus.specs.Storing.{shard}
 use Rattle.calculus.specs.Tree.{Tree}

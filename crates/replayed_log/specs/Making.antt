@@ -8,6 +8,7 @@ use Rattle.calculus.specs.Seeds.{digest_of, Comm}
 use Rattle.calculus.specs.Tree.{Tree}
 use Rattle.calculus.specs.Unfolding.{rows_of, UnfoldsUnder}
 use Rattle.event_log.specs.declared.log.LogStep.{LogStep}
+use Rattle.found_rows.specs.Making.{printed_line}
 use Rattle.replay_scene.specs.Spaces.{IndexTry}
 use Rattle.replay_hub.specs.declared.deed.Did.TheVariants.{Done}
 use Rattle.replay_hub.specs.declared.deed.Try.{Try}
@@ -15,7 +16,6 @@ use Rattle.replay_hub.specs.Values.{line_items, offers_of}
 use Rattle.replay_worker.specs.declared.tables.Doing.{Doing}
 use Rattle.replay_shards.specs.declared.ready.Ready.{Ready}
 use Rattle.replay_shards.specs.Ready.{index_tries}
-use Rattle.step_work.specs.Making.{printed_line}
 
 -- a try of a hub
 abbrev pub seen_try : Try Tree → IndexTry

@@ -1,7 +1,7 @@
 -- The least allowed step, as the candidates show it.
 use Rattle.std.proofs.Common.{◌≡◌, Bool, true, false, ◌&&◌, ◌||◌, List, [], ◌∷◌, refl, sym, subst, inl, inr}
 use Rattle.std.specs.Prelude.{Option, Some, None, is_none, IsSome}
-use Rattle.list_laws.proofs.Members.{Member}
+use Rattle.calculus.proofs.Members.{Member}
 use Rattle.calculus.specs.Log.{Step}
 use Rattle.calculus.specs.Steps.{Bag, Meeting, meeting}
 use Rattle.calculus.specs.Candidates.{ids_up_to, IsLeastAllowed, candidates}

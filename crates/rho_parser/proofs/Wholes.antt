@@ -22,7 +22,7 @@ use Rattle.rho_lexer.specs.declared.token.Token.{Token}
 use Rattle.token_cursor.specs.Meaning.{most_height, plain_tokens, view}
 use Rattle.calculus.specs.declared.process.Proc.{Proc}
 use Rattle.std.specs.Prelude.{IfErr, IfOk}
-use Rattle.rho_parser.specs.declared.parse_fault.ParseFault.{ParseFault}
+use Rattle.input_faults.specs.declared.parse_fault.ParseFault.{ParseFault}
 use Rattle.rho_parser.specs.Parsed.{AreOfText, IsRefused, place_of, IsTooDeep, IsIllFormed}
 use Rattle.rho_parser.proofs.Ends.{end_is_last}
 

@@ -7,8 +7,8 @@ use Rattle.grammar.specs.Spells.{SpellsNothing}
 use Rattle.places.specs.Places.{PassesAt, EndsAt}
 use Rattle.rho_lexer.specs.Meaning.{spanned_tokens}
 use Rattle.rho_lexer.specs.declared.token.Token.{Token}
-use Rattle.rho_parser.specs.declared.parse_fault.ParseFault.{ParseFault}
-use Rattle.rho_parser.specs.declared.parse_fault.ParseFault.TheVariants.{Syntax, TooDeep, NoMemory}
+use Rattle.input_faults.specs.declared.parse_fault.ParseFault.{ParseFault}
+use Rattle.input_faults.specs.declared.parse_fault.ParseFault.TheVariants.{Syntax, TooDeep, NoMemory}
 use Rattle.token_cursor.specs.Meaning.{most_height, plain_tokens}
 
 -- the tokens of some text: each has its form, and the end stands last and nowhere else

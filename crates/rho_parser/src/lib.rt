@@ -2,9 +2,8 @@
 //! the grammar.
 #![tactic(auto)]
 
-pub mod parse_fault;
 pub mod whole;
 
 pub use grammar::Dialect;
-pub use parse_fault::ParseFault;
+pub use input_faults::ParseFault;
 pub use whole::parse;

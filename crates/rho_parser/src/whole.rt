@@ -8,9 +8,9 @@ ghost use Rattle.token_cursor.specs.Meaning.{most_height, plain_tokens};
 ghost use Rattle.rho_parser.specs.Parsed.{AreOfText, IsRefused, place_of};
 ghost use Rattle.tokens.specs.Token.{source};
 
-use crate::parse_fault::ParseFault;
 use calculus::Proc;
 use grammar::{Dialect, Fault};
+use input_faults::ParseFault;
 use process_descent::Parser;
 use rho_lexer::Token;
 use std::alloc::Global;

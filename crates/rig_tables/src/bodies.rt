@@ -4,9 +4,9 @@ ghost use Rattle.calculus.specs.Substitution.{put};
 
 use calculus::Digest;
 use event_log::{LogStep, MOST_DATA};
+use found_rows::Found;
 use name_seed::Seed;
 use price_table::Prices;
-use row_search::Found;
 use source_rows::MOST_COST;
 use space_row::Row;
 use std::alloc::{AllocError, Global};

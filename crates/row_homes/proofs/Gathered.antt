@@ -3,8 +3,8 @@ use Rattle.std.proofs.Common.{◌≡◌, ◌≢◌, ◌≤◌, ℕ, zero, suc, �
 use Rattle.std.specs.Prelude.{filter, slice_get, Some, IsPermutation}
 use Rattle.std.specs.List.{list_any}
 use Rattle.std.proofs.lemmas.List.{append_assoc}
-use Rattle.list_laws.proofs.Members.{Member}
-use Rattle.list_laws.proofs.Permutations.{unmoved, keep, join, over, moved_after, moved_before, moved_so}
+use Rattle.calculus.proofs.Members.{Member}
+use Rattle.calculus.proofs.Permutations.{unmoved, keep, join, over, moved_after, moved_before, moved_so}
 use Rattle.calculus.specs.Tree.{Tree}
 use Rattle.calculus.specs.Rows.{Row, channels}
 use Rattle.calculus.specs.Storing.{shard}

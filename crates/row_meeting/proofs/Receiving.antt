@@ -18,13 +18,13 @@ use Rattle.calculus.specs.Shape.{held, listed, at}
 use Rattle.calculus.proofs.Placing.{listed-trees}
 use Rattle.closed_row_laws.proofs.Meeting.{IfThere, MeetingCloses, rows-bind, rows-close}
 use Rattle.events.specs.Found.{alone, met, is_lasting, leaving_rows, leaving_sends, Among}
-use Rattle.list_laws.proofs.Members.{Every}
+use Rattle.calculus.proofs.Members.{Every}
 use Rattle.rho_term.specs.declared.op.Op.TheVariants as op
 use Rattle.rho_term.specs.declared.term.TermBind.{TermBind}
 use Rattle.rho_term.specs.Parts.{bind_tree}
 use Rattle.rho_term.specs.Rows.{row_of_op}
 use Rattle.row_search.specs.Choices.{Choice, AreChosen, gone_ids, takes}
-use Rattle.row_search.specs.declared.found.Found.{Found}
+use Rattle.found_rows.specs.declared.found.Found.{Found}
 use Rattle.row_search.proofs.Complete.{AreMet, receiver-takes}
 use Rattle.row_search.proofs.Distinct.{differs}
 use Rattle.row_search.proofs.Heard.{none-if}

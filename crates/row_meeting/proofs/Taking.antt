@@ -20,7 +20,7 @@ use Rattle.rho_term.specs.Parts.{bind_tree}
 use Rattle.rho_term.specs.Rows.{row_of_op}
 use Rattle.row_search.specs.Choices.{Choice, bound_by, gone_ids, takes}
 use Rattle.row_search.specs.Rows.{is_persistent}
-use Rattle.row_search.specs.declared.found.Found.{Found}
+use Rattle.found_rows.specs.declared.found.Found.{Found}
 use Rattle.row_search.proofs.Taking.{send-none, send-some}
 use Rattle.row_search.proofs.Looping.{bytes_of, map-append, take-is, take-whole}
 use Rattle.match_targets.specs.Found.{IsFirst}

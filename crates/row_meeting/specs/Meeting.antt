@@ -6,8 +6,9 @@ use Rattle.calculus.specs.Steps.{Meeting, differ}
 use Rattle.calculus.specs.Storing.{IsStorable}
 use Rattle.calculus.specs.Substitution.{put}
 use Rattle.events.specs.Found.{met, is_lasting, leaving_rows}
-use Rattle.row_search.specs.Meetings.{rows_with, IdsTell}
-use Rattle.row_search.specs.declared.found.Found.{Found}
+use Rattle.row_search.specs.Meetings.{rows_with}
+use Rattle.found_rows.specs.AtHand.{IdsTell}
+use Rattle.found_rows.specs.declared.found.Found.{Found}
 
 -- A receiver's row meets the rows of these sends, all of which may be stored. This tells the ids of the receiver, of the sends and of what leaves, what is bound, the receiver's body, and
 -- whether nothing leaves. What is bound is closed, and so is the body under it. There are 1 to 16 sends, and they differ in their ids wherever ids tell these rows.

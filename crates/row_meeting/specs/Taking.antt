@@ -12,7 +12,7 @@ use Rattle.calculus.specs.Tree.{Tree}
 use Rattle.rho_term.specs.declared.term.TermBind.{TermBind}
 use Rattle.row_search.specs.Choices.{Choice, bound_by, chosen_ids, gone_ids, takes}
 use Rattle.row_search.specs.Rows.{is_persistent}
-use Rattle.row_search.specs.declared.found.Found.{Found}
+use Rattle.found_rows.specs.declared.found.Found.{Found}
 
 -- one by one these binds take these rows, and these are the choices
 abbrev pub AreTaken : List TermBind → List Row → List Choice → Type 0

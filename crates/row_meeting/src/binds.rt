@@ -10,8 +10,8 @@ ghost use Rattle.row_search.specs.Rows.{is_persistent};
 ghost use Rattle.row_meeting.specs.Taking.{Adds, AreNotTaken, Begins, Binds, Gathers};
 
 use calculus::{Digest, Kind};
+use found_rows::Found;
 use rho_term::{Op, Term, TermBind};
-use row_search::Found;
 use space_row::Row;
 use spatial_match::match_bind;
 use std::alloc::{AllocError, Global};

@@ -4,8 +4,8 @@ ghost use Rattle.events.specs.Found.{met};
 ghost use Rattle.row_meeting.specs.Meeting.{IsMeeting};
 
 use crate::binds::take_sends;
+use found_rows::Found;
 use rho_term::Op;
-use row_search::Found;
 use space_row::Row;
 use std::alloc::{AllocError, Global};
 

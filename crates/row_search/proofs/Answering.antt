@@ -16,7 +16,7 @@ use Rattle.rho_term.specs.declared.term.TermBind.{TermBind}
 use Rattle.rho_term.specs.Rows.{row_of_op}
 use Rattle.storable_row_laws.specs.Laws.{AreApart}
 use Rattle.row_search.specs.declared.choices.Joined.{Joined}
-use Rattle.row_search.specs.declared.found.Found.{Found}
+use Rattle.found_rows.specs.declared.found.Found.{Found}
 use Rattle.row_search.specs.Rows.{is_heard_on, is_sent_on, looked_up, HasReceivers}
 use Rattle.row_search.specs.Choices.{Choice, Fails, Joins}
 use Rattle.row_search.specs.Meetings.{rows_with, Finishes, HearsOrIs, IsFound, IsSendOn, MayMeet, MeetsNone, MeetsNothing}

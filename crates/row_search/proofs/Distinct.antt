@@ -12,7 +12,8 @@ use Rattle.rho_term.specs.declared.term.TermBind.{TermBind}
 use Rattle.rho_term.specs.Parts.{bind_tree}
 use Rattle.storable_row_laws.specs.Laws.{IsApart, AreApart}
 use Rattle.row_search.specs.Choices.{Choice, AreChosen, takes}
-use Rattle.row_search.specs.Meetings.{rows_with, IdsTell}
+use Rattle.row_search.specs.Meetings.{rows_with}
+use Rattle.found_rows.specs.AtHand.{IdsTell}
 use Rattle.row_search.proofs.Known.{bind_channels}
 use Rattle.row_search.proofs.Taking.{and_then, on_channel}
 use Rattle.row_search.proofs.Apart.{both, no-both}

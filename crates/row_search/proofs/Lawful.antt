@@ -8,7 +8,8 @@ use Rattle.events.proofs.Lookups.{row_with, row_with-there}
 use Rattle.events.proofs.Following.{operation-distinct}
 use Rattle.events.proofs.Keeping.{kept-all}
 use Rattle.events.proofs.Making.{lonely_operations_are_stored, meetings_are_steps, member}
-use Rattle.row_search.specs.Meetings.{rows_with, AllAmong, IdsTell}
+use Rattle.row_search.specs.Meetings.{rows_with, AllAmong}
+use Rattle.found_rows.specs.AtHand.{IdsTell}
 use Rattle.row_search.specs.Laws.{HoldRows, NothingIsAtHand, FoundIsAtHand, NothingIsStored, FoundIsNext}
 use Rattle.row_search.proofs.Sound.{among-last, among-left}
 use Rattle.row_search.proofs.Complete.{whose}

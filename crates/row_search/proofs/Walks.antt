@@ -7,7 +7,7 @@ use Rattle.calculus.specs.declared.ids.Digest.{Digest}
 use Rattle.calculus.specs.Rows.{Row}
 use Rattle.rho_term.specs.declared.term.TermBind.{TermBind}
 use Rattle.row_search.specs.declared.choices.Chosen.{Chosen}
-use Rattle.row_search.specs.declared.found.Found.{Found}
+use Rattle.found_rows.specs.declared.found.Found.{Found}
 use Rattle.row_search.specs.Rows.{row_with, with_row, looked_up}
 use Rattle.row_search.specs.Choices.{Binds, Chooses, first_taken, takes}
 use Rattle.row_search.specs.Meetings.{IsFound, MeetsNone}

@@ -1,14 +1,13 @@
 -- What the search means to events. Each law stands in the contract of a public function that does nothing.
-use Rattle.std.specs.Prelude.{◌≡◌, ℕ, true, false, List, [], ◌∷◌, ◌++◌, map as each, Some, None, All}
+use Rattle.std.specs.Prelude.{◌≡◌, ℕ, false, List, [], ◌∷◌, ◌++◌, map as each, Some, None}
 use Rattle.calculus.specs.Rows.{Row, stdout, stdout_ack}
-use Rattle.calculus.specs.Storing.{IsStorable}
-use Rattle.calculus.specs.Steps.{Meeting, differ}
 use Rattle.calculus.specs.Runs.{Deploy, Work, body_work}
 use Rattle.events.specs.Events.{Core, started, after_put, Event, Events, AreFresh}
-use Rattle.events.specs.Found.{met, Among, AreAtHand, is_lasting, after_meeting, leaving_rows, step_of}
+use Rattle.events.specs.Found.{met, Among, AreAtHand, after_meeting, step_of}
 use Rattle.events.specs.Laws.{Begins}
-use Rattle.row_search.specs.declared.found.Found.{Found}
-use Rattle.row_search.specs.Meetings.{IdsTell, MeetsNothing, IsFound}
+use Rattle.found_rows.specs.declared.found.Found.{Found}
+use Rattle.row_search.specs.Meetings.{MeetsNothing, IsFound}
+use Rattle.found_rows.specs.AtHand.{MeetsAtHand}
 
 -- these rows are the stored ones and the built-in receivers, in any order
 pub record HoldRows (store rows : List Row) : Type 0 where
@@ -19,23 +18,6 @@ pub record HoldRows (store rows : List Row) : Type 0 where
 abbrev pub NothingIsAtHand : Type 0
 NothingIsAtHand = (store rows : List Row) → HoldRows store rows → (o : Row) → MeetsNothing rows o
     → (r : Row) (ds : List Row) → AreAtHand store o (r ∷ ds) → Among o (r ∷ ds) → met (r ∷ ds) ≡ None
-
--- what is found are stored rows and built-in receivers that meet, the operation among them
-pub record MeetsAtHand (store : List Row) (o : Row) (f : Found) : Type 0 where
-  pub receiver : Row
-  pub sends : List Row
-  pub at_hand : AreAtHand store o (receiver ∷ sends)
-  pub part : Among o (receiver ∷ sends)
-  pub storable : All IsStorable (receiver ∷ sends)
-  pub differs : IdsTell (store ++ (stdout ∷ stdout_ack ∷ o ∷ [])) → differ (each (λ d. d.id) sends) ≡ true
-  pub meeting : Meeting
-  pub meets : met (receiver ∷ sends) ≡ Some meeting
-  pub cont : f.cont.0 ≡ receiver.id
-  pub taken : each (λ d. d.0) f.taken.items ≡ each (λ d. d.id) sends
-  pub bound : f.bound.items ≡ meeting.bindings
-  pub body : f.body ≡ meeting.receiver.body
-  pub gone : each (λ d. d.0) f.gone.items ≡ each (λ r. r.id) (leaving_rows meeting.receiver.kind meeting.sends (receiver ∷ sends))
-  pub lasting : f.lasting ≡ is_lasting meeting
 
 -- what is found is at hand
 abbrev pub FoundIsAtHand : Type 0

@@ -7,7 +7,8 @@ use Rattle.calculus.specs.Rows.{Row}
 use Rattle.calculus.specs.Storing.{IsStorable}
 use Rattle.calculus.specs.Steps.{Datum, Meeting, as_datum, differ, stays}
 use Rattle.events.specs.Found.{met, is_lasting, leaving_rows, Among}
-use Rattle.row_search.specs.declared.found.Found.{Found}
+use Rattle.found_rows.specs.declared.found.Found.{Found}
+use Rattle.found_rows.specs.AtHand.{IdsTell}
 use Rattle.row_search.specs.declared.choices.Joined.{Joined}
 use Rattle.row_search.specs.Rows.{is_heard_on}
 
@@ -19,10 +20,6 @@ rows_with rows o = rows ++ o ∷ []
 abbrev pub AllAmong : List Row → List Row → Type 0
 AllAmong [] qs = ⊤
 AllAmong (r ∷ rs) qs = Among r qs × AllAmong rs qs
-
--- an id tells which of these rows it is
-abbrev pub IdsTell : List Row → Type 0
-IdsTell rs = (a b : Row) → Among a rs → Among b rs → a.id ≡ b.id → a ≡ b
 
 -- no rows at hand meet, the operation among them
 abbrev pub MeetsNothing : List Row → Row → Type 0

@@ -11,22 +11,10 @@ use crate::choices::{Joined, join};
 use crate::compare::is_heard_on;
 use crate::rows::RowsAtHand;
 use calculus::{Digest, Kind};
+use found_rows::Found;
 use rho_term::{Op, Term};
 use space_row::Row;
 use std::alloc::{AllocError, Global};
-
-/// Rows that meet: the ids of the receiver and of the sends in the order of its binds, what these bind,
-/// the receiver's body, the ids of the rows that leave, and whether none leaves, so that the same rows
-/// may meet again.
-#[derive(Drop)]
-pub struct Found {
-    pub cont: Digest,
-    pub taken: Vec<Digest>,
-    pub bound: Vec<Term>,
-    pub body: Term,
-    pub gone: Vec<Digest>,
-    pub lasting: bool,
-}
 
 /// The rows at hand that meet, the operation among them, and None exactly where no rows do.
 ///

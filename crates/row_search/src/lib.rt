@@ -11,5 +11,5 @@ mod found;
 pub mod laws;
 pub mod rows;
 
-pub use found::{Found, first_step};
+pub use found::first_step;
 pub use rows::RowsAtHand;

@@ -6,7 +6,7 @@ use Rattle.std.specs.List.{AllByRecursion}
 use Rattle.std.specs.declared.alloc.Global.{Global}
 use Rattle.std.specs.declared.vec.Vec.{Vec}
 use Rattle.std.proofs.lemmas.Nat.Bits.{bit_at-zero, bit_at-lt}
-use Rattle.list_laws.proofs.Members.{Every, Member}
+use Rattle.calculus.proofs.Members.{Every, Member}
 use Rattle.calculus.specs.Tree.{Tree}
 use Rattle.calculus.specs.Code.{code}
 use Rattle.calculus.specs.Congruence.{congruent}

@@ -7,8 +7,8 @@ use Rattle.std.specs.Prelude.{set}
 use Rattle.std.proofs.lemmas.Bool.Decides.{nat_tests}
 use Rattle.std.proofs.lemmas.List.{get_or-set_same, get_or-set_other}
 use Rattle.std.specs.declared.alloc.AllocError.{AllocError}
-use Rattle.list_laws.proofs.Members.{Member}
-use Rattle.list_laws.proofs.Permutations.{unmoved, join, all_over, moved_so}
+use Rattle.calculus.proofs.Members.{Member}
+use Rattle.calculus.proofs.Permutations.{unmoved, join, all_over, moved_so}
 use Rattle.calculus.specs.Rows.{Row}
 use Rattle.calculus.specs.Steps.{is_one_of, differ}
 use Rattle.events.specs.Found.{without}

@@ -2,7 +2,7 @@
 use Rattle.std.proofs.Common.{◌≡◌, ℕ, Bool, true, false, cond, ◌||◌, List, [], ◌∷◌, ◌++◌, refl, sym, ap, subst, ◌∙◌, inl, inr}
 use Rattle.std.specs.Prelude.{filter, Option, Some, None}
 use Rattle.std.specs.Str.{bytes_eq}
-use Rattle.list_laws.proofs.Members.{Member}
+use Rattle.calculus.proofs.Members.{Member}
 use Rattle.calculus.specs.Rows.{Row}
 use Rattle.calculus.specs.Steps.{is_one_of}
 use Rattle.events.specs.Found.{without}

@@ -7,7 +7,7 @@ use Rattle.std.specs.Prelude.{⊤, Option, Some, None, is_some, MatchOption}
 use Rattle.std.specs.Option.{option_copied}
 use Rattle.std.proofs.lemmas.List.{at_drop_more}
 use Rattle.std.specs.List.{list_any}
-use Rattle.list_laws.proofs.Members.{Member}
+use Rattle.calculus.proofs.Members.{Member}
 use Rattle.calculus.specs.Rows.{Row}
 use Rattle.events.proofs.Making.{among, member}
 use Rattle.shard_rows.specs.Shards.{stands_in}
@@ -15,7 +15,7 @@ use Rattle.shard_rows.specs.Hands.{hears, shows}
 use Rattle.shard_rows.proofs.Standing.{any-true, any-one}
 use Rattle.shard_tables.specs.Hands.{AreInHand}
 use Rattle.rspace_table.specs.Shown.{shown_by}
-use Rattle.row_search.specs.declared.found.Found.{Found}
+use Rattle.found_rows.specs.declared.found.Found.{Found}
 use Rattle.row_search.specs.Meetings.{MeetsNothing}
 use Rattle.row_search.specs.Rows.{row_with}
 use Rattle.rspace_table.specs.Hands.{InHand, shard_at, shown_at, sends_of, all_sends, rows_for, StandIn, IsInPlace, MeetsNoneAt, MeetsAt, MeetsNoReceiver, MeetsAReceiver}

@@ -1,7 +1,7 @@
 -- What a search among the shards in hand tells.
 use Rattle.std.proofs.Common.{◌≡◌, ℕ, zero, suc, Bool, true, false, ◌||◌, cond, List, [], ◌∷◌, ◌++◌, filter, map as each, refl, sym, ap, subst, ◌∙◌, inl, inr}
 use Rattle.std.specs.Prelude.{◌⊎◌, Option, Some, None, is_some}
-use Rattle.list_laws.proofs.Members.{Member, member-split, member-left, member-right}
+use Rattle.calculus.proofs.Members.{Member, member-split, member-left, member-right}
 use Rattle.calculus.specs.Tree.{Tree, node, send, receive}
 use Rattle.calculus.specs.Shape.{at, listed}
 use Rattle.calculus.specs.Congruence.{congruent}
@@ -12,10 +12,10 @@ use Rattle.events.specs.Found.{Among, AreAtHand}
 use Rattle.std.specs.Str.{bytes_eq}
 use Rattle.events.proofs.Counts.{same_bytes, bytes_same}
 use Rattle.events.proofs.Making.{among, member}
-use Rattle.row_search.specs.declared.found.Found.{Found}
+use Rattle.found_rows.specs.declared.found.Found.{Found}
 use Rattle.row_search.specs.Rows.{is_one_channel, row_with, with_row, looked_up, HasSends, HasReceivers}
 use Rattle.row_search.specs.Meetings.{rows_with, AllAmong, IsFound}
-use Rattle.row_search.specs.Laws.{MeetsAtHand}
+use Rattle.found_rows.specs.AtHand.{MeetsAtHand}
 use Rattle.row_search.proofs.Complete.{whose}
 use Rattle.row_search.proofs.Sound.{among-left}
 use Rattle.run_entries.specs.Allowed.{IdsTell, rows_at_hand}

@@ -7,7 +7,7 @@ use native.Mathlib.Decide.{ℕ_discrete}
 use Rattle.std.proofs.lemmas.List.{get_or-set_same, get_or-set_other}
 use Rattle.std.proofs.lemmas.Option.{get_or_from_slice_get, slice_get-get_or, slice_get_within}
 use Rattle.std.specs.Str.{bytes_eq}
-use Rattle.list_laws.proofs.Permutations.{unmoved, join, keep, all_over, moved_so, moved_before}
+use Rattle.calculus.proofs.Permutations.{unmoved, join, keep, all_over, moved_so, moved_before}
 use Rattle.calculus.specs.Rows.{Row, stdout, stdout_ack}
 use Rattle.calculus.specs.Steps.{is_one_of}
 use Rattle.calculus.proofs.Opened.{hashing}

@@ -2,14 +2,14 @@
 use Rattle.std.proofs.Common.{◌≡◌, ℕ, true, List, [], ◌∷◌, ◌++◌, refl, sym, ap, subst, inl, inr}
 use Rattle.std.specs.Prelude.{◌⊎◌, Option, Some, None, is_some, Result, Ok, Err, IfOk, IfSome, MatchOption}
 use Rattle.std.specs.declared.alloc.AllocError.{AllocError}
-use Rattle.list_laws.proofs.Members.{Member, member-right}
+use Rattle.calculus.proofs.Members.{Member, member-right}
 use Rattle.calculus.specs.Rows.{Row, stdout, stdout_ack}
 use Rattle.calculus.specs.Steps.{Meeting, as_datum}
 use Rattle.events.specs.Found.{met, Among, AreAtHand}
 use Rattle.events.proofs.Making.{among, member}
-use Rattle.row_search.specs.declared.found.Found.{Found}
+use Rattle.found_rows.specs.declared.found.Found.{Found}
 use Rattle.row_search.specs.Meetings.{rows_with, AllAmong, IsFound, MeetsNothing as FindsNothing}
-use Rattle.row_search.specs.Laws.{MeetsAtHand}
+use Rattle.found_rows.specs.AtHand.{MeetsAtHand}
 use Rattle.row_search.proofs.Sound.{among-last}
 use Rattle.run_entries.specs.Allowed.{IdsTell, MeetsNothing, rows_at_hand}
 use Rattle.shard_rows.proofs.Holding.{beside, of-hand}
@@ -17,7 +17,7 @@ use Rattle.shard_rows.proofs.Meeting.{met-on}
 use Rattle.shard_tables.specs.Hands.{AreInHand}
 use Rattle.rspace_table.specs.Hands.{InHand, shard_at, is_receive, rows_for, AreBuiltIns, MeetsNoReceiver, MeetsAReceiver}
 use Rattle.rspace_table.proofs.Searching.{not-both, found-in, receive-shown, send-shown}
-use Rattle.list_laws.proofs.Members.{member-left}
+use Rattle.calculus.proofs.Members.{member-left}
 
 -- a built-in receiver is a receive
 built-in-is : (z : Row) → Member z (stdout ∷ stdout_ack ∷ []) → is_receive z ≡ true

@@ -4,9 +4,9 @@ use Rattle.calculus.specs.Rows.{Row, stdout, stdout_ack}
 use Rattle.calculus.specs.Steps.{as_datum, as_receiver}
 use Rattle.calculus.specs.Tree.{Tree}
 use Rattle.events.specs.Found.{Among, without}
-use Rattle.row_search.specs.declared.found.Found.{Found}
+use Rattle.found_rows.specs.declared.found.Found.{Found}
 use Rattle.row_search.specs.Rows.{HasSends}
-use Rattle.row_search.specs.Laws.{MeetsAtHand}
+use Rattle.found_rows.specs.AtHand.{MeetsAtHand}
 use Rattle.row_search.specs.Meetings.{IsFound, MeetsNothing}
 use Rattle.run_entries.specs.Allowed.{IdsTell, MeetsNothing as MakesNoStep, rows_at_hand}
 use Rattle.shard_rows.specs.Shards.{stands_in}

@@ -9,7 +9,7 @@ use crate::held::Held;
 use crate::shard::Shard;
 use crate::spreading::shards_of_rows;
 use calculus::Digest;
-use row_search::Found;
+use found_rows::Found;
 use shard_tables::ShardTables;
 use space_row::Row;
 use std::alloc::{AllocError, Global};

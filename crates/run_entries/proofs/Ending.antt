@@ -17,7 +17,7 @@ use Rattle.run_entries.specs.Allowed.{core_of, AreAllowedFrom, AreAllowed, Comes
 use Rattle.run_entries.specs.Laws.{AllowedEntriesAreARunOrCollide, AllowedEntriesAreARunOrShowAnId}
 use Rattle.run_entries.proofs.Growing.{steps-both, entries_tell_their_steps, one_more_is_allowed}
 use Rattle.run_entries.proofs.Holding.{Held, held-first, held-more}
-use Rattle.list_laws.proofs.Permutations.{unmoved}
+use Rattle.calculus.proofs.Permutations.{unmoved}
 
 first-fault-of : (i : ℕ) (ws : List Work) → fault_verdict i ws ≡ first_fault i (each work_fault ws)
 first-fault-of i [] = refl

@@ -1,6 +1,6 @@
 -- A step that takes a row away was not made before.
 use Rattle.std.proofs.Common.{List, [], ◌∷◌, refl, sym, ap, ◌∙◌}
-use Rattle.list_laws.proofs.Members.{Member, Every}
+use Rattle.calculus.proofs.Members.{Member, Every}
 use Rattle.calculus.specs.Rows.{Row}
 use Rattle.calculus.specs.Steps.{standing}
 use Rattle.events.specs.Events.{Core}

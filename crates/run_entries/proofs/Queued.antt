@@ -2,7 +2,7 @@
 use Rattle.std.proofs.Common.{◌≡◌, ◌≤◌, ℕ, Bool, true, false, cond, List, [], ◌∷◌, ◌++◌, refl, sym, ap, subst, ◌∙◌, arith, inl, inr}
 use Rattle.std.specs.Prelude.{◌⊎◌, Option, Some, None, IsPermutation}
 use Rattle.std.specs.Str.{bytes_eq}
-use Rattle.list_laws.proofs.Members.{Member, member-split}
+use Rattle.calculus.proofs.Members.{Member, member-split}
 use Rattle.calculus.specs.Rows.{Row}
 use Rattle.calculus.specs.Steps.{differ}
 use Rattle.calculus.specs.Runs.{Deploy, Work}
@@ -18,8 +18,8 @@ use Rattle.run_entries.specs.Laws.{QueuesArePending, QueuesHaveNoEntries, Allowe
 use Rattle.run_entries.proofs.Growing.{on-both, fresh_digests_were_fresh}
 use Rattle.run_entries.proofs.Holding.{Held, held}
 use Rattle.run_entries.proofs.Owning.{Owned, owned, pending-once, none-on}
-use Rattle.list_laws.specs.Exchanges.{Exchanges, nothing, under, neighbours, then}
-use Rattle.list_laws.proofs.Permutations.{exchange, exchanges, join, keep, moved_after, over, permuted, unmoved}
+use Rattle.calculus.specs.Exchanges.{Exchanges, nothing, under, neighbours, then}
+use Rattle.calculus.proofs.Permutations.{exchange, exchanges, join, keep, moved_after, over, permuted, unmoved}
 
 -- rows but the first one with this id
 abbrev but_first : List ℕ → List Row → List Row

@@ -2,7 +2,7 @@
 use Rattle.std.proofs.Common.{◌≡◌, Bool, true, false, cond, List, [], ◌∷◌, ◌++◌, refl, sym, ap, subst, ◌∙◌, arith, inl, inr}
 use Rattle.std.specs.Prelude.{◌⊎◌, Some, None}
 use Rattle.std.specs.Str.{bytes_eq}
-use Rattle.list_laws.proofs.Members.{Member, member-split, member-left, member-right}
+use Rattle.calculus.proofs.Members.{Member, member-split, member-left, member-right}
 use Rattle.calculus.specs.Rows.{Row, stdout, stdout_ack}
 use Rattle.calculus.specs.Runs.{Deploy, Work, body_work}
 use Rattle.events.specs.Events.{Event, AreFresh}
@@ -18,7 +18,7 @@ use Rattle.run_entries.specs.Entries.{Space, Making, Entry, rows_before, rows_af
 use Rattle.run_entries.specs.Allowed.{core_of, AreAmong, IdsTell, rows_at_hand, MeetsNothing, MakesStep, IsEvent}
 use Rattle.run_entries.specs.Laws.{LonelyEntriesAreAllowed, MovedRowsAreAmong, StepEntriesAreAllowed}
 use Rattle.run_entries.proofs.Holding.{Held, held}
-use Rattle.list_laws.proofs.Permutations.{moved_so}
+use Rattle.calculus.proofs.Permutations.{moved_so}
 
 -- a row that is there once stands between those before it and those after it
 parts_of : (o : Row) (rs : List Row) → AreDistinct (ids rs) → Member o rs → rs ≡ rows_before o.id rs ++ o ∷ rows_after o.id rs

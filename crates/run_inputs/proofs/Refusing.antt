@@ -5,15 +5,15 @@ use Rattle.event_log.specs.Reading.{log_of}
 use Rattle.event_log.specs.declared.fault.LogFault.{LogFault}
 use Rattle.event_log.specs.declared.fault.LogFault.TheVariants as logged
 use Rattle.rho_outside.specs.FileMap.{FileMap}
-use Rattle.sources.specs.Faults.{refusal_of}
+use Rattle.input_faults.specs.Refusals.{Refusal as SourceRefusal, refusal_of}
+use Rattle.input_faults.specs.declared.source_fault.SourceFault.{SourceFault}
+use Rattle.input_faults.specs.declared.state_fault.StateFault.{StateFault}
+use Rattle.input_faults.specs.declared.state_fault.StateFault.TheVariants as stated
 use Rattle.sources.specs.Sources as sources
-use Rattle.sources.specs.declared.fault.SourceFault.{SourceFault}
 use Rattle.command_words.specs.Commands.{RunRequest}
 use Rattle.run_inputs.specs.Inputs.{Refusal, ◌>>=◌, accepted_state}
 use Rattle.base_states.specs.Bases.{IsState}
 use Rattle.state_reader.specs.Refused.{IsRefused}
-use Rattle.state_reader.specs.declared.fault.StateFault.{StateFault}
-use Rattle.state_reader.specs.declared.fault.StateFault.TheVariants as stated
 use Rattle.run_inputs.specs.Runnable.{MayHaveState}
 use Rattle.run_inputs.specs.Refused.{SourceCause, StateCause}
 use Rattle.run_inputs.specs.Given.{LogCause}
@@ -21,7 +21,7 @@ use Rattle.run_status.specs.Statuses.{LogStatusOf, SourceStatusOf, StateStatusOf
 use Rattle.run_status.specs.declared.status.Status.{Status}
 
 -- a fault of a source is why it is refused
-pub fault_cause : (source : List ℕ) (f : SourceFault) (o : Option sources.Refusal) (s : Status) → refusal_of f ≡ o → IfSome o (sources.IsRefused source) → SourceStatusOf f o s → SourceCause source s
+pub fault_cause : (source : List ℕ) (f : SourceFault) (o : Option SourceRefusal) (s : Status) → refusal_of f ≡ o → IfSome o (sources.IsRefused source) → SourceStatusOf f o s → SourceCause source s
 fault_cause source f None s e h k = let P = λ (x : Status). SourceCause source x in subst P (sym k) tt
 fault_cause source f (Some r) s e h k = let P = λ (x : Status). SourceCause source x in subst P (sym k) (r, (e, h))
 

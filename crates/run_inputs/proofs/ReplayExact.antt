@@ -5,13 +5,13 @@ use Rattle.calculus.specs.Outcome.{Prices as PriceTable}
 use Rattle.rho_outside.specs.Causes.{Rose}
 use Rattle.rho_outside.specs.FileMap.{FileMap, Lacks}
 use Rattle.event_log.specs.Reading.{log_of}
+use Rattle.input_faults.specs.declared.source_fault.SourceFault.{SourceFault}
+use Rattle.input_faults.specs.declared.state_fault.StateFault.{StateFault}
 use Rattle.sources.specs.Sources.{IsSourceOf}
-use Rattle.sources.specs.declared.fault.SourceFault.{SourceFault}
 use Rattle.event_log.specs.declared.fault.LogFault.{LogFault}
 use Rattle.command_words.specs.Commands.{RunRequest}
 use Rattle.run_inputs.specs.Inputs.{Refusal, missing, too_large, Task, name_of, given, beside, task_with, priced, accepted_state, accepted_prices, accepted_source, accepted_log}
 use Rattle.base_states.specs.Bases.{IsState, IsNoState}
-use Rattle.state_reader.specs.declared.fault.StateFault.{StateFault}
 use Rattle.run_inputs.specs.Runnable.{IsRunnable, HasState, OwnsIds}
 use Rattle.run_inputs.specs.Refused.{IsFaultOf, Says, SaysNoState, SaysOf}
 use Rattle.run_inputs.specs.Replaying.{ReplayReaches, IsReplayRefusal, IsLogFault, SaysLog}

@@ -1,11 +1,11 @@
 -- When a deploy ends before it runs.
 use Rattle.std.specs.Prelude.{◌≡◌, ℕ, ◌<◌, ◌⊎◌, List, IsOk, IsOkAnd, Err, Option, Some, ⊤}
+use Rattle.input_faults.specs.Refusals.{Refusal as SourceRefusal, refusal_of}
+use Rattle.input_faults.specs.declared.source_fault.SourceFault.{SourceFault}
+use Rattle.input_faults.specs.declared.state_fault.StateFault.{StateFault}
 use Rattle.base_states.specs.Bases.{IsNoState}
 use Rattle.phlo_meter.specs.declared.fault.PriceFault.{PriceFault}
-use Rattle.sources.specs.Faults.{refusal_of}
 use Rattle.sources.specs.Sources as sources
-use Rattle.sources.specs.declared.fault.SourceFault.{SourceFault}
-use Rattle.state_reader.specs.declared.fault.StateFault.{StateFault}
 use Rattle.rho_outside.specs.FileMap.{FileMap, Lacks, GivesAtLeast}
 use Rattle.rho_outside.specs.Causes.{Rose}
 use Rattle.rho_outside.specs.Told.{Told}
@@ -44,7 +44,7 @@ StateCause bytes _ = ⊥
 
 -- a fault is what a source is refused for
 abbrev pub IsFaultOf : SourceFault → List ℕ → Type 0
-IsFaultOf f source = (r : sources.Refusal) × ((refusal_of f ≡ Some r) × sources.IsRefused source r)
+IsFaultOf f source = (r : SourceRefusal) × ((refusal_of f ≡ Some r) × sources.IsRefused source r)
 
 -- why a source is refused
 abbrev pub SourceCause : List ℕ → Status → Type 0
@@ -111,15 +111,15 @@ SaysNoState status.NoMemory = ⊤
 SaysNoState _ = ⊥
 
 -- a status says this refusal of a source; want of memory may stand in its place
-abbrev pub SaysSource : sources.Refusal → Status → Type 0
+abbrev pub SaysSource : SourceRefusal → Status → Type 0
 SaysSource r status.NoMemory = ⊤
 SaysSource r (status.Source f) = refusal_of f ≡ Some r
 SaysSource r _ = ⊥
 
 -- a status says what a source is refused for, if it is refused
 abbrev pub SaysOf : List ℕ → Status → Type 0
-SaysOf source s = (r : sources.Refusal) → sources.IsRefused source r → SaysSource r s
+SaysOf source s = (r : SourceRefusal) → sources.IsRefused source r → SaysSource r s
 
 -- a source is refused for nothing
 abbrev pub IsFree : List ℕ → Type 0
-IsFree source = (r : sources.Refusal) → sources.IsRefused source r → ⊥
+IsFree source = (r : SourceRefusal) → sources.IsRefused source r → ⊥

@@ -1,8 +1,8 @@
 -- Why a file is refused, from what each call found.
 use Rattle.std.proofs.Common.{◌≡◌, ◌≢◌, ℕ, List, Option, sym, subst}
 use Rattle.rho_outside.specs.FileMap.{FileMap}
-use Rattle.state_reader.specs.declared.fault.StateFault.{StateFault}
-use Rattle.state_reader.specs.declared.fault.StateFault.TheVariants as fault
+use Rattle.input_faults.specs.declared.state_fault.StateFault.{StateFault}
+use Rattle.input_faults.specs.declared.state_fault.StateFault.TheVariants as fault
 use Rattle.state_reader.specs.Refused.{IsRefused}
 use Rattle.run_status.specs.declared.status.Status.{Status}
 use Rattle.run_status.specs.declared.status.Status.TheVariants as status

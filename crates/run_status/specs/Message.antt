@@ -8,20 +8,20 @@ use Rattle.command_words.specs.declared.usage.Usage.{Usage}
 use Rattle.command_words.specs.declared.usage.Usage.TheVariants as usage
 use Rattle.event_log.specs.declared.fault.LogFault.{LogFault}
 use Rattle.event_log.specs.declared.fault.LogFault.TheVariants as logged
+use Rattle.input_faults.specs.declared.parse_fault.ParseFault.{ParseFault}
+use Rattle.input_faults.specs.declared.parse_fault.ParseFault.TheVariants as grammatical
+use Rattle.input_faults.specs.declared.source_fault.SourceFault.{SourceFault}
+use Rattle.input_faults.specs.declared.source_fault.SourceFault.TheVariants as source
+use Rattle.input_faults.specs.declared.state_fault.StateFault.{StateFault}
+use Rattle.input_faults.specs.declared.state_fault.StateFault.TheVariants as stated
 use Rattle.replay_faults.specs.declared.fault.ReplayFault.{ReplayFault}
 use Rattle.replay_faults.specs.declared.fault.ReplayFault.TheVariants as replayed
 use Rattle.phlo_meter.specs.declared.fault.PriceFault.{PriceFault}
 use Rattle.phlo_meter.specs.declared.fault.PriceFault.TheVariants as faults
 use Rattle.rho_lexer.specs.declared.token.LexFault.{LexFault}
 use Rattle.rho_lexer.specs.declared.token.LexFault.TheVariants as lexical
-use Rattle.rho_parser.specs.declared.parse_fault.ParseFault.{ParseFault}
-use Rattle.rho_parser.specs.declared.parse_fault.ParseFault.TheVariants as grammatical
 use Rattle.scope_faults.specs.declared.fault.ScopeFault.{ScopeFault}
 use Rattle.scope_faults.specs.declared.fault.ScopeFault.TheVariants as scopes
-use Rattle.sources.specs.declared.fault.SourceFault.{SourceFault}
-use Rattle.sources.specs.declared.fault.SourceFault.TheVariants as source
-use Rattle.state_reader.specs.declared.fault.StateFault.{StateFault}
-use Rattle.state_reader.specs.declared.fault.StateFault.TheVariants as stated
 use Rattle.run_status.specs.declared.status.Input.{Input}
 use Rattle.run_status.specs.declared.status.Input.TheVariants as input
 use Rattle.run_status.specs.declared.status.Status.{Status}

@@ -2,6 +2,10 @@
 use Rattle.std.specs.Prelude.{◌≡◌, Option, Some, None, string_bytes}
 use Rattle.event_log.specs.declared.fault.LogFault.{LogFault}
 use Rattle.event_log.specs.declared.fault.LogFault.TheVariants as logged
+use Rattle.input_faults.specs.Refusals.{Refusal as SourceRefusal}
+use Rattle.input_faults.specs.declared.source_fault.SourceFault.{SourceFault}
+use Rattle.input_faults.specs.declared.state_fault.StateFault.{StateFault}
+use Rattle.input_faults.specs.declared.state_fault.StateFault.TheVariants as stated
 use Rattle.phlo_meter.specs.PriceTable as meter
 use Rattle.phlo_meter.specs.declared.fault.PriceFault.{PriceFault}
 use Rattle.phlo_meter.specs.declared.fault.PriceFault.TheVariants as faults
@@ -9,10 +13,6 @@ use Rattle.replay_faults.specs.declared.fault.ReplayFault.{ReplayFault}
 use Rattle.replays.specs.Replays as replays
 use Rattle.run_reports.specs.declared.finish.Halt.{Halt}
 use Rattle.run_reports.specs.declared.finish.Halt.TheVariants as halt
-use Rattle.sources.specs.Sources as sources
-use Rattle.sources.specs.declared.fault.SourceFault.{SourceFault}
-use Rattle.state_reader.specs.declared.fault.StateFault.{StateFault}
-use Rattle.state_reader.specs.declared.fault.StateFault.TheVariants as stated
 use Rattle.run_status.specs.declared.status.Status.{Status}
 use Rattle.run_status.specs.declared.status.Status.TheVariants as status
 
@@ -46,7 +46,7 @@ PriceStatusOf f None s = s ≡ status.NoMemory
 PriceStatusOf f (Some r) s = s ≡ status.Prices f
 
 -- the status of a fault of a source: want of memory where it says no refusal
-abbrev pub SourceStatusOf : SourceFault → Option sources.Refusal → Status → Type 0
+abbrev pub SourceStatusOf : SourceFault → Option SourceRefusal → Status → Type 0
 SourceStatusOf f None s = s ≡ status.NoMemory
 SourceStatusOf f (Some r) s = s ≡ status.Source f
 

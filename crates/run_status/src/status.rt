@@ -5,11 +5,10 @@ ghost use Rattle.run_status.specs.Message.{code_of, message_of};
 use crate::wording::{log_text, price_text, replay_text, source_text, state_text, usage_text};
 use command_words::Usage;
 use event_log::LogFault;
+use input_faults::{SourceFault, StateFault};
 use phlo_meter::PriceFault;
 use replay_faults::ReplayFault;
 use run_verdict::Verdict;
-use sources::SourceFault;
-use state_reader::StateFault;
 use std::alloc::{AllocError, Global};
 use std::fmt;
 

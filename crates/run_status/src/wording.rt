@@ -4,13 +4,11 @@ ghost use Rattle.run_status.specs.Message.{digest_text, digests_text, lex_text, 
 use calculus::Digest;
 use command_words::Usage;
 use event_log::LogFault;
+use input_faults::{ParseFault, SourceFault, StateFault};
 use phlo_meter::PriceFault;
 use replay_faults::ReplayFault;
 use rho_lexer::LexFault;
-use rho_parser::ParseFault;
 use scope_faults::ScopeFault;
-use sources::SourceFault;
-use state_reader::StateFault;
 use std::alloc::{AllocError, Global};
 
 /// The name and the field of what the words are refused for.

@@ -2,8 +2,8 @@
 use Rattle.std.proofs.Common.{◌≡◌, ℕ, Bool, true, false, ◌||◌, [], ◌∷◌, refl, sym, ap, subst, ◌∙◌, inl, inr, eqb, eq-eqb}
 use Rattle.std.specs.Prelude.{None}
 use Rattle.calculus.proofs.Opened.{hashing}
-use Rattle.list_laws.proofs.Permutations.{unmoved, exchange}
-use Rattle.list_laws.proofs.Members.{Member}
+use Rattle.calculus.proofs.Permutations.{unmoved, exchange}
+use Rattle.calculus.proofs.Members.{Member}
 use Rattle.events.specs.Examples.{the_step}
 use Rattle.events.specs.Found.{met}
 use Rattle.run_entries.specs.Entries.{Making}

@@ -1,7 +1,7 @@
 -- The shards that are shown for an operation are all that its entry changes.
 use Rattle.std.proofs.Common.{◌≡◌, ℕ, Bool, true, List, [], ◌∷◌, ◌++◌, sym, ap, subst, ◌∙◌, inl, inr}
 use Rattle.std.specs.Prelude.{◌⊎◌, Some, None}
-use Rattle.list_laws.proofs.Members.{Member, member-left, member-right}
+use Rattle.calculus.proofs.Members.{Member, member-left, member-right}
 use Rattle.calculus.specs.Rows.{Row}
 use Rattle.calculus.specs.Steps.{is_one_of}
 use Rattle.calculus.specs.Log.{Step}

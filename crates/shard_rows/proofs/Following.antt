@@ -2,9 +2,9 @@
 use Rattle.std.proofs.Common.{◌≡◌, ℕ, ◌+◌, ◌≤◌, Bool, true, false, cond, List, [], ◌∷◌, ◌++◌, filter, refl, sym, ap, subst, ◌∙◌, arith, inl, inr, append-nil}
 use Rattle.std.specs.Prelude.{Some, None, IsPermutation}
 use Rattle.std.specs.Str.{bytes_eq}
-use Rattle.list_laws.specs.Exchanges.{Exchanges, nothing, under, neighbours, then}
-use Rattle.list_laws.proofs.Permutations.{exchanges, unmoved, keep, exchange, join, moved_before}
-use Rattle.list_laws.proofs.Members.{Member}
+use Rattle.calculus.specs.Exchanges.{Exchanges, nothing, under, neighbours, then}
+use Rattle.calculus.proofs.Permutations.{exchanges, unmoved, keep, exchange, join, moved_before}
+use Rattle.calculus.proofs.Members.{Member}
 use Rattle.calculus.specs.Rows.{Row}
 use Rattle.calculus.specs.Steps.{is_one_of, differ}
 use Rattle.events.specs.Found.{without}

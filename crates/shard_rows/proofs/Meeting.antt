@@ -2,7 +2,7 @@
 use Rattle.std.proofs.Common.{◌≡◌, ℕ, Bool, true, false, cond, List, [], ◌∷◌, ◌++◌, map as each, refl, sym, ap, subst, ◌∙◌, inl, inr}
 use Rattle.std.specs.Prelude.{◌&&◌, Option, Some, None, option_and_then, is_some}
 use Rattle.std.specs.List.{list_any}
-use Rattle.list_laws.proofs.Members.{Member}
+use Rattle.calculus.proofs.Members.{Member}
 use Rattle.calculus.specs.Tree.{Tree, node, send, receive}
 use Rattle.calculus.specs.Shape.{held, at}
 use Rattle.calculus.specs.Congruence.{congruent}

@@ -1,7 +1,7 @@
 -- Tests of lists, and in which shards rows stand.
 use Rattle.std.proofs.Common.{◌≡◌, ℕ, ◌<◌, Bool, true, false, ◌||◌, List, [], ◌∷◌, map as each, refl, sym, ap, subst, ◌∙◌, inl, inr, eqb, eq-eqb, eqb-true, arith}
 use Rattle.std.specs.List.{list_any}
-use Rattle.list_laws.proofs.Members.{Member, member-each}
+use Rattle.calculus.proofs.Members.{Member, member-each}
 use Rattle.calculus.specs.Tree.{Tree}
 use Rattle.calculus.specs.Rows.{Row, channels}
 use Rattle.calculus.specs.Storing.{shard}

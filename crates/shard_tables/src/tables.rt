@@ -2,13 +2,13 @@
 ghost use Rattle.std.specs.Prelude.{◌≡◌, ◌≢◌, ◌<◌, ℕ, List, [], length, map, Option, None, Some, IfOk, IfSome, OnOk, OnErr, IsPermutation};
 ghost use Rattle.calculus.specs.Rows.{channels};
 ghost use Rattle.events.specs.Found.{Among};
-ghost use Rattle.row_search.specs.Laws.{MeetsAtHand};
+ghost use Rattle.found_rows.specs.AtHand.{MeetsAtHand};
 ghost use Rattle.run_entries.specs.Allowed.{IdsTell, MeetsNothing, rows_at_hand};
 ghost use Rattle.shard_tables.specs.Hands.{AreInHand, AreMade, AreShardsOf, AreShown, GainsRow, IdsDiffer, LosesRows};
 ghost use Rattle.calculus.specs.Rows.{Row as Stored};
 
 use calculus::Digest;
-use row_search::Found;
+use found_rows::Found;
 use space_row::Row;
 use std::alloc::{AllocError, Global};
 

@@ -1,9 +1,9 @@
 //! A plain walk through all rows that could meet: each receiver, with each choice of a send for each of its binds.
 use crate::kept::Kept;
 use calculus::Digest;
+use found_rows::Found;
 use rho_term::Op;
 use row_meeting::meet_rows;
-use row_search::Found;
 use space_row::Row;
 use std::alloc::{AllocError, Global};
 use table_lines::{Answer, LineFault};

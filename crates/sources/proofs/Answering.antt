@@ -15,7 +15,8 @@ use Rattle.places.specs.Places.{PassesAt, EndsAt}
 use Rattle.places.proofs.Decided.{one_place, one_end, apart, higher}
 use Rattle.scope.specs.NormalForm.{normal_form}
 use Rattle.scope.specs.Rules.{Broken, broken_rules}
-use Rattle.sources.specs.Sources.{most_height, plain, start_of, IsSpelt, IsAccepted, IsSourceOf, IsTooDeep, IsIllFormed, IsOutOfScope, Refusal, no_tokens, too_deep, ill_formed, out_of_scope, IsRefused}
+use Rattle.input_faults.specs.Refusals.{Refusal, no_tokens, too_deep, ill_formed, out_of_scope}
+use Rattle.sources.specs.Sources.{most_height, plain, start_of, IsSpelt, IsAccepted, IsSourceOf, IsTooDeep, IsIllFormed, IsOutOfScope, IsRefused}
 
 -- a text has one list of tokens at most
 one_list : (text : List ℕ) (xs ys : List Spanned) → HasTokens source text xs → HasTokens source text ys → xs ≡ ys

@@ -10,14 +10,14 @@ use Rattle.places.specs.Places.{PassesAt, EndsAt}
 use Rattle.rho_lexer.specs.Meaning.{kind_token, spanned_tokens}
 use Rattle.rho_lexer.specs.declared.token.Token.{Token}
 use Rattle.token_cursor.specs.Meaning.{plain_tokens}
+use Rattle.input_faults.specs.Refusals.{parse_refusal, out_of_scope}
+use Rattle.input_faults.specs.declared.parse_fault.ParseFault.{ParseFault}
+use Rattle.input_faults.specs.declared.parse_fault.ParseFault.TheVariants as grammatical
 use Rattle.rho_parser.specs.Parsed as parsed
 use Rattle.rho_parser.specs.Parsed.{place_of}
-use Rattle.rho_parser.specs.declared.parse_fault.ParseFault.{ParseFault}
-use Rattle.rho_parser.specs.declared.parse_fault.ParseFault.TheVariants as grammatical
 use Rattle.scope.specs.Rules.{Broken, broken_rules}
 use Rattle.scope_faults.specs.Faults.{NamesFirst, StandsFirst}
-use Rattle.sources.specs.Faults.{parse_refusal}
-use Rattle.sources.specs.Sources.{most_height, plain, start_of, IsSpelt, IsTooDeep, IsIllFormed, IsOutOfScope, Refusal, out_of_scope, IsRefused}
+use Rattle.sources.specs.Sources.{most_height, plain, start_of, IsSpelt, IsTooDeep, IsIllFormed, IsOutOfScope, IsRefused}
 
 plain_spanned : (ts : List Token) → plain (spanned_tokens ts) ≡ plain_tokens ts
 plain_spanned [] = refl

@@ -3,7 +3,6 @@ use Rattle.std.specs.Prelude.{◌≡◌, ℕ, zero, suc, ◌≤◌, List, [], �
 use Rattle.calculus.specs.Bare.{bare}
 use Rattle.calculus.specs.Tree.{Tree}
 use Rattle.calculus.specs.Written.{Written}
-use Rattle.tokens.specs.Token as tokens
 use Rattle.tokens.specs.Token.{source, Token, Spanned}
 use Rattle.tokens.specs.Reading as reading
 use Rattle.tokens.specs.Reading.{HasTokens}
@@ -12,6 +11,7 @@ use Rattle.grammar.specs.Spells.{Spells, SpellsNothing}
 use Rattle.places.specs.Places.{PassesAt, EndsAt}
 use Rattle.scope.specs.NormalForm.{normal_form}
 use Rattle.scope.specs.Rules.{Broken, broken_rules}
+use Rattle.input_faults.specs.Refusals.{Refusal, no_tokens, too_deep, ill_formed, out_of_scope}
 
 -- the greatest height of a source
 abbrev pub most_height : ℕ
@@ -69,13 +69,6 @@ pub record IsOutOfScope (text : List ℕ) (b : Broken) : Type 0 where
   pub spelt : IsSpelt text process
   pub others : List Broken
   pub broken : broken_rules process ≡ b ∷ others
-
--- why a text is refused: it has no tokens, it passes the height at a place, it is no text of the grammar, which shows at a place, or the process that it spells breaks a rule of scope first of all
-pub data Refusal : Type 0 where
-  no_tokens : tokens.Refusal → Refusal
-  too_deep : ℕ → Refusal
-  ill_formed : ℕ → Refusal
-  out_of_scope : Broken → Refusal
 
 -- a text is refused so
 abbrev pub IsRefused : List ℕ → Refusal → Type 0

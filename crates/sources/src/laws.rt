@@ -1,6 +1,7 @@
 ghost use Rattle.std.specs.Prelude.{◌≡◌, List, ℕ};
 ghost use Rattle.calculus.specs.Tree.{Tree};
-ghost use Rattle.sources.specs.Sources.{IsSourceOf, Refusal, IsRefused};
+ghost use Rattle.input_faults.specs.Refusals.{Refusal};
+ghost use Rattle.sources.specs.Sources.{IsSourceOf, IsRefused};
 
 /// A text spells one accepted process at most, or is refused for one reason at most, and not both.
 pub fn one_answer()

@@ -1,9 +1,8 @@
 //! Sources: the normal term of the process that a text spells, or why it is refused.
 #![tactic(auto)]
 
-pub mod fault;
 pub mod laws;
 pub mod reading;
 
-pub use fault::SourceFault;
+pub use input_faults::SourceFault;
 pub use reading::read_source;

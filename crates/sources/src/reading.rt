@@ -4,12 +4,12 @@ ghost use Rattle.calculus.specs.Meaning.{proc_written};
 ghost use Rattle.calculus.specs.Bare.{bare};
 ghost use Rattle.calculus.specs.Form.{IsClosed};
 ghost use Rattle.scope.specs.NormalForm.{normal_form};
+ghost use Rattle.input_faults.specs.Refusals.{refusal_of};
 ghost use Rattle.sources.specs.Sources.{IsSpelt, IsSourceOf, IsRefused};
-ghost use Rattle.sources.specs.Faults.{refusal_of};
 
-use crate::fault::SourceFault;
 use calculus::Proc;
 use grammar::Dialect;
+use input_faults::SourceFault;
 use normalizer::normalize;
 use rho_lexer::lex;
 use rho_parser::parse;

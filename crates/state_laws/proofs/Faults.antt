@@ -1,8 +1,8 @@
 -- The same bytes have one fault.
 use Rattle.std.proofs.Common.{ℕ, ◌<◌, ◌^◌, List, length, sym, ◌∙◌}
 use Rattle.calculus.specs.Root.{root}
+use Rattle.input_faults.specs.declared.state_fault.StateFault.TheVariants as fault
 use Rattle.state_reader.specs.Files.{IsReducible}
-use Rattle.state_reader.specs.declared.fault.StateFault.TheVariants as fault
 use Rattle.state_laws.specs.Laws.{OneFault}
 use Rattle.state_laws.proofs.Exact.{text-laid}
 use Rattle.state_laws.proofs.LeastSteps.{step-once}

@@ -4,8 +4,8 @@ use Rattle.std.specs.Prelude.{IsSome}
 use Rattle.calculus.specs.Root.{root}
 use Rattle.calculus.specs.Rows.{Row}
 use Rattle.events.specs.Events.{stored}
+use Rattle.input_faults.specs.declared.state_fault.StateFault.TheVariants as fault
 use Rattle.state_reader.specs.Files.{IsReducible}
-use Rattle.state_reader.specs.declared.fault.StateFault.TheVariants as fault
 use Rattle.state_laws.specs.Laws.{IsTextOf, StatesAreRead}
 use Rattle.state_laws.proofs.Exact.{text-laid}
 use Rattle.state_laws.proofs.LeastSteps.{ids-differ}

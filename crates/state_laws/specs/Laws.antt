@@ -7,11 +7,11 @@ use Rattle.states.specs.States.{state_text}
 use Rattle.states.specs.Quiet.{AllowNoStep}
 use Rattle.checkpoint.specs.Kept.{AreInOrder}
 use Rattle.row_reader.specs.RowCodes.{IsCutRow}
+use Rattle.input_faults.specs.declared.state_fault.StateFault.{StateFault}
+use Rattle.input_faults.specs.declared.state_fault.StateFault.TheVariants.{NoMemory}
+use Rattle.input_faults.specs.declared.state_fault.StateFault.TheVariants as fault
 use Rattle.state_reader.specs.Files.{IsNotCut}
 use Rattle.state_reader.specs.Refused.{IsRefused}
-use Rattle.state_reader.specs.declared.fault.StateFault.{StateFault}
-use Rattle.state_reader.specs.declared.fault.StateFault.TheVariants.{NoMemory}
-use Rattle.state_reader.specs.declared.fault.StateFault.TheVariants as fault
 
 -- bytes are the text of these rows, which stand in the order of a state, differ in their ids from one another and from the built-in receivers, and allow no step
 pub record IsTextOf (bs : List ℕ) (rows : List Row) : Type 0 where

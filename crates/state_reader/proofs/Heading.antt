@@ -3,9 +3,9 @@ use Rattle.std.proofs.Common.{◌≡◌, ℕ, zero, suc, ◌+◌, ◌<◌, ◌�
 use Rattle.std.specs.Prelude.{Err, Result}
 use Rattle.std.proofs.lemmas.List.{get_or-take, take-append-drop, length-take}
 use Rattle.rho_lanes.specs.Differences.{AreParted}
+use Rattle.input_faults.specs.declared.state_fault.StateFault.{StateFault}
+use Rattle.input_faults.specs.declared.state_fault.StateFault.TheVariants as fault
 use Rattle.state_reader.specs.Files.{heading, IsCutHeader, IsWrongHeading}
-use Rattle.state_reader.specs.declared.fault.StateFault.{StateFault}
-use Rattle.state_reader.specs.declared.fault.StateFault.TheVariants as fault
 
 parted-at : (xs ys : List ℕ) (i : ℕ) → length xs ≡ length ys → AreParted (drop i xs) (drop i ys) → (i < length xs) × (get_or xs i 0 ≡ get_or ys i 0 → ⊥)
 parted-at [] [] zero l p = absurd p

@@ -12,11 +12,11 @@ use Rattle.states.specs.States.{state_text}
 use Rattle.least_step.specs.Least.{AllowsNone, HasRows, IsLeast, NothingIsUsedUp}
 use Rattle.least_step.specs.declared.least.LeastStep.{LeastStep}
 use Rattle.term_encoder.proofs.Codes.{length-map}
+use Rattle.input_faults.specs.declared.state_fault.StateFault.{StateFault}
+use Rattle.input_faults.specs.declared.state_fault.StateFault.TheVariants as fault
 use Rattle.state_reader.specs.Files.{Begins, EndsEarly, heading, IsLeastOf, IsWrongAt}
 use Rattle.state_reader.specs.Reading.{IsOfRows}
 use Rattle.state_reader.specs.Refused.{IsRefused}
-use Rattle.state_reader.specs.declared.fault.StateFault.{StateFault}
-use Rattle.state_reader.specs.declared.fault.StateFault.TheVariants as fault
 use Rattle.checkpoint.specs.Kept.{AreInOrder}
 use Rattle.states.specs.Quiet.{AllowNoStep}
 use Rattle.checkpoint.proofs.Ordering.{text-of-order}

@@ -1,8 +1,8 @@
 -- Faults at the place of a row.
 use Rattle.std.proofs.Common.{◌≡◌, ℕ}
 use Rattle.std.specs.Prelude.{Result, Ok, Err, IfErr}
-use Rattle.state_reader.specs.declared.fault.StateFault.{StateFault}
-use Rattle.state_reader.specs.declared.fault.StateFault.TheVariants as fault
+use Rattle.input_faults.specs.declared.state_fault.StateFault.{StateFault}
+use Rattle.input_faults.specs.declared.state_fault.StateFault.TheVariants as fault
 use Rattle.state_reader.specs.Reading.{IsMisplaced, IsOfRows}
 
 module _ {A : Type 0} (at : ℕ) where

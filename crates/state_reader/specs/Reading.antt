@@ -7,9 +7,9 @@ use Rattle.calculus.specs.Rows.{Row, row_code}
 use Rattle.calculus.specs.Steps.{is_one_of}
 use Rattle.checkpoint.specs.Kept.{AreInOrder}
 use Rattle.row_reader.specs.RowCodes.{IsCutRow}
+use Rattle.input_faults.specs.declared.state_fault.StateFault.{StateFault}
+use Rattle.input_faults.specs.declared.state_fault.StateFault.TheVariants as fault
 use Rattle.state_reader.specs.Files.{IsNoFront, IsNoNextRow}
-use Rattle.state_reader.specs.declared.fault.StateFault.{StateFault}
-use Rattle.state_reader.specs.declared.fault.StateFault.TheVariants as fault
 use Rattle.state_reader.specs.declared.read.RowsRead.{RowsRead}
 
 -- the code of the last of these rows, and no bytes where there is none

@@ -1,8 +1,8 @@
 -- Why bytes are no state.
 use Rattle.std.specs.Prelude.{◌≡◌, ℕ, ◌<◌, ◌^◌, ⊤, List, length, map as each}
+use Rattle.input_faults.specs.declared.state_fault.StateFault.{StateFault}
+use Rattle.input_faults.specs.declared.state_fault.StateFault.TheVariants as fault
 use Rattle.state_reader.specs.Files.{EndsEarly, HasOtherRoot, IsReducible, IsWrongAt}
-use Rattle.state_reader.specs.declared.fault.StateFault.{StateFault}
-use Rattle.state_reader.specs.declared.fault.StateFault.TheVariants as fault
 
 -- why bytes are no state, a line for each fault
 abbrev pub IsRefused : List ℕ → StateFault → Type 0

@@ -1,13 +1,13 @@
 // The header of the text of a state: its name and version, its root, and its number of rows.
 ghost use Rattle.std.specs.Prelude.{◌≡◌, ◌++◌, ◌<◌, ◌^◌, length, min, take, ℕ, IfOk, IfErr};
 ghost use Rattle.calculus.specs.Bytes.{be64};
+ghost use Rattle.input_faults.specs.declared.state_fault.StateFault.TheVariants.{NotCanonical, Short};
 ghost use Rattle.state_reader.specs.Files.{heading, IsCutHeader, IsWrongHeading};
 ghost use Rattle.state_reader.specs.Reading.{IsOfRows};
-ghost use Rattle.state_reader.specs.declared.fault.StateFault.TheVariants.{NotCanonical, Short};
 
-use crate::fault::StateFault;
 use crate::read::{front_of, rest_of};
 use calculus::Digest;
+use input_faults::StateFault;
 use rho_lanes::first_difference;
 
 /// What the text of each state begins with: its name and its version.

@@ -5,14 +5,14 @@ ghost use Rattle.calculus.specs.Order.{up_to};
 ghost use Rattle.calculus.specs.Steps.{is_one_of};
 ghost use Rattle.calculus.specs.Storing.{IsStorable};
 ghost use Rattle.calculus.specs.Rows.{row_code as code_of_row};
+ghost use Rattle.input_faults.specs.declared.state_fault.StateFault.TheVariants.{Short, NotCanonical};
 ghost use Rattle.state_reader.specs.Files.{IsNoNextRow};
 ghost use Rattle.checkpoint.specs.Kept.{AreInOrder};
 ghost use Rattle.state_reader.specs.Reading.{Adds, AreCut, AreIds, AreWrong, IsCutThere, IsInHand, IsMisplaced, IsOfRows};
-ghost use Rattle.state_reader.specs.declared.fault.StateFault.TheVariants.{Short, NotCanonical};
 
-use crate::fault::StateFault;
 use crate::front::read_front;
 use calculus::Digest;
+use input_faults::StateFault;
 use rho_term::with_room;
 use row_reader::RowFault;
 use space_row::Row;

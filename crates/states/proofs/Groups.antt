@@ -3,8 +3,8 @@ use Rattle.std.proofs.Common.{◌≡◌, ℕ, zero, suc, Bool, true, false, cond
 use Rattle.std.specs.Prelude.{eqb, IsPermutation}
 use Rattle.std.specs.Str.{bytes_eq}
 use Rattle.std.proofs.lemmas.Slice.Eq.{bytes_eq-Decides}
-use Rattle.list_laws.specs.Exchanges.{Exchanges, nothing, under as beneath, neighbours, then}
-use Rattle.list_laws.proofs.Permutations.{each-moved, exchange, exchanges, keep, unmoved}
+use Rattle.calculus.specs.Exchanges.{Exchanges, nothing, under as beneath, neighbours, then}
+use Rattle.calculus.proofs.Permutations.{each-moved, exchange, exchanges, keep, unmoved}
 use Rattle.sha2.specs.Sha256.{sha256}
 use Rattle.calculus.specs.Bytes.{be32, joined}
 use Rattle.calculus.specs.Order.{placed, sorted}

@@ -3,7 +3,7 @@ use Rattle.std.proofs.Common.{◌≡◌, ◌≤◌, ℕ, suc, List, [], ◌∷�
 use Rattle.std.specs.Prelude.{Some, option_and_then}
 use Rattle.std.proofs.lemmas.List.Elements.{All-nil, All-cons, All-head, All-tail}
 use Rattle.std.proofs.lemmas.List.{length-map}
-use Rattle.list_laws.proofs.Members.{Every}
+use Rattle.calculus.proofs.Members.{Every}
 use Rattle.calculus.specs.Tree.{Tree, receive, node}
 use Rattle.calculus.specs.Shape.{held, listed, at}
 use Rattle.calculus.specs.Form.{IsClosed, Fits, part}
@@ -18,8 +18,8 @@ use Rattle.calculus.specs.declared.ids.Digest.{Digest}
 use Rattle.calculus.specs.Steps.{meet}
 use Rattle.event_log.specs.View.{TakesInRange}
 use Rattle.events.specs.Found.{alone, met}
-use Rattle.row_search.specs.declared.found.Found.{Found}
-use Rattle.row_search.specs.Laws.{MeetsAtHand}
+use Rattle.found_rows.specs.declared.found.Found.{Found}
+use Rattle.found_rows.specs.AtHand.{MeetsAtHand}
 
 every-of : (rs : List Row) → All IsStorable rs → Every (λ h. Fits part [] h.1.part) (each alone rs)
 every-of [] h = tt

@@ -5,13 +5,13 @@ ghost use Rattle.calculus.specs.Form.{IsClosed};
 ghost use Rattle.calculus.specs.Rows.{stdout, stdout_ack};
 ghost use Rattle.calculus.specs.Shape.{at};
 ghost use Rattle.calculus.specs.Steps.{line};
-ghost use Rattle.step_work.specs.Making.{printed_line};
+ghost use Rattle.found_rows.specs.Making.{printed_line};
 
 use calculus::Digest;
+use found_rows::Found;
 use name_seed::Seed;
 use rho_printer::print_term;
 use rho_term::Term;
-use row_search::Found;
 use std::alloc::{AllocError, Global};
 
 // Whether this is the id of a built-in receiver.

@@ -1,7 +1,7 @@
 -- Channels of closed short parts: where no two are congruent they rise once they are in order, and where they rise no two are congruent.
 use Rattle.std.proofs.Common.{◌≡◌, ℕ, ◌+◌, true, false, List, [], ◌∷◌, ◌++◌, length, map as each, sym, ◌∙◌, subst, arith, length-append}
 use Rattle.std.proofs.lemmas.Bool.{false_from_ne_true, true_from_ne_false, false≢true}
-use Rattle.list_laws.proofs.Members.{Every, every-up}
+use Rattle.calculus.proofs.Members.{Every, every-up}
 use Rattle.calculus.specs.Tree.{row, send, receive, bind, Tree, node, Trees, none, also}
 use Rattle.calculus.specs.Shape.{held, listed, at}
 use Rattle.calculus.specs.Order.{up_to}

@@ -1,7 +1,7 @@
 -- The channels of a closed receive with its binds in order rise in their codes, where no two of the names given for them are congruent.
 use Rattle.std.proofs.Common.{◌≡◌, ℕ, ◌+◌, false, List, [], ◌∷◌, length, map as each, refl, sym, ap, ◌∙◌, subst}
 use Rattle.std.proofs.lemmas.Bool.{or_parts}
-use Rattle.list_laws.proofs.Members.{Every}
+use Rattle.calculus.proofs.Members.{Every}
 use Rattle.calculus.specs.declared.plain.Kind.{Kind}
 use Rattle.calculus.specs.Tree.{Tree}
 use Rattle.calculus.specs.Shape.{held, at}

@@ -2,7 +2,7 @@
 use Rattle.std.proofs.Common.{◌≡◌, ◌≤◌, ℕ, suc, Bool, true, false, cond, ltb, List, [], ◌∷◌, length, refl, subst}
 use Rattle.std.specs.Prelude.{Some, All, option_map}
 use Rattle.std.proofs.lemmas.List.Elements.{All-nil, All-cons, All-head, All-tail}
-use Rattle.list_laws.proofs.Members.{Every, every-append, every-up}
+use Rattle.calculus.proofs.Members.{Every, every-append, every-up}
 use Rattle.calculus.specs.declared.fault.FaultKind.TheVariants as fault
 use Rattle.calculus.specs.Tree.{Tree}
 use Rattle.calculus.specs.Size.{height}

@@ -1,8 +1,8 @@
 //! What is found in large stores.
 use crate::store::Store;
+use found_rows::Found;
 use name_seed::EMPTY_ROOT;
 use rho_term::Op;
-use row_search::Found;
 use rspace_table::SpaceTables;
 use shard_tables::ShardTables;
 use source_rows::{put_terms, read_rows};

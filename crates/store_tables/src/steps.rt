@@ -2,9 +2,9 @@
 use crate::meets::shown_step;
 use crate::store::Store;
 use calculus::Digest;
+use found_rows::Found;
 use least_step::{LeastStep, built_in_rows, first_reducible};
 use name_seed::EMPTY_ROOT;
-use row_search::Found;
 use rspace_table::SpaceTables;
 use shard_tables::ShardTables;
 use source_rows::{allows, allows_nothing, meetings, read_rows};

@@ -1,12 +1,12 @@
 //! The patterns of processes and of names that the productions make of their constituents.
 ghost use Rattle.calculus.specs.Meaning.{ground_label, name_pat_written, pat_written, proc_written, rest_written};
 ghost use Rattle.grammar.specs.Values.{any_of, binder_of, type_of, both_of, bound_of, bundle_of, closed_of, either_of, ground_of, left_of, list_pattern_of, map_pattern_of, no_parts, not_of, par_of, patterns, quoted_of, same_of, send_of, seq_of, set_pattern_of, tuple_of};
-ghost use Rattle.syntax_forms.specs.Forms.{HasTree, left_written, of_proc, pat_pairs_written, pat_row_written, sequence_written};
+ghost use Rattle.form_parts.specs.Forms.{HasTree, left_written, of_proc, pat_pairs_written, pat_row_written, sequence_written};
 ghost use Rattle.std.specs.Prelude.{◌≡◌, ◌+◌, ◌<◌, ◌-◌, ◌^◌, [], IfOk, map, max, string_bytes};
 
-use crate::part::{Left, Part, Sequence};
-use crate::parts;
 use calculus::{Ground, NamePat, Pat, Proc, Rest, Rights, Simple};
+use form_parts::part::{Left, Part, Sequence};
+use form_parts::parts;
 use grammar::Fault;
 use std::alloc::Global;
 

@@ -3,12 +3,12 @@ ghost use Rattle.calculus.specs.Meaning.{bind_written, case_written, declared, g
 ghost use Rattle.calculus.specs.Tree.{int};
 ghost use Rattle.grammar.specs.Values.{name_of, bind_of, bundle_of, case_of, contract_of, drop_of, ground_of, if_of, list_of, map_of, match_of, method_of, new_of, nil, operation, par_of, processes, quote_of, receive_of, send_of, set_of, tuple_of, unary_of, variable_of};
 ghost use Rattle.grammar.specs.declared.fault.Fault.TheVariants.{NoMemory};
-ghost use Rattle.syntax_forms.specs.Forms.{HasTree, left_written, of_left, of_name, of_proc, pairs_written, row_written};
+ghost use Rattle.form_parts.specs.Forms.{HasTree, left_written, of_left, of_name, of_proc, pairs_written, row_written};
 ghost use Rattle.std.specs.Prelude.{◌≡◌, ◌+◌, ◌<◌, ◌≤◌, ◌-◌, ◌^◌, pos, neg_ℤ, ◌∷◌, ◌++◌, [], IfOk, MatchResult, map, max, string_bytes, true, false};
 
-use crate::part::{Left, Part};
-use crate::parts;
 use calculus::{BinaryOp, Bind, Case, Decl, Ground, Kind, Name, Pat, Proc, Rights, UnaryOp};
+use form_parts::part::{Left, Part};
+use form_parts::parts;
 use grammar::Fault;
 use std::alloc::Global;
 

@@ -3,7 +3,7 @@ use Rattle.std.proofs.Common.{◌≡◌, ◌<◌, List, ◌∷◌, [], length, g
 use Rattle.std.proofs.lemmas.List.Elements.{All-head, All-tail}
 use Rattle.std.specs.declared.alloc.Global.{Global}
 use Rattle.std.specs.declared.vec.Vec.{Vec}
-use Rattle.list_laws.proofs.Members.{Every}
+use Rattle.calculus.proofs.Members.{Every}
 use Rattle.calculus.specs.declared.plain.Kind.{Kind}
 use Rattle.calculus.specs.Tree.{Tree, trees, row, receive, match, case, none, also}
 use Rattle.calculus.specs.Shape.{only, many}

@@ -21,7 +21,7 @@ use Rattle.grammar.specs.Productions.{Prod}
 use Rattle.grammar.specs.Rules.{Bracket, Sort, Rule, at, done, last, holds, sign}
 use Rattle.grammar.specs.Terminals.{Holding, Terminal, sees}
 use Rattle.grammar.specs.Values.{Spelt, spelt}
-use Rattle.syntax_forms.specs.declared.part.Part.{Part}
+use Rattle.form_parts.specs.declared.part.Part.{Part}
 use Rattle.token_cursor.specs.Cursors.{end_rule, rest_rule}
 use Rattle.token_cursor.specs.Meaning.{Missing}
 use Rattle.token_cursor.specs.Reading.{Makes, Turns, sees_member}

@@ -2,4 +2,4 @@ pub mod Cursors
 pub mod Levels
 pub mod Meaning
 pub mod Reading
-pub use Rattle.syntax_forms.specs.Forms
+pub use Rattle.form_parts.specs.Forms

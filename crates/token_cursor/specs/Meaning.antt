@@ -1,6 +1,6 @@
 -- What the parser's types mean.
 use Rattle.std.specs.Prelude.{ℕ, ◌≡◌, Bool, true, false, not, ◌||◌, List, ◌⊎◌, map}
-pub use Rattle.syntax_forms.specs.Forms.{left_written}
+pub use Rattle.form_parts.specs.Forms.{left_written}
 use Rattle.grammar.specs.declared.mark.Mark.{Mark}
 use Rattle.grammar.specs.declared.mark.Mark.TheVariants as marks
 use Rattle.grammar.specs.Terminals.{Terminal, a_string, a_uri, a_word, sees, terminal, terminals}

@@ -17,12 +17,12 @@ use Rattle.grammar.specs.Productions.{Prod}
 use Rattle.grammar.specs.Rules.{Bracket, round, square, Separator, semicolon, ampersand, separator_mark, Sort, Rule, last}
 use Rattle.grammar.specs.Terminals.{Terminal, sees}
 use Rattle.grammar.specs.Values.{Spelt, Side, leaf, ground_of}
-pub use Rattle.syntax_forms.specs.Forms.{of_bind, of_left, of_name, of_name_pat, of_pat, of_pat_row, of_proc, of_row, of_sequence}
-pub use Rattle.syntax_forms.specs.Forms.{pairs_written, pat_pairs_written, sequence_written}
-use Rattle.syntax_forms.specs.declared.part.Bracket as brackets
-use Rattle.syntax_forms.specs.declared.part.Bracket.TheVariants as rounds
-use Rattle.syntax_forms.specs.declared.part.Separator as separators
-use Rattle.syntax_forms.specs.declared.part.Separator.TheVariants as signs
+pub use Rattle.form_parts.specs.Forms.{of_bind, of_left, of_name, of_name_pat, of_pat, of_pat_row, of_proc, of_row, of_sequence}
+pub use Rattle.form_parts.specs.Forms.{pairs_written, pat_pairs_written, sequence_written}
+use Rattle.form_parts.specs.declared.part.Bracket as brackets
+use Rattle.form_parts.specs.declared.part.Bracket.TheVariants as rounds
+use Rattle.form_parts.specs.declared.part.Separator as separators
+use Rattle.form_parts.specs.declared.part.Separator.TheVariants as signs
 
 -- where a ground value was read
 abbrev pub of_ground : Side → Ground → Spelt

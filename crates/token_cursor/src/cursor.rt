@@ -14,11 +14,11 @@ ghost use Rattle.std.specs.Prelude.{◌≡◌, ◌<◌, ◌≤◌, IfOk, length,
 
 use crate::mark::is_mark;
 use calculus::{Kind, Rights, Simple};
+use form_parts::part::{Bracket, Separator};
+use form_parts::parts;
 use grammar::{Fault, Mark};
 use rho_lexer::{Token, TokenKind};
 use std::alloc::Global;
-use syntax_forms::part::{Bracket, Separator};
-use syntax_forms::parts;
 
 /// The tokens that are left of a source. After a fault `rest` begins where the fault shows, unless memory ran out.
 #[derive(Drop)]
@@ -55,7 +55,7 @@ fn begins_number(rest: &[Token]) -> bool
 }
 
 /// The sign that closes a bracket.
-pub(crate) fn closing_mark(bracket: Bracket) -> Mark
+pub fn closing_mark(bracket: Bracket) -> Mark
     ensures { result ≡ closing (bracket_of bracket) }
 {
     match bracket {
@@ -65,7 +65,7 @@ pub(crate) fn closing_mark(bracket: Bracket) -> Mark
 }
 
 /// The key of a simple type.
-pub(crate) fn type_mark(simple: Simple) -> Mark
+pub fn type_mark(simple: Simple) -> Mark
     ensures { result ≡ type_mark simple }
 {
     match simple {
@@ -101,7 +101,7 @@ fn bundle_mark(rights: Rights) -> Mark
 }
 
 /// What was made, and this mark after it, which is taken; where the mark is missing, what was made is let go.
-pub(crate) fn closed<T: Drop>(cursor: &mut Cursor<'_>, made: T, mark: Mark) -> Result<T, Fault>
+pub fn closed<T: Drop>(cursor: &mut Cursor<'_>, made: T, mark: Mark) -> Result<T, Fault>
     ensures reads { ReadsMarkAfter cursor.old made mark result cursor.new }
     ensures shorter { length cursor.new.rest.now ≤ length cursor.old.rest.now }
 {

@@ -4,7 +4,7 @@ use Rattle.std.proofs.lemmas.List.Elements.{All-cons, All-head, All-nil, All-tai
 use Rattle.std.specs.Prelude.{Option, Some, None, Vec, Result, Ok, Err}
 use Rattle.std.specs.Result.{MatchResult, IfOk}
 use Rattle.std.specs.declared.alloc.Global.{Global}
-use Rattle.list_laws.proofs.Members.{Every}
+use Rattle.calculus.proofs.Members.{Every}
 use Rattle.calculus.specs.Tree.{par, row, case, match, new, Tree, none, also, trees}
 use Rattle.calculus.specs.Shape.{leaf, one, two, many}
 use Rattle.calculus.specs.Variables.{Sense, bound, binders}

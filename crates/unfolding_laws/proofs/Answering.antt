@@ -1,7 +1,7 @@
 -- What operators and methods answer on good values is good, and known.
 use Rattle.std.proofs.Common.{ℕ, Bool, true, false, cond, ◌&&◌, not, List, ◌++◌, ℤ, pos, negsuc, neg_ℤ, ◌+ℤ◌, ◌-ℤ◌, ◌*ℤ◌, int_le, int_lt, int_div, int_rem, ◌^◌}
 use Rattle.std.specs.Prelude.{⊤}
-use Rattle.list_laws.proofs.Members.{every-append, every-filter}
+use Rattle.calculus.proofs.Members.{every-append, every-filter}
 use Rattle.calculus.specs.declared.plain.UnaryOp.{UnaryOp}
 use Rattle.calculus.specs.declared.plain.UnaryOp.TheVariants as unary_op
 use Rattle.calculus.specs.declared.plain.BinaryOp.{BinaryOp}

@@ -2,7 +2,7 @@
 use Rattle.std.proofs.Common.{◌≡◌, Bool, true, false, not, ◌||◌, cond, List, [], ◌∷◌, ◌++◌, map as each, refl, subst, sym}
 use Rattle.std.specs.Prelude.{⊤, flat_map}
 use Rattle.std.proofs.lemmas.Bool.{true≢false}
-use Rattle.list_laws.proofs.Members.{Every, every-append, every-each, every-flat}
+use Rattle.calculus.proofs.Members.{Every, every-append, every-each, every-flat}
 use Rattle.calculus.specs.declared.plain.TermRest.{TermRest}
 use Rattle.calculus.specs.declared.plain.TermRest.TheVariants as rests
 use Rattle.calculus.specs.Tree.{Label, row, list, tuple, set, dict, pair, send, bundle, pattern, any, some_process, some_name, simple, same, both, either, not_this, list_pattern, set_pattern, map_pattern, Tree, node, Trees, none, also}

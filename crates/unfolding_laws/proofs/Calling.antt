@@ -1,7 +1,7 @@
 -- What methods answer on good values is good, and known.
 use Rattle.std.proofs.Common.{ℕ, zero, suc, Bool, ◌&&◌, not, leb, eqb, List, [], ◌∷◌, ◌++◌, length, take, drop, map as each, filter, Option, Some, None, pos, negsuc, bytes_eq}
 use Rattle.std.specs.Prelude.{⊤}
-use Rattle.list_laws.proofs.Members.{Every, every-append, every-take, every-drop, every-filter}
+use Rattle.calculus.proofs.Members.{Every, every-append, every-take, every-drop, every-filter}
 use Rattle.calculus.specs.declared.fault.FaultKind.TheVariants as fault
 use Rattle.calculus.specs.Tree.{par, pair, Tree}
 use Rattle.calculus.specs.Shape.{leaf, two, at}

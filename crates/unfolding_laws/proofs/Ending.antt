@@ -1,7 +1,7 @@
 -- Parts that unfold with each seed, whatever changes are made to them.
 use Rattle.std.proofs.Common.{ℕ, Bool, true, false, cond, ltb, List, [], ◌∷◌, map as each}
 use Rattle.std.specs.Prelude.{⊤}
-use Rattle.list_laws.proofs.Members.{Every}
+use Rattle.calculus.proofs.Members.{Every}
 use Rattle.calculus.specs.declared.fault.FaultKind.TheVariants as fault
 use Rattle.calculus.specs.Tree.{Label, row, bool, int, str, uri, bytes, fresh, var, name_var, list, tuple, set, dict, send, receive, new, match, unary, binary, method, Tree, node, Trees, none, also}
 use Rattle.calculus.specs.Shape.{joined_trees, two, many}

@@ -1,7 +1,7 @@
 -- Good trees: each part of them has a property, and so have all that a pattern, an operator or a method can take out of it.
 use Rattle.std.proofs.Common.{ℕ, zero, suc, List, [], ◌∷◌}
 use Rattle.std.specs.Prelude.{⊤}
-use Rattle.list_laws.proofs.Members.{Every}
+use Rattle.calculus.proofs.Members.{Every}
 use Rattle.calculus.specs.Tree.{Label, par, row, bool, int, str, uri, bytes, fresh, list, tuple, set, dict, pair, send, receive, bind, new, match, case, bundle, unary, binary, method, Tree, node, Trees, none, also, trees}
 use Rattle.calculus.specs.Shape.{listed, held, joined_trees, at, leaf}
 use Rattle.unfolding_laws.proofs.Patterns.{PatternRole, a_pat, the_pats, a_rest}

@@ -1,7 +1,7 @@
 -- What is so of each thing of a list.
 use Rattle.std.proofs.Common.{ℕ, Bool, true, false, cond, List, [], ◌∷◌, map as each}
 use Rattle.std.specs.Prelude.{zip}
-use Rattle.list_laws.proofs.Members.{Every, every-each}
+use Rattle.calculus.proofs.Members.{Every, every-each}
 use Rattle.calculus.specs.Tree.{Tree}
 use Rattle.calculus.specs.Order.{up_to}
 use Rattle.calculus.specs.Code.{code}

@@ -1,7 +1,7 @@
 -- Values that are made of good ones.
 use Rattle.std.proofs.Common.{Bool, true, false, cond, List, [], ◌∷◌, map as each}
 use Rattle.std.specs.Prelude.{⊤, flat_map}
-use Rattle.list_laws.proofs.Members.{Every, every-each, every-flat}
+use Rattle.calculus.proofs.Members.{Every, every-each, every-flat}
 use Rattle.calculus.specs.Tree.{Label, bool, int, str, uri, bytes, fresh, list, tuple, set, dict, pair, Tree, node, Trees, none, also, trees}
 use Rattle.calculus.specs.Shape.{leaf, many, only, process, held, two}
 use Rattle.calculus.specs.Congruence.{congruent}

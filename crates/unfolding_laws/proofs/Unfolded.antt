@@ -1,6 +1,6 @@
 -- Good processes unfold: with each seed there is room enough.
 use Rattle.std.proofs.Common.{◌≡◌, ℕ, suc, ◌+◌, ◌<◌, Bool, List, [], ◌∷◌, ◌++◌, reverse, arith}
-use Rattle.list_laws.proofs.Members.{Every, every-reverse}
+use Rattle.calculus.proofs.Members.{Every, every-reverse}
 use Rattle.calculus.specs.Tree.{Label, par, bool, int, str, uri, bytes, fresh, list, tuple, set, dict, send, receive, new, match, bundle, unary, binary, method, Tree, node, Trees, none, also, trees}
 use Rattle.calculus.specs.Shape.{held, listed, joined_trees, at}
 use Rattle.calculus.specs.Variables.{bound}

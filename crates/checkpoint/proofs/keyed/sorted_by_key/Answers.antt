@@ -2,7 +2,7 @@ use Rattle.std.proofs.Common.{ℕ, List, rules}
 use Rattle.std.proofs.lemmas.Cmp.{nat_list_cmp_total}
 use Rattle.std.proofs.lemmas.List.Sorted.{answers_always, ranks_by}
 use Rattle.std.specs.List.Sorted.{IsSortedBy}
-use Rattle.list_laws.proofs.Permutations.{each-moved}
+use Rattle.calculus.proofs.Permutations.{each-moved}
 use Rattle.checkpoint.specs.declared.keyed.KeyedRow.{KeyedRow}
 use Rattle.checkpoint.specs.Groups.{row_of, IsKeyed}
 use Rattle.checkpoint.proofs.Adding.{all-moved}

@@ -10,7 +10,7 @@ use Rattle.grammar.specs.Values.{closed_of}
 use Rattle.grammar.specs.declared.fault.Fault.{Fault}
 use Rattle.grammar.specs.declared.fault.Fault.TheVariants.{NoMemory}
 use Rattle.token_cursor.specs.Reading.{Gives, Makes, of_pat, of_proc}
-use Rattle.syntax_forms.specs.declared.part.Part.{Part}
+use Rattle.form_parts.specs.declared.part.Part.{Part}
 use Rattle.form_steps.proofs.Turning.{built}
 use Rattle.form_ends.proofs.form_end.closed_form.Goals as goal
 

@@ -1,8 +1,8 @@
 use Rattle.calculus.specs.declared.process.Name.{Name}
 use Rattle.grammar.specs.Rules.{sign}
 use Rattle.grammar.specs.declared.mark.Mark.TheVariants.{Assign, Close}
-use Rattle.syntax_forms.specs.declared.part.Left.{Left}
-use Rattle.syntax_forms.specs.declared.part.Part.{Part}
+use Rattle.form_parts.specs.declared.part.Left.{Left}
+use Rattle.form_parts.specs.declared.part.Part.{Part}
 use Rattle.token_cursor.specs.Reading.{of_left, of_name}
 use Rattle.std.proofs.Common.{arith, ◌<◌}
 use Rattle.form_ends.proofs.Kept.{both_room, both_turns, kept}

@@ -1,5 +1,5 @@
 use Rattle.calculus.specs.Meaning.{name_written, proc_written}
-use Rattle.syntax_forms.specs.Forms.{left_written}
+use Rattle.form_parts.specs.Forms.{left_written}
 use Rattle.grammar.specs.Rules.{done}
 use Rattle.grammar.specs.Values.{contract_of, opened}
 use Rattle.form_steps.proofs.Handed.{as_fault, as_read, if_read, made_room}

@@ -1,4 +1,4 @@
-use Rattle.hub_steps.proofs.Loops.{Stays}
+use Rattle.hub_desks.proofs.Staying.{Stays}
 use Rattle.hub_steps.proofs.steps.take_turn.Given as goal
 
 abbrev pub invariant-loop : goal.invariant-loop

@@ -1,6 +1,6 @@
 use Rattle.std.proofs.Common.{List, [], map, refl, sym, subst, inr, ◌∙◌, append-nil}
 use Rattle.std.specs.Prelude.{IsPermutation}
-use Rattle.list_laws.proofs.Permutations.{each-moved}
+use Rattle.calculus.proofs.Permutations.{each-moved}
 use Rattle.calculus.specs.Order.{IsAscending}
 use Rattle.next_states.specs.Pairs.{Pair, pair_of, cut_by, IsChanged}
 use Rattle.next_states.specs.Walks.{Agrees, Covers, row_of}

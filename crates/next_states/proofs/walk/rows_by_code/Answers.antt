@@ -3,7 +3,7 @@ use Rattle.std.specs.Prelude.{IsPermutation}
 use Rattle.std.proofs.lemmas.Cmp.{nat_list_cmp_total}
 use Rattle.std.proofs.lemmas.List.Sorted.{answers_always, ranks_by}
 use Rattle.std.specs.List.Sorted.{IsSortedBy}
-use Rattle.list_laws.proofs.Permutations.{each-moved}
+use Rattle.calculus.proofs.Permutations.{each-moved}
 use Rattle.calculus.specs.Rows.{Row}
 use Rattle.checkpoint.proofs.Adding.{all-moved}
 use Rattle.checkpoint.proofs.Sorting.{low, ascending}

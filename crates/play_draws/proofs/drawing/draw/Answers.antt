@@ -3,7 +3,7 @@ use Rattle.std.specs.Prelude.{IfSome}
 use Rattle.calculus.specs.Rows.{Row as Stored}
 use Rattle.group_locks.specs.Seats.{held_by}
 use Rattle.play_hub.proofs.Drawing.{hands-are}
-use Rattle.row_search.specs.Laws.{MeetsAtHand}
+use Rattle.found_rows.specs.AtHand.{MeetsAtHand}
 use Rattle.shard_tables.specs.Hands.{AreInHand}
 use Rattle.play_draws.proofs.drawing.draw.Goals as goal
 

@@ -9,7 +9,7 @@ use Rattle.hub_rule.specs.Counts.{things_of}
 use Rattle.hub_rule.specs.Rule.{kept_if}
 use Rattle.group_locks.specs.Seats.{held_by, since_of, drawn_by, took_by, taken_by}
 use Rattle.hub_rule.proofs.Offers.{things_numbered}
-use Rattle.row_search.specs.Laws.{MeetsAtHand}
+use Rattle.found_rows.specs.AtHand.{MeetsAtHand}
 use Rattle.shard_tables.specs.Hands.{AreInHand, AreMade, LosesRows}
 use Rattle.play_hub.specs.declared.entry.PlayEntry.{PlayEntry}
 use Rattle.play_draws.specs.Turns.{HoldsGroup}

@@ -6,7 +6,7 @@ use Rattle.calculus.specs.Outcome.{Prices}
 use Rattle.group_locks.specs.Seats.{drawn_by}
 use Rattle.play_hub.specs.declared.entry.PlayEntry.{PlayEntry}
 use Rattle.play_draws.specs.Making.{IsReady}
-use Rattle.play_draws.proofs.Numbers.{rest-is}
+use Rattle.play_draws.proofs.Lists.{rest-is}
 use Rattle.play_draws.proofs.drawing.ready_step.Goals as goal
 
 pub drawn-drawn-requires-send-S-Work : goal.drawn-drawn-requires-send-S-Work
@@ -19,11 +19,11 @@ pub returns : goal.returns
 returns g c =
     let all : List (ℕ × PlayEntry) = c.drawn-drawn.result.now in
     let from = c.args.taken.from in
-    let p = c.args.means.prices.now in
-    let cap = c.args.means.limit in
-    let r = c.make_ready.result in
-    let whole = subst (λ (l : List (ℕ × PlayEntry)). IfOk r (IsReady p cap c.args.found l)) (rest-is from all) c.make_ready.ensures in
+    let p = g.M.StepMaker.prices c.args.maker.now in
+    let cap = g.M.StepMaker.limit c.args.maker.now in
+    let r = c.make.result in
+    let whole = subst (λ (l : List (ℕ × PlayEntry)). IfOk r (IsReady p cap c.args.found l)) (rest-is from all) c.make.ensures in
     let took : List (ℕ × PlayEntry) = drop from (drawn_by c.args.seat.now.state) in
     let a = subst (λ (l : List (ℕ × PlayEntry)). IfOk r (IsReady p cap c.args.found (drop from l))) c.drawn-drawn.ensures whole in
-    let b = subst (λ (q : Prices). IfOk r (IsReady q cap c.args.found took)) (sym c.requires.means.0) a in
-    subst (λ (n : ℕ). IfOk r (IsReady g.J.PlayTerms.deploy.prices n c.args.found took)) (sym c.requires.means.1) b
+    let b = subst (λ (q : Prices). IfOk r (IsReady q cap c.args.found took)) (sym c.requires.maker.0) a in
+    subst (λ (n : ℕ). IfOk r (IsReady g.J.PlayTerms.deploy.prices n c.args.found took)) (sym c.requires.maker.1) b

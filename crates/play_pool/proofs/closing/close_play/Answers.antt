@@ -1,4 +1,5 @@
-use denote.Param.Send.{sendable}
+use denote.Exit.{no}
+use denote.Param.Send.{arg_send, arg_sync, param_send, param_sync}
 use Rattle.sent_rows.proofs.Crossing.{row-send, row-sync}
 use Rattle.std.proofs.Common.{rules, ◌≡◌, false}
 use Rattle.group_locks.specs.Seats.{limit_of, opened_shards, opened_works, spent_of}
@@ -6,10 +7,10 @@ use Rattle.play_pool.proofs.Closes.{closes}
 use Rattle.play_pool.proofs.closing.close_play.Goals as goal
 
 pub close-requires-send-S-Work : goal.close-requires-send-S-Work
-close-requires-send-S-Work g c κs within = let a = row-send in search sendable depth 10
+close-requires-send-S-Work g c κs within = param_send _ _ (arg_send _ no _ row-send)
 
 pub close-requires-sync-S-Work : goal.close-requires-sync-S-Work
-close-requires-sync-S-Work g c κs within = let a = row-sync in search sendable depth 10
+close-requires-sync-S-Work g c κs within = param_sync _ _ (arg_sync _ no _ row-sync)
 
 pub close-requires-clause-seats : goal.close-requires-clause-seats
 close-requires-clause-seats g c κs within = λ k d lt. (c.requires.seats k d lt).0

@@ -1,4 +1,5 @@
-use denote.Param.Send.{sendable}
+use denote.Exit.{no}
+use denote.Param.Send.{arg_send, arg_sync, param_send, param_sync}
 use Rattle.sent_rows.proofs.Crossing.{row-send, row-sync}
 use Rattle.std.proofs.Common.{ap}
 use Rattle.std.proofs.lemmas.Result.{IfOk-weaker}
@@ -9,10 +10,10 @@ use Rattle.play_pool.proofs.Opens.{opens, both-ok}
 use Rattle.play_pool.proofs.opening.open_play.Goals as goal
 
 pub start-requires-send-S-Work : goal.start-requires-send-S-Work
-start-requires-send-S-Work g c κs within = let a = row-send in search sendable depth 10
+start-requires-send-S-Work g c κs within = param_send _ _ (arg_send _ no _ row-send)
 
 pub start-requires-sync-S-Work : goal.start-requires-sync-S-Work
-start-requires-sync-S-Work g c κs within = let a = row-sync in search sendable depth 10
+start-requires-sync-S-Work g c κs within = param_sync _ _ (arg_sync _ no _ row-sync)
 
 pub start-requires-clause-opens : goal.start-requires-clause-opens
 start-requires-clause-opens g c κs within =

@@ -1,4 +1,5 @@
-use denote.Param.Send.{sendable}
+use denote.Exit.{no}
+use denote.Param.Send.{arg_send, arg_sync, param_send, param_sync}
 use Rattle.sent_rows.proofs.Crossing.{row-send, row-sync}
 use Rattle.std.proofs.Common.{◌≡◌, ◌∙◌, ℕ, List, sym, subst, arith}
 use Rattle.std.proofs.lemmas.Nat.{le_or_l}
@@ -10,22 +11,22 @@ use Rattle.play_worker.proofs.Groups.{shown-held}
 use Rattle.play_worker.proofs.group.take_shown.Goals as goal
 
 pub take_group-requires-send-S-Work : goal.take_group-requires-send-S-Work
-take_group-requires-send-S-Work g c κs within = let a = row-send in search sendable depth 10
+take_group-requires-send-S-Work g c κs within = param_send _ _ (arg_send _ no _ row-send)
 
 pub take_group-requires-sync-S-Work : goal.take_group-requires-sync-S-Work
-take_group-requires-sync-S-Work g c κs within = let a = row-sync in search sendable depth 10
+take_group-requires-sync-S-Work g c κs within = param_sync _ _ (arg_sync _ no _ row-sync)
 
 pub give_group-requires-send-S-Work : goal.give_group-requires-send-S-Work
-give_group-requires-send-S-Work g c κs within = let a = row-send in search sendable depth 10
+give_group-requires-send-S-Work g c κs within = param_send _ _ (arg_send _ no _ row-send)
 
 pub give_group-requires-sync-S-Work : goal.give_group-requires-sync-S-Work
-give_group-requires-sync-S-Work g c κs within = let a = row-sync in search sendable depth 10
+give_group-requires-sync-S-Work g c κs within = param_sync _ _ (arg_sync _ no _ row-sync)
 
 pub give_group-requires-in-loop-shown-send-S-Work : goal.give_group-requires-in-loop-shown-send-S-Work
-give_group-requires-in-loop-shown-send-S-Work g c κs within = let a = row-send in search sendable depth 10
+give_group-requires-in-loop-shown-send-S-Work g c κs within = param_send _ _ (arg_send _ no _ row-send)
 
 pub give_group-requires-in-loop-shown-sync-S-Work : goal.give_group-requires-in-loop-shown-sync-S-Work
-give_group-requires-in-loop-shown-sync-S-Work g c κs within = let a = row-sync in search sendable depth 10
+give_group-requires-in-loop-shown-sync-S-Work g c κs within = param_sync _ _ (arg_sync _ no _ row-sync)
 
 pub give_group-requires-clause-carries : goal.give_group-requires-clause-carries
 give_group-requires-clause-carries g c κs within =

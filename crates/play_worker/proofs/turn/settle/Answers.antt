@@ -1,36 +1,37 @@
-use denote.Param.Send.{sendable}
+use denote.Exit.{no}
+use denote.Param.Send.{arg_send, arg_sync, param_send, param_sync}
 use Rattle.sent_rows.proofs.Crossing.{row-send, row-sync}
 use Rattle.std.proofs.Common.{◌∙◌, sym, ap, subst, length, drop, Option, ℕ}
 use Rattle.std.specs.List.{slice_get}
 use Rattle.group_locks.specs.Seats.{drawn_by}
 use Rattle.play_draws.specs.Making.{IsAgain}
-use Rattle.play_draws.proofs.Numbers.{last-at}
+use Rattle.play_draws.proofs.Lists.{last-at}
 use Rattle.play_worker.proofs.Seats.{stays-on}
 use Rattle.play_worker.proofs.turn.settle.Goals as goal
 
 pub charge-requires-send-S-Work : goal.charge-requires-send-S-Work
-charge-requires-send-S-Work g c κs within = let a = row-send in search sendable depth 10
+charge-requires-send-S-Work g c κs within = param_send _ _ (arg_send _ no _ row-send)
 
 pub charge-requires-sync-S-Work : goal.charge-requires-sync-S-Work
-charge-requires-sync-S-Work g c κs within = let a = row-sync in search sendable depth 10
+charge-requires-sync-S-Work g c κs within = param_sync _ _ (arg_sync _ no _ row-sync)
 
 pub stop-requires-send-S-Work : goal.stop-requires-send-S-Work
-stop-requires-send-S-Work g c κs within = let a = row-send in search sendable depth 10
+stop-requires-send-S-Work g c κs within = param_send _ _ (arg_send _ no _ row-send)
 
 pub stop-requires-sync-S-Work : goal.stop-requires-sync-S-Work
-stop-requires-sync-S-Work g c κs within = let a = row-sync in search sendable depth 10
+stop-requires-sync-S-Work g c κs within = param_sync _ _ (arg_sync _ no _ row-sync)
 
 pub leave_ops-requires-send-S-Work : goal.leave_ops-requires-send-S-Work
-leave_ops-requires-send-S-Work g c κs within = let a = row-send in search sendable depth 10
+leave_ops-requires-send-S-Work g c κs within = param_send _ _ (arg_send _ no _ row-send)
 
 pub leave_ops-requires-sync-S-Work : goal.leave_ops-requires-sync-S-Work
-leave_ops-requires-sync-S-Work g c κs within = let a = row-sync in search sendable depth 10
+leave_ops-requires-sync-S-Work g c κs within = param_sync _ _ (arg_sync _ no _ row-sync)
 
 pub stop-requires-in_default-send-S-Work : goal.stop-requires-in_default-send-S-Work
-stop-requires-in_default-send-S-Work g c κs within = let a = row-send in search sendable depth 10
+stop-requires-in_default-send-S-Work g c κs within = param_send _ _ (arg_send _ no _ row-send)
 
 pub stop-requires-in_default-sync-S-Work : goal.stop-requires-in_default-sync-S-Work
-stop-requires-in_default-sync-S-Work g c κs within = let a = row-sync in search sendable depth 10
+stop-requires-in_default-sync-S-Work g c κs within = param_sync _ _ (arg_sync _ no _ row-sync)
 
 pub stop-requires-clause-fault : goal.stop-requires-clause-fault
 stop-requires-clause-fault g c κs within _ =

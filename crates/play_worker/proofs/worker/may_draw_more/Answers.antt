@@ -1,21 +1,22 @@
-use denote.Param.Send.{sendable}
+use denote.Exit.{no}
+use denote.Param.Send.{arg_send, arg_sync, param_send, param_sync}
 use Rattle.sent_rows.proofs.Crossing.{row-send, row-sync}
 use Rattle.play_worker.proofs.worker.may_draw_more.Goals as goal
 
 pub again-requires-send-S-Work : goal.again-requires-send-S-Work
-again-requires-send-S-Work g c κs within = let a = row-send in search sendable depth 10
+again-requires-send-S-Work g c κs within = param_send _ _ (arg_send _ no _ row-send)
 
 pub again-requires-sync-S-Work : goal.again-requires-sync-S-Work
-again-requires-sync-S-Work g c κs within = let a = row-sync in search sendable depth 10
+again-requires-sync-S-Work g c κs within = param_sync _ _ (arg_sync _ no _ row-sync)
 
 pub stop-requires-send-S-Work : goal.stop-requires-send-S-Work
-stop-requires-send-S-Work g c κs within = let a = row-send in search sendable depth 10
+stop-requires-send-S-Work g c κs within = param_send _ _ (arg_send _ no _ row-send)
 
 pub stop-requires-sync-S-Work : goal.stop-requires-sync-S-Work
-stop-requires-sync-S-Work g c κs within = let a = row-sync in search sendable depth 10
+stop-requires-sync-S-Work g c κs within = param_sync _ _ (arg_sync _ no _ row-sync)
 
 pub may_go-requires-send-S-Work : goal.may_go-requires-send-S-Work
-may_go-requires-send-S-Work g c κs within = let a = row-send in search sendable depth 10
+may_go-requires-send-S-Work g c κs within = param_send _ _ (arg_send _ no _ row-send)
 
 pub may_go-requires-sync-S-Work : goal.may_go-requires-sync-S-Work
-may_go-requires-sync-S-Work g c κs within = let a = row-sync in search sendable depth 10
+may_go-requires-sync-S-Work g c κs within = param_sync _ _ (arg_sync _ no _ row-sync)

@@ -1,4 +1,5 @@
-use denote.Param.Send.{sendable}
+use denote.Exit.{no}
+use denote.Param.Send.{arg_send, arg_sync, param_send, param_sync}
 use Rattle.sent_rows.proofs.Crossing.{row-send, row-sync}
 use Rattle.std.proofs.Common.{ℕ, List, drop, length, subst, sym}
 use Rattle.play_hub.specs.declared.entry.PlayEntry.{PlayEntry}
@@ -6,10 +7,10 @@ use Rattle.play_draws.specs.Making.{IsAgain}
 use Rattle.play_worker.proofs.worker.work_on.Goals as goal
 
 pub drawn-from-requires-send-S-Work : goal.drawn-from-requires-send-S-Work
-drawn-from-requires-send-S-Work g c κs within = let a = row-send in search sendable depth 10
+drawn-from-requires-send-S-Work g c κs within = param_send _ _ (arg_send _ no _ row-send)
 
 pub drawn-from-requires-sync-S-Work : goal.drawn-from-requires-sync-S-Work
-drawn-from-requires-sync-S-Work g c κs within = let a = row-sync in search sendable depth 10
+drawn-from-requires-sync-S-Work g c κs within = param_sync _ _ (arg_sync _ no _ row-sync)
 
 pub may_draw_more-requires-clause-work : goal.may_draw_more-requires-clause-work
 may_draw_more-requires-clause-work g c κs within = (c.take_turn.ensures.more c.in-More.next c.in-More.is).0

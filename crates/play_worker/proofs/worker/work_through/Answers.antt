@@ -1,15 +1,16 @@
-use denote.Param.Send.{sendable}
+use denote.Exit.{no}
+use denote.Param.Send.{arg_send, arg_sync, param_send, param_sync}
 use Rattle.sent_rows.proofs.Crossing.{row-send, row-sync}
 use Rattle.play_worker.proofs.worker.work_through.Goals as goal
 
 pub stop-requires-send-S-Work : goal.stop-requires-send-S-Work
-stop-requires-send-S-Work g c κs within = let a = row-send in search sendable depth 10
+stop-requires-send-S-Work g c κs within = param_send _ _ (arg_send _ no _ row-send)
 
 pub stop-requires-sync-S-Work : goal.stop-requires-sync-S-Work
-stop-requires-sync-S-Work g c κs within = let a = row-sync in search sendable depth 10
+stop-requires-sync-S-Work g c κs within = param_sync _ _ (arg_sync _ no _ row-sync)
 
 pub take_op-requires-send-S-Work : goal.take_op-requires-send-S-Work
-take_op-requires-send-S-Work g c κs within = let a = row-send in search sendable depth 10
+take_op-requires-send-S-Work g c κs within = param_send _ _ (arg_send _ no _ row-send)
 
 pub take_op-requires-sync-S-Work : goal.take_op-requires-sync-S-Work
-take_op-requires-sync-S-Work g c κs within = let a = row-sync in search sendable depth 10
+take_op-requires-sync-S-Work g c κs within = param_sync _ _ (arg_sync _ no _ row-sync)

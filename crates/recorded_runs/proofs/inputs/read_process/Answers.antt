@@ -1,5 +1,5 @@
 use Rattle.std.proofs.Common.{List, ℕ, IfSome, subst}
-use Rattle.sources.specs.Faults.{refusal_of}
+use Rattle.input_faults.specs.Refusals.{refusal_of}
 use Rattle.sources.specs.Sources.{IsRefused}
 use Rattle.recorded_runs.proofs.Reading.{no_refusal}
 use Rattle.recorded_runs.proofs.inputs.read_process.Goals as goal

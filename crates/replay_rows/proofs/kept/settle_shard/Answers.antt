@@ -1,6 +1,6 @@
 use Rattle.std.proofs.Common.{List, ap, subst, ◌∙◌, map as each}
 use Rattle.std.specs.Prelude.{flat_map}
-use Rattle.list_laws.proofs.Members.{member-left, member-right}
+use Rattle.calculus.proofs.Members.{member-left, member-right}
 use Rattle.calculus.specs.declared.ids.Digest.{Digest}
 use Rattle.event_log.specs.View.{step_of}
 use Rattle.racing_replays.specs.Replaying.{names}

@@ -1,6 +1,6 @@
 use Rattle.std.proofs.Common.{◌≡◌, ◌∙◌, List, true, refl, sym, ap, subst}
 use Rattle.std.specs.Prelude.{Option, MatchOption, IsPermutation}
-use Rattle.list_laws.proofs.Permutations.{join, moved_so}
+use Rattle.calculus.proofs.Permutations.{join, moved_so}
 use Rattle.calculus.specs.Rows.{Row}
 use Rattle.calculus.specs.Steps.{differ}
 use Rattle.events.specs.Events.{first_ids}

@@ -4,7 +4,7 @@ use Rattle.calculus.specs.declared.ids.Digest.{Digest}
 use Rattle.calculus.specs.Log.{Step}
 use Rattle.calculus.specs.Rows.{Row}
 use Rattle.events.specs.Found.{met}
-use Rattle.row_search.specs.declared.found.Found.{Found}
+use Rattle.found_rows.specs.declared.found.Found.{Found}
 use Rattle.row_meeting.specs.Meeting.{IsMeeting}
 use Rattle.replay_scene.specs.Spaces.{bare}
 use Rattle.replay_slots.specs.Hands.{all_shown, parts_of}

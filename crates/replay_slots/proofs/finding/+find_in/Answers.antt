@@ -1,6 +1,6 @@
 use Rattle.std.proofs.Common.{◌≡◌, ◌-◌, List, sym, ap, ◌∙◌, take, drop, length}
 use Rattle.std.specs.Prelude.{Some, None, option_map, option_copied}
-use Rattle.replay_space.proofs.Turned.{first-of}
+use Rattle.replay_slots.proofs.Firsts.{first-of}
 use Rattle.replay_rows.specs.Rows.{find_seen, part_of, seen_row}
 use Rattle.replay_slots.specs.Hands.{Slot, all_shown, parts_of, shown_at}
 use Rattle.replay_slots.proofs.Placing.{found-first-of, found-second-of}

@@ -1,5 +1,5 @@
 use Rattle.std.proofs.Common.{refl}
-use Rattle.sources.specs.Faults.{refusal_of}
+use Rattle.input_faults.specs.Refusals.{refusal_of}
 use Rattle.run_status.proofs.Handing.{handed}
 use Rattle.run_inputs.proofs.Refusing.{fault_cause}
 use Rattle.run_inputs.proofs.acceptance.accept_term.Goals as goal

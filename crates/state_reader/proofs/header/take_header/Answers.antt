@@ -1,7 +1,7 @@
 use Rattle.std.proofs.Common.{sym, ap, ◌∙◌, length, arith}
 use Rattle.std.specs.Prelude.{Err}
 use Rattle.std.proofs.lemmas.List.{length-take, length-drop}
-use Rattle.state_reader.specs.declared.fault.StateFault.{StateFault}
+use Rattle.input_faults.specs.declared.state_fault.StateFault.{StateFault}
 use Rattle.state_reader.proofs.Heading.{cut-behind, header-is, length-same}
 use Rattle.state_reader.proofs.Misplaced.{one-fault}
 use Rattle.state_reader.proofs.header.take_header.Goals as goal

@@ -1,9 +1,9 @@
 use Rattle.std.proofs.Common.{◌+◌, refl, ◌∙◌, ap, arith, length, length-append, map}
 use Rattle.calculus.specs.Bytes.{joined}
 use Rattle.calculus.specs.Rows.{row_code}
+use Rattle.input_faults.specs.declared.state_fault.StateFault.{StateFault}
 use Rattle.state_reader.proofs.Placing.{rows-grown, count-grown}
 use Rattle.std.specs.Prelude.{Err}
-use Rattle.state_reader.specs.declared.fault.StateFault.{StateFault}
 use Rattle.state_reader.proofs.Misplaced.{one-fault}
 use Rattle.state_reader.proofs.Beginning.{none-in-hand}
 use Rattle.state_reader.proofs.read.take_rows.Goals as goal

@@ -2,8 +2,8 @@ use Rattle.std.proofs.Common.{◌≤◌, ap, subst, arith, length, length-append
 use Rattle.std.specs.Prelude.{Err}
 use Rattle.calculus.specs.Bytes.{joined}
 use Rattle.calculus.specs.Rows.{row_code}
+use Rattle.input_faults.specs.declared.state_fault.StateFault.{StateFault}
 use Rattle.state_reader.specs.Files.{in_row, IsWrongAt, past_end}
-use Rattle.state_reader.specs.declared.fault.StateFault.{StateFault}
 use Rattle.state_reader.proofs.Heading.{place-same}
 use Rattle.state_reader.proofs.Laid.{laid, left-within}
 use Rattle.state_reader.proofs.Misplaced.{one-fault}

@@ -4,7 +4,7 @@ use Rattle.std.proofs.lemmas.Cmp.{nat_list_cmp_total}
 use Rattle.std.proofs.lemmas.List.Sorted.{answers_always, ranks_by}
 use Rattle.std.specs.List.Sorted.{IsSortedBy}
 use Rattle.std.specs.Borrow.{Bor}
-use Rattle.list_laws.proofs.Permutations.{each-moved}
+use Rattle.calculus.proofs.Permutations.{each-moved}
 use Rattle.radix_root.specs.Leaves.{group_digest}
 use Rattle.radix_root.specs.Groups.{given}
 use Rattle.checkpoint.proofs.Sorting.{low, ascending}

@@ -10,19 +10,19 @@ use Rattle.grammar.specs.Values.{bundle_of, drop_of, new_of, not_of, opened, pat
 use Rattle.grammar.specs.declared.dialect.Dialect.TheVariants.{Tutorial}
 use Rattle.grammar.specs.Terminals.{sees}
 use Rattle.grammar.specs.declared.mark.Mark.TheVariants.{CloseBrace, Comma, OpenBrace}
-use Rattle.form_steps.specs.Parts.{HasRoomForPart, HasRoomForTerm, PassesPart, PassesTerm, after_part_step, after_term_step, form_sort}
+use Rattle.form_steps.specs.Parts.{HasRoomForPart, HasRoomForTerm, PassesPart, PassesTerm, after_key, after_part_step, after_term_step, form_sort}
 use Rattle.form_steps.specs.Steps.{HasRoomFor, HasRoomForPattern, Passes, PassesOperator, PassesPattern, after_operator, after_pattern_step, after_process_step, member_patterns_of, members_of}
 use Rattle.form_steps.proofs.Handed.{at_read, if_read, resume, under_read}
 use Rattle.form_steps.proofs.Turning.{as_rule, built}
 use Rattle.form_ends.proofs.Choices.{cases_end, cases_go_on, group_off, group_on, name_at, name_plain, pattern_name_at, pattern_name_plain, row_empty, sequence_empty, sequence_rest}
-use Rattle.form_ends.proofs.Forms.{arms_read, bind_read, binds_closed, case_begun, case_read, contract_begun, contract_named, contract_read, first_bind, for_begun, more_binds, no_bind, receive_read, test_read, with_else, without_else}
+use Rattle.form_ends.proofs.Forms.{arms_read, bind_read, binds_closed, binds_go_on, case_begun, case_read, contract_begun, contract_named, contract_read, first_bind, for_begun, no_bind, receive_read, test_read, with_else, without_else}
 use Rattle.form_ends.proofs.Lists.{left_first, left_goes_on, par_ended, par_first, par_goes_on, row_ended, row_first, row_goes_on, sequence_first, sequence_goes_on}
 use Rattle.form_ends.proofs.Pairs.{block_closed, block_ended, block_first, block_goes_on, no_pair, pair_read, pattern_block_closed, pattern_block_first, pattern_block_goes_on}
 use Rattle.form_ends.proofs.Lengths.{grows, if_same, less_both, less_left, no_longer, none_given, none_left, none_left_below, under_free}
 use Rattle.form_ends.proofs.Processes.{fits, no_cases_yet}
 use Rattle.form_ends.specs.Reading.{pattern_pair, process_pair}
-use Rattle.form_ends.proofs.Cycle.{at_step, form_as, level_as, prefix_as, unmoved}
-use Rattle.syntax_forms.specs.declared.part.Part.{Part}
+use Rattle.form_ends.proofs.Cycle.{at_step, level_as, prefix_as, unmoved}
+use Rattle.form_parts.specs.declared.part.Part.{Part}
 use Rattle.token_cursor.proofs.Steps.{exit, gives_up, leave}
 use Rattle.token_cursor.specs.Reading.{bracket_of, of_bind, of_pat, of_proc, of_row, of_sequence, sees_member, separator_of}
 use Rattle.std.proofs.Common.{Err, Ok, OnOk, [], ap, arith, false, map, subst, sym, ◌-◌, ◌<◌, ◌∙◌, ◌≡◌, ◌≤◌}
@@ -35,31 +35,6 @@ bind-returns t c =
 
 pub bind-returns-in_err-left : goal.bind-returns-in_err-left
 bind-returns-in_err-left t c = record { reads = λ after. leave (λ b. after (of_bind b)) _ _ c.from_residual.ensures.1 (no_bind c.args.free _ _ _ c.args.kind c.arrow_mark.result after (Err c.in_err-left.field-0.0) c.arrow_mark.ensures c.left-pats.ensures.reads c.in_err-left.ensures.reads); room = none_left (c.args.free - 1) _ _ c.from_residual.ensures.1; shorter = omega (arith, c.left-pats.ensures.shorter, c.in_err-left.ensures.shorter) }
-
-pub binds_tail-binds_tail-requires : goal.binds_tail-binds_tail-requires
-binds_tail-binds_tail-requires t c = omega (arith, c.requires, c.in_ok-all.ensures.room (c.args.free - 1) (omega (arith, c.requires)) c.bind-next.ensures.room, c.skip_separator.ensures.less c.if-skip_separator.true, c.bind-next.ensures.shorter)
-
-pub binds_tail-close_receive-requires : goal.binds_tail-close_receive-requires
-binds_tail-close_receive-requires t c =
-    let n : c.in_ok-head.head.height < c.args.free = if_read (λ bs. bs.height < c.args.free) _ c.in_ok-head.ensures.same c.requires in
-    record { binds = omega (arith, n, c.ranges.free); body = grows _ c.par-body.ensures.room (omega (arith, c.ranges.free)) }
-
-pub binds_tail-par-body-requires : goal.binds_tail-par-body-requires
-binds_tail-par-body-requires t c = omega (arith, c.skip_separator.ensures.shorter, c.in_ok-head.ensures.shorter)
-
-pub binds_tail-returns : goal.binds_tail-returns
-binds_tail-returns t c =
-    let n : c.in_ok-head.head.height < c.args.free = if_read (λ bs. bs.height < c.args.free) _ c.in_ok-head.ensures.same c.requires in
-    record { reads = receive_read _ _ _ _ c.args.kind c.in_ok-head.head (binds_closed c.args.free _ c.args.kind (separator_of c.args.separator) c.args.more c.args.binds (Ok c.in_ok-head.head) (sym c.skip_separator.ensures.is ∙ c.if-skip_separator.false) (c.skip_separator.ensures.stays c.if-skip_separator.false) c.in_ok-head.ensures.reads) c.par-body.ensures.reads c.close_receive.ensures.reads; room = c.close_receive.ensures.room c.args.free n (under_free _ c.par-body.ensures.room (omega (arith, n))); shorter = omega (arith, c.skip_separator.ensures.shorter, c.in_ok-head.ensures.shorter, c.par-body.ensures.shorter, c.close_receive.ensures.shorter) }
-
-pub binds_tail-returns-in_err-all : goal.binds_tail-returns-in_err-all
-binds_tail-returns-in_err-all t c = record { reads = exit of_proc _ _ c.from_residual.ensures.1 (more_binds c.args.free _ _ c.args.kind (separator_of c.args.separator) c.args.more c.args.binds.value.items c.args.binds.height (Err c.in_err-all.field-0.0) (sym c.skip_separator.ensures.is ∙ c.if-skip_separator.true) (c.skip_separator.ensures.takes c.if-skip_separator.true) c.bind-next.ensures.reads c.in_err-all.ensures.reads); room = none_left c.args.free _ _ c.from_residual.ensures.1; shorter = omega (arith, c.skip_separator.ensures.shorter, c.bind-next.ensures.shorter) }
-
-pub binds_tail-returns-in_err-head : goal.binds_tail-returns-in_err-head
-binds_tail-returns-in_err-head t c = record { reads = exit of_proc _ _ c.from_residual-in_err-head.ensures.1 (binds_closed c.args.free _ c.args.kind (separator_of c.args.separator) c.args.more c.args.binds (Err c.in_err-head.field-0.0) (sym c.skip_separator.ensures.is ∙ c.if-skip_separator.false) (c.skip_separator.ensures.stays c.if-skip_separator.false) c.in_err-head.ensures.reads); room = none_left c.args.free _ _ c.from_residual-in_err-head.ensures.1; shorter = omega (arith, c.skip_separator.ensures.shorter, c.in_err-head.ensures.shorter) }
-
-pub binds_tail-returns-then-skip_separator : goal.binds_tail-returns-then-skip_separator
-binds_tail-returns-then-skip_separator t c = record { reads = more_binds c.args.free _ _ c.args.kind (separator_of c.args.separator) c.args.more c.args.binds.value.items c.args.binds.height (Ok c.in_ok-all.all) (sym c.skip_separator.ensures.is ∙ c.if-skip_separator.true) (c.skip_separator.ensures.takes c.if-skip_separator.true) c.bind-next.ensures.reads c.in_ok-all.ensures.reads _ (runs_last c.binds_tail.ensures.reads); room = c.binds_tail.ensures.room; shorter = omega (arith, c.skip_separator.ensures.shorter, c.bind-next.ensures.shorter, c.binds_tail.ensures.shorter) }
 
 pub block-close_map-requires : goal.block-close_map-requires
 block-close_map-requires t c = grows _ c.each.invariant.room (omega (arith, c.ranges.free))
@@ -86,27 +61,6 @@ case-returns-in_err-pattern t c = record { reads = λ v. leave (λ d. last (Sort
 
 pub case-returns-in_err-refuse_minus : goal.case-returns-in_err-refuse_minus
 case-returns-in_err-refuse_minus t c = record { reads = λ t0. leave (λ d. last (Sort.CaseTail t0 (map case_written d.value.items) d.height)) _ _ c.from_residual.ensures.1 (no_next c.in_err-refuse_minus.ensures.reads); room = none_left_below c.args.free _ _ c.from_residual.ensures.1; shorter = less_left _ _ c.from_residual.ensures.1 (omega (arith, c.in_err-refuse_minus.ensures.shorter)) }
-
-pub contract_form-contract_with_body-requires : goal.contract_form-contract_with_body-requires
-contract_form-contract_with_body-requires t c =
-    let n : c.in_ok-name.name.height ≤ c.args.free - 1 = if_read (λ p. p.height ≤ c.args.free - 1) _ c.in_ok-name.ensures.same c.name-channel.ensures.room in
-    let h = c.in_ok-head.ensures.room c.args.free (omega (arith, n, c.in_ok-opens.ensures.room)) (under_free _ c.left-left.ensures.room c.in_ok-opens.ensures.room) in
-    record { name = omega (arith, h.0, c.ranges.free); left = omega (arith, h.1, c.ranges.free); body = grows _ c.one-body.ensures.room (omega (arith, c.ranges.free)) }
-
-pub contract_form-returns : goal.contract_form-returns
-contract_form-returns t c =
-    let n : c.in_ok-name.name.height ≤ c.args.free - 1 = if_read (λ p. p.height ≤ c.args.free - 1) _ c.in_ok-name.ensures.same c.name-channel.ensures.room in
-    let h = c.in_ok-head.ensures.room c.args.free (omega (arith, n, c.in_ok-opens.ensures.room)) (under_free _ c.left-left.ensures.room c.in_ok-opens.ensures.room) in
-    record { reads = contract_read _ _ _ c.in_ok-head.head (contract_begun _ _ _ _ _ c.in_ok-name.name (Ok c.in_ok-head.head) c.in_ok-opens.ensures.reads c.name-channel.ensures.reads c.in_ok-name.ensures.reads c.left-left.ensures.reads c.in_ok-head.ensures.reads) c.one-body.ensures.reads c.contract_with_body.ensures.reads; room = c.contract_with_body.ensures.room c.args.free h.0 h.1 (under_free _ c.one-body.ensures.room c.in_ok-opens.ensures.room); shorter = omega (arith, c.in_ok-opens.ensures.shorter, c.name-channel.ensures.shorter, c.in_ok-name.ensures.shorter, c.left-left.ensures.shorter, c.in_ok-head.ensures.shorter, c.one-body.ensures.shorter) }
-
-pub contract_form-returns-in_err-head : goal.contract_form-returns-in_err-head
-contract_form-returns-in_err-head t c = record { reads = exit of_proc _ _ c.from_residual-in_err-head.ensures.1 (contract_begun _ _ _ _ _ c.in_ok-name.name (Err c.in_err-head.field-0.0) c.in_ok-opens.ensures.reads c.name-channel.ensures.reads c.in_ok-name.ensures.reads c.left-left.ensures.reads c.in_err-head.ensures.reads); room = none_left c.args.free _ _ c.from_residual-in_err-head.ensures.1; shorter = omega (arith, c.in_ok-opens.ensures.shorter, c.name-channel.ensures.shorter, c.in_ok-name.ensures.shorter, c.left-left.ensures.shorter, c.in_err-head.ensures.shorter) }
-
-pub contract_form-returns-in_err-name : goal.contract_form-returns-in_err-name
-contract_form-returns-in_err-name t c = record { reads = exit of_proc _ _ c.from_residual-in_err-name.ensures.1 (contract_named _ _ _ (Err c.in_err-name.field-0.0) c.in_ok-opens.ensures.reads c.name-channel.ensures.reads c.in_err-name.ensures.reads); room = none_left c.args.free _ _ c.from_residual-in_err-name.ensures.1; shorter = omega (arith, c.in_ok-opens.ensures.shorter, c.name-channel.ensures.shorter, c.in_err-name.ensures.shorter) }
-
-pub contract_form-returns-in_err-opens : goal.contract_form-returns-in_err-opens
-contract_form-returns-in_err-opens t c = record { reads = exit of_proc _ _ c.from_residual.ensures.1 (no_opens c.in_err-opens.ensures.reads); room = none_left c.args.free _ _ c.from_residual.ensures.1; shorter = omega (arith, c.in_err-opens.ensures.shorter) }
 
 pub drop_form-dropped_quote-requires : goal.drop_form-dropped_quote-requires
 drop_form-dropped_quote-requires t c = grows _ c.drop_form-quoted.ensures.room (omega (arith, c.ranges.free))
@@ -172,81 +126,6 @@ drop_form-tuple-requires t c =
     let m = subst (HasRoomFor c.args.free) c.in-Ok-Group.field-0-is c.in-Ok-Group.ensures.room in
     record { first = omega (arith, c.in_ok-inner-in-Ok-Group.ensures.room, m, c.ranges.free); row = grows _ c.row-row.ensures.room (omega (arith, c.ranges.free)) }
 
-pub for_form-binds_tail-requires : goal.for_form-binds_tail-requires
-for_form-binds_tail-requires t c =
-    let l = if_read (λ p. p.height ≤ c.args.free - 1) _ c.in_ok-left.ensures.same c.left-pats.ensures.room in
-    omega (arith, c.in_ok-opens.ensures.room, c.in_ok-first.ensures.room (c.args.free - 1) (c.bound-bind.ensures.room (c.args.free - 1) l c.name.ensures.room), c.in_ok-opens.ensures.shorter, c.in_ok-expect.ensures.shorter, c.left-pats.ensures.shorter, c.in_ok-left.ensures.shorter, c.name.ensures.shorter)
-
-pub for_form-returns : goal.for_form-returns
-for_form-returns t c = record { reads = first_bind _ _ _ c.arrow-kind.result (separator_of c.next_separator-separator.result) c.in_ok-left.left (Ok c.in_ok-first.first) (for_begun _ _ _ c.arrow-kind.result c.arrow_mark.result (Ok c.in_ok-left.left) c.in_ok-opens.ensures.reads c.in_ok-expect.ensures.reads c.left-pats.ensures.reads c.arrow-kind.ensures c.arrow_mark.ensures c.in_ok-left.ensures.reads) c.name.ensures.reads c.bound-bind.ensures.reads c.next_separator-separator.ensures c.in_ok-first.ensures.reads _ (runs_last c.binds_tail.ensures.reads); room = c.binds_tail.ensures.room; shorter = omega (arith, c.in_ok-opens.ensures.shorter, c.in_ok-expect.ensures.shorter, c.left-pats.ensures.shorter, c.in_ok-left.ensures.shorter, c.name.ensures.shorter, c.binds_tail.ensures.shorter) }
-
-pub for_form-returns-in_err-expect : goal.for_form-returns-in_err-expect
-for_form-returns-in_err-expect t c = record { reads = exit of_proc _ _ c.from_residual-in_err-expect.ensures.1 (runs_opens c.in_ok-opens.ensures.reads (no_sign c.in_err-expect.ensures.reads)); room = none_left c.args.free _ _ c.from_residual-in_err-expect.ensures.1; shorter = omega (arith, c.in_ok-opens.ensures.shorter, c.in_err-expect.ensures.shorter) }
-
-pub for_form-returns-in_err-first : goal.for_form-returns-in_err-first
-for_form-returns-in_err-first t c = record { reads = exit of_proc _ _ c.from_residual-in_err-first.ensures.1 (first_bind _ _ _ c.arrow-kind.result (separator_of c.next_separator-separator.result) c.in_ok-left.left (Err c.in_err-first.field-0.0) (for_begun _ _ _ c.arrow-kind.result c.arrow_mark.result (Ok c.in_ok-left.left) c.in_ok-opens.ensures.reads c.in_ok-expect.ensures.reads c.left-pats.ensures.reads c.arrow-kind.ensures c.arrow_mark.ensures c.in_ok-left.ensures.reads) c.name.ensures.reads c.bound-bind.ensures.reads c.next_separator-separator.ensures c.in_err-first.ensures.reads); room = none_left c.args.free _ _ c.from_residual-in_err-first.ensures.1; shorter = omega (arith, c.in_ok-opens.ensures.shorter, c.in_ok-expect.ensures.shorter, c.left-pats.ensures.shorter, c.in_ok-left.ensures.shorter, c.name.ensures.shorter) }
-
-pub for_form-returns-in_err-left : goal.for_form-returns-in_err-left
-for_form-returns-in_err-left t c = record { reads = exit of_proc _ _ c.from_residual-in_err-left.ensures.1 (for_begun _ _ _ c.arrow-kind.result c.arrow_mark.result (Err c.in_err-left.field-0.0) c.in_ok-opens.ensures.reads c.in_ok-expect.ensures.reads c.left-pats.ensures.reads c.arrow-kind.ensures c.arrow_mark.ensures c.in_err-left.ensures.reads); room = none_left c.args.free _ _ c.from_residual-in_err-left.ensures.1; shorter = omega (arith, c.in_ok-opens.ensures.shorter, c.in_ok-expect.ensures.shorter, c.left-pats.ensures.shorter, c.in_err-left.ensures.shorter) }
-
-pub for_form-returns-in_err-opens : goal.for_form-returns-in_err-opens
-for_form-returns-in_err-opens t c = record { reads = exit of_proc _ _ c.from_residual.ensures.1 (no_opens c.in_err-opens.ensures.reads); room = none_left c.args.free _ _ c.from_residual.ensures.1; shorter = omega (arith, c.in_err-opens.ensures.shorter) }
-
-pub form-returns-in-Contract : goal.form-returns-in-Contract
-form-returns-in-Contract t c = record { reads = form_as _ _ _ _ c.in-Contract.is c.contract_form.ensures.reads; room = c.contract_form.ensures.room; shorter = omega (arith, c.contract_form.ensures.shorter) }
-
-pub form-returns-in-For : goal.form-returns-in-For
-form-returns-in-For t c = record { reads = form_as _ _ _ _ c.in-For.is c.for_form.ensures.reads; room = c.for_form.ensures.room; shorter = omega (arith, c.for_form.ensures.shorter) }
-
-pub form-returns-in-If : goal.form-returns-in-If
-form-returns-in-If t c = record { reads = form_as _ _ _ _ c.in-If.is c.if_form.ensures.reads; room = c.if_form.ensures.room; shorter = omega (arith, c.if_form.ensures.shorter) }
-
-pub form-returns-in-Match : goal.form-returns-in-Match
-form-returns-in-Match t c = record { reads = form_as _ _ _ _ c.in-Match.is c.match_form.ensures.reads; room = c.match_form.ensures.room; shorter = omega (arith, c.match_form.ensures.shorter) }
-
-pub form-returns-in-New : goal.form-returns-in-New
-form-returns-in-New t c = record { reads = form_as _ _ _ _ c.in-New.is c.new_form.ensures.reads; room = c.new_form.ensures.room; shorter = omega (arith, c.new_form.ensures.shorter) }
-
-pub if_form-if_only-requires : goal.if_form-if_only-requires
-if_form-if_only-requires t c =
-    let e : c.in_ok-test.test.height ≤ c.args.free - 1 = if_read (λ p. p.height ≤ c.args.free - 1) _ c.in_ok-test.ensures.same c.par-condition.ensures.room in
-    let p : c.in_ok-arms.arms.1.height ≤ c.args.free - 1 = if_read (λ p. p.height ≤ c.args.free - 1) _ c.in_ok-arms.ensures.1 c.two.ensures.room in
-    let i : c.in_ok-arms.arms.0.height ≡ c.in_ok-test.test.height = ap (λ (x : Part Proc). x.height) c.in_ok-arms.ensures.0 in
-    record { condition = omega (arith, e, i, c.in_ok-opens.ensures.room, c.ranges.free); yes = omega (arith, p, c.in_ok-opens.ensures.room, c.ranges.free) }
-
-pub if_form-if_with_else-requires : goal.if_form-if_with_else-requires
-if_form-if_with_else-requires t c =
-    let e : c.in_ok-test.test.height ≤ c.args.free - 1 = if_read (λ p. p.height ≤ c.args.free - 1) _ c.in_ok-test.ensures.same c.par-condition.ensures.room in
-    let p : c.in_ok-arms.arms.1.height ≤ c.args.free - 1 = if_read (λ p. p.height ≤ c.args.free - 1) _ c.in_ok-arms.ensures.1 c.two.ensures.room in
-    let i : c.in_ok-arms.arms.0.height ≡ c.in_ok-test.test.height = ap (λ (x : Part Proc). x.height) c.in_ok-arms.ensures.0 in
-    record { condition = omega (arith, e, i, c.in_ok-opens.ensures.room, c.ranges.free); yes = omega (arith, p, c.in_ok-opens.ensures.room, c.ranges.free); no = grows _ c.one-other.ensures.room (omega (arith, c.ranges.free)) }
-
-pub if_form-returns : goal.if_form-returns
-if_form-returns t c =
-    let e : c.in_ok-test.test.height ≤ c.args.free - 1 = if_read (λ p. p.height ≤ c.args.free - 1) _ c.in_ok-test.ensures.same c.par-condition.ensures.room in
-    let p : c.in_ok-arms.arms.1.height ≤ c.args.free - 1 = if_read (λ p. p.height ≤ c.args.free - 1) _ c.in_ok-arms.ensures.1 c.two.ensures.room in
-    let i : c.in_ok-arms.arms.0.height ≡ c.in_ok-test.test.height = ap (λ (x : Part Proc). x.height) c.in_ok-arms.ensures.0 in
-    record { reads = arms_read _ _ c.in_ok-test.test (Ok c.in_ok-arms.arms) (test_read _ _ _ (Ok c.in_ok-test.test) c.in_ok-opens.ensures.reads c.in_ok-expect.ensures.reads c.par-condition.ensures.reads c.in_ok-test.ensures.reads) c.two.ensures.reads c.in_ok-arms.ensures _ (with_else _ _ _ c.in_ok-arms.arms (sym c.skip.ensures.is ∙ c.if-not-skip.false) (c.skip.ensures.takes c.if-not-skip.false) c.one-other.ensures.reads c.if_with_else.ensures.reads); room = c.if_with_else.ensures.room c.args.free (omega (arith, e, i, c.in_ok-opens.ensures.room)) (omega (arith, p, c.in_ok-opens.ensures.room)) (under_free _ c.one-other.ensures.room c.in_ok-opens.ensures.room); shorter = omega (arith, c.in_ok-opens.ensures.shorter, c.in_ok-expect.ensures.shorter, c.par-condition.ensures.shorter, c.in_ok-test.ensures.shorter, c.two.ensures.shorter, c.skip.ensures.shorter, c.one-other.ensures.shorter) }
-
-pub if_form-returns-in_err-arms : goal.if_form-returns-in_err-arms
-if_form-returns-in_err-arms t c = record { reads = exit of_proc _ _ c.from_residual-in_err-arms.ensures.1 (arms_read _ _ c.in_ok-test.test (Err c.in_err-arms.field-0.0) (test_read _ _ _ (Ok c.in_ok-test.test) c.in_ok-opens.ensures.reads c.in_ok-expect.ensures.reads c.par-condition.ensures.reads c.in_ok-test.ensures.reads) c.two.ensures.reads c.in_err-arms.ensures); room = none_left c.args.free _ _ c.from_residual-in_err-arms.ensures.1; shorter = omega (arith, c.in_ok-opens.ensures.shorter, c.in_ok-expect.ensures.shorter, c.par-condition.ensures.shorter, c.in_ok-test.ensures.shorter, c.two.ensures.shorter) }
-
-pub if_form-returns-in_err-expect : goal.if_form-returns-in_err-expect
-if_form-returns-in_err-expect t c = record { reads = exit of_proc _ _ c.from_residual-in_err-expect.ensures.1 (runs_opens c.in_ok-opens.ensures.reads (no_sign c.in_err-expect.ensures.reads)); room = none_left c.args.free _ _ c.from_residual-in_err-expect.ensures.1; shorter = omega (arith, c.in_ok-opens.ensures.shorter, c.in_err-expect.ensures.shorter) }
-
-pub if_form-returns-in_err-opens : goal.if_form-returns-in_err-opens
-if_form-returns-in_err-opens t c = record { reads = exit of_proc _ _ c.from_residual.ensures.1 (no_opens c.in_err-opens.ensures.reads); room = none_left c.args.free _ _ c.from_residual.ensures.1; shorter = omega (arith, c.in_err-opens.ensures.shorter) }
-
-pub if_form-returns-in_err-test : goal.if_form-returns-in_err-test
-if_form-returns-in_err-test t c = record { reads = exit of_proc _ _ c.from_residual-in_err-test.ensures.1 (test_read _ _ _ (Err c.in_err-test.field-0.0) c.in_ok-opens.ensures.reads c.in_ok-expect.ensures.reads c.par-condition.ensures.reads c.in_err-test.ensures.reads); room = none_left c.args.free _ _ c.from_residual-in_err-test.ensures.1; shorter = omega (arith, c.in_ok-opens.ensures.shorter, c.in_ok-expect.ensures.shorter, c.par-condition.ensures.shorter, c.in_err-test.ensures.shorter) }
-
-pub if_form-returns-then-not-skip : goal.if_form-returns-then-not-skip
-if_form-returns-then-not-skip t c =
-    let e : c.in_ok-test.test.height ≤ c.args.free - 1 = if_read (λ p. p.height ≤ c.args.free - 1) _ c.in_ok-test.ensures.same c.par-condition.ensures.room in
-    let p : c.in_ok-arms.arms.1.height ≤ c.args.free - 1 = if_read (λ p. p.height ≤ c.args.free - 1) _ c.in_ok-arms.ensures.1 c.two.ensures.room in
-    let i : c.in_ok-arms.arms.0.height ≡ c.in_ok-test.test.height = ap (λ (x : Part Proc). x.height) c.in_ok-arms.ensures.0 in
-    record { reads = arms_read _ _ c.in_ok-test.test (Ok c.in_ok-arms.arms) (test_read _ _ _ (Ok c.in_ok-test.test) c.in_ok-opens.ensures.reads c.in_ok-expect.ensures.reads c.par-condition.ensures.reads c.in_ok-test.ensures.reads) c.two.ensures.reads c.in_ok-arms.ensures _ (without_else _ c.in_ok-arms.arms.0 c.in_ok-arms.arms.1 (sym c.skip.ensures.is ∙ c.if-not-skip.true) (c.skip.ensures.stays c.if-not-skip.true) c.if_only.ensures.tree c.if_only.ensures.height); room = fits _ c.if_only.ensures.height (omega (arith, e, i, p, c.in_ok-opens.ensures.room)); shorter = omega (arith, c.in_ok-opens.ensures.shorter, c.in_ok-expect.ensures.shorter, c.par-condition.ensures.shorter, c.in_ok-test.ensures.shorter, c.two.ensures.shorter, c.skip.ensures.shorter) }
-
 pub left-close_left-requires : goal.left-close_left-requires
 left-close_left-requires t c = subst (λ ts. OnOk c.each.pats (sees_member ts ≡ false)) (sym (c.skip_comma_after.ensures.stays c.each-test.false)) (c.skip_comma_after.ensures.ends c.each-test.false)
 
@@ -274,29 +153,6 @@ level-returns-in-Ends t c = record { reads = level_as _ _ c.in-Some.is (c.in-End
 pub level-returns-in-None : goal.level-returns-in-None
 level-returns-in-None t c = record { reads = prefix_as c.args.within c.in-None.is c.pre.ensures.reads; room = c.pre.ensures.room; shorter = omega (arith, c.pre.ensures.shorter) }
 
-pub match_form-case-requires : goal.match_form-case-requires
-match_form-case-requires t c = omega (arith, c.each.invariant.room, c.each.invariant.shorter)
-
-pub match_form-each-init : goal.match_form-each-init
-match_form-each-init t c =
-    let k = if_read (λ p. p.height ≤ c.args.free - 1) _ c.in_ok-target.ensures.same c.level-value.ensures.room in
-    record { turns = λ out h. runs_opens c.in_ok-opens.ensures.reads (c.in_ok-target.ensures.reads _ _ _ (λ v. last (Sort.Case (of_proc v) [] v.height)) (under_read _ _ _ of_proc (λ v. sign OpenBrace (last (Sort.Case v [] v.height))) _ c.level-value.ensures.reads) out (runs_last (no_cases_yet (λ cs k. rule Tutorial (Prod.case (of_proc c.in_ok-target.target) cs k)) _ c.no_cases-cases.result c.no_cases-cases.ensures.tree c.no_cases-cases.ensures.height h))); room = omega (arith, c.no_cases-cases.ensures.height, k, c.in_ok-opens.ensures.room); shorter = omega (arith, c.in_ok-opens.ensures.shorter, c.level-value.ensures.shorter, c.in_ok-target.ensures.shorter) }
-
-pub match_form-each-preserved : goal.match_form-each-preserved
-match_form-each-preserved t c = record { turns = λ out h. c.each.invariant.turns _ (c.in-Ok.ensures.reads (of_proc c.in_ok-target.target) _ (cases_go_on _ _ _ (sym c.skip.ensures.is ∙ c.if-skip.false) (runs_last (unmoved (c.skip.ensures.stays c.if-skip.false) h)))); room = c.in-Ok.ensures.room; shorter = omega (arith, c.each.invariant.shorter, c.in-Ok.ensures.shorter, c.skip.ensures.shorter) }
-
-pub match_form-returns-in-Err : goal.match_form-returns-in-Err
-match_form-returns-in-Err t c = record { reads = gives_up of_proc _ _ c.give_up.ensures (c.each.invariant.turns _ (c.in-Err.ensures.reads (of_proc c.in_ok-target.target))); room = none_given c.args.free _ _ c.give_up.ensures; shorter = omega (arith, c.each.invariant.shorter, c.in-Err.ensures.shorter) }
-
-pub match_form-returns-in_err-opens : goal.match_form-returns-in_err-opens
-match_form-returns-in_err-opens t c = record { reads = exit of_proc _ _ c.from_residual.ensures.1 (no_opens c.in_err-opens.ensures.reads); room = none_left c.args.free _ _ c.from_residual.ensures.1; shorter = omega (arith, c.in_err-opens.ensures.shorter) }
-
-pub match_form-returns-in_err-target : goal.match_form-returns-in_err-target
-match_form-returns-in_err-target t c = record { reads = exit of_proc _ _ c.from_residual-in_err-target.ensures.1 (runs_opens c.in_ok-opens.ensures.reads (c.in_err-target.ensures.reads _ _ _ (λ v. last (Sort.Case (of_proc v) [] v.height)) (under_read _ _ _ of_proc (λ v. sign OpenBrace (last (Sort.Case v [] v.height))) _ c.level-value.ensures.reads))); room = none_left c.args.free _ _ c.from_residual-in_err-target.ensures.1; shorter = omega (arith, c.in_ok-opens.ensures.shorter, c.level-value.ensures.shorter, c.in_err-target.ensures.shorter) }
-
-pub match_form-returns-then-skip : goal.match_form-returns-then-skip
-match_form-returns-then-skip t c = record { reads = c.each.invariant.turns _ (c.in-Ok.ensures.reads (of_proc c.in_ok-target.target) _ (cases_end _ _ _ (sym c.skip.ensures.is ∙ c.if-skip.true) (runs_sign (c.skip.ensures.takes c.if-skip.true) (built proc_written _ _ c.matches.ensures.tree c.matches.ensures.height)))); room = fits _ c.matches.ensures.height (omega (arith, c.in-Ok.ensures.room)); shorter = omega (arith, c.each.invariant.shorter, c.in-Ok.ensures.shorter, c.skip.ensures.shorter) }
-
 pub meth-called-target-requires : goal.meth-called-target-requires
 meth-called-target-requires t c = record { target = omega (arith, c.in-GoesOn.ensures.room, c.ranges.free); args = grows _ c.row-args.ensures.room (omega (arith, c.ranges.free)) }
 
@@ -314,15 +170,6 @@ name-returns t c = record { reads = name_at (sym c.skip.ensures.is ∙ c.if-not-
 
 pub name-returns-then-not-skip : goal.name-returns-then-not-skip
 name-returns-then-not-skip t c = record { reads = name_plain c.args.self.now.cursor.rest.now (sym c.skip.ensures.is ∙ c.if-not-skip.true) (unmoved (c.skip.ensures.stays c.if-not-skip.true) (c.name_word.ensures.reads _)); room = fits _ c.name_word.ensures.height (omega arith); shorter = omega (arith, c.skip.ensures.shorter, c.name_word.ensures.shorter) }
-
-pub new_form-new_with_body-requires : goal.new_form-new_with_body-requires
-new_form-new_with_body-requires t c = grows _ c.one-body.ensures.room (omega (arith, c.ranges.free))
-
-pub new_form-returns : goal.new_form-returns
-new_form-returns t c = record { reads = c.new_with_body.ensures.reads _ _ _ _ (resume _ (λ p. done (opened (new_of (map declared c.in_ok-names.names.items) (of_proc p).tree) p.height)) _ c.in_ok-names.ensures.reads (under_read _ _ _ of_proc (λ p. done (opened (new_of (map declared c.in_ok-names.names.items) p.tree) p.height)) _ c.one-body.ensures.reads)); room = c.new_with_body.ensures.room c.args.free (under_free _ c.one-body.ensures.room c.in_ok-names.ensures.room); shorter = omega (arith, c.in_ok-names.ensures.shorter, c.one-body.ensures.shorter) }
-
-pub new_form-returns-in_err-names : goal.new_form-returns-in_err-names
-new_form-returns-in_err-names t c = record { reads = exit of_proc _ _ c.from_residual.ensures.1 c.in_err-names.ensures.reads; room = none_left c.args.free _ _ c.from_residual.ensures.1; shorter = omega (arith, c.in_err-names.ensures.shorter) }
 
 pub one-returns-in-None : goal.one-returns-in-None
 one-returns-in-None t c = record { reads = as_rule _ _ c.in-None.ensures (runs_last c.two.ensures.reads); room = c.two.ensures.room; shorter = omega (arith, c.two.ensures.shorter) }
@@ -646,3 +493,138 @@ two-sent-requires t c =
     let m = subst (HasRoomForTerm c.args.free) c.in-Ok-Quoted.field-0-is c.in-Ok-Quoted.ensures.room in
     let h = c.in_ok-channel-in-Ok-Quoted.ensures.room c.args.free (under_free _ c.drop_form-quoted.ensures.room m) in
     record { channel = omega (arith, h, c.ranges.free); args = grows _ c.row-args.ensures.room (omega (arith, c.ranges.free)) }
+
+pub form-returns-in_err-begin_keyed : goal.form-returns-in_err-begin_keyed
+form-returns-in_err-begin_keyed t c = record { reads = exit of_proc _ _ c.from_residual.ensures.1 (c.in_err-begin_keyed.ensures.reads); room = none_left c.args.free _ _ c.from_residual.ensures.1; shorter = omega (arith, c.in_err-begin_keyed.ensures.shorter) }
+
+pub form-returns-in_err-names-in-New : goal.form-returns-in_err-names-in-New
+form-returns-in_err-names-in-New t c =
+    let k = at_step after_key _ _ c.in-New.is c.in_ok-begin_keyed.ensures.reads in
+    record { reads = exit of_proc _ _ c.from_residual-in_err-names-in-New.ensures.1 (k _ (c.in_err-names-in-New.ensures.reads c.args.free)); room = none_left c.args.free _ _ c.from_residual-in_err-names-in-New.ensures.1; shorter = omega (arith, c.in_ok-begin_keyed.ensures.shorter, c.in_err-names-in-New.ensures.shorter) }
+
+pub form-new_with_body-requires : goal.form-new_with_body-requires
+form-new_with_body-requires t c = grows _ c.one-body.ensures.room (omega (arith, c.ranges.free))
+
+pub form-returns-in_ok-names-in-New : goal.form-returns-in_ok-names-in-New
+form-returns-in_ok-names-in-New t c =
+    let k = at_step after_key _ _ c.in-New.is c.in_ok-begin_keyed.ensures.reads in
+    record { reads = c.new_with_body.ensures.reads _ _ _ _ (resume _ (λ p. done (opened (new_of (map declared c.in_ok-names-in-New.names.items) (of_proc p).tree) p.height)) _ (λ out h. k out (c.in_ok-names-in-New.ensures.reads c.args.free out h)) (under_read _ _ _ of_proc (λ p. done (opened (new_of (map declared c.in_ok-names-in-New.names.items) p.tree) p.height)) _ c.one-body.ensures.reads)); room = c.new_with_body.ensures.room c.args.free (under_free _ c.one-body.ensures.room c.in_ok-begin_keyed.ensures.room); shorter = omega (arith, c.in_ok-begin_keyed.ensures.shorter, c.in_ok-names-in-New.ensures.shorter, c.one-body.ensures.shorter) }
+
+pub form-returns-in_err-test-in-If : goal.form-returns-in_err-test-in-If
+form-returns-in_err-test-in-If t c =
+    let k = at_step after_key _ _ c.in-If.is c.in_ok-begin_keyed.ensures.reads in
+    record { reads = exit of_proc _ _ c.from_residual-in_err-test-in-If.ensures.1 (test_read _ _ _ (Err c.in_err-test-in-If.field-0.0) k c.par-condition.ensures.reads c.in_err-test-in-If.ensures.reads); room = none_left c.args.free _ _ c.from_residual-in_err-test-in-If.ensures.1; shorter = omega (arith, c.in_ok-begin_keyed.ensures.shorter, c.par-condition.ensures.shorter, c.in_err-test-in-If.ensures.shorter) }
+
+pub form-returns-in_err-arms-in-If : goal.form-returns-in_err-arms-in-If
+form-returns-in_err-arms-in-If t c =
+    let k = at_step after_key _ _ c.in-If.is c.in_ok-begin_keyed.ensures.reads in
+    record { reads = exit of_proc _ _ c.from_residual-in_err-arms-in-If.ensures.1 (arms_read _ _ c.in_ok-test-in-If.test (Err c.in_err-arms-in-If.field-0.0) (test_read _ _ _ (Ok c.in_ok-test-in-If.test) k c.par-condition.ensures.reads c.in_ok-test-in-If.ensures.reads) c.two.ensures.reads c.in_err-arms-in-If.ensures); room = none_left c.args.free _ _ c.from_residual-in_err-arms-in-If.ensures.1; shorter = omega (arith, c.in_ok-begin_keyed.ensures.shorter, c.par-condition.ensures.shorter, c.in_ok-test-in-If.ensures.shorter, c.two.ensures.shorter) }
+
+pub form-if_only-requires : goal.form-if_only-requires
+form-if_only-requires t c =
+    let e : c.in_ok-test-in-If.test.height ≤ c.args.free - 1 = if_read (λ p. p.height ≤ c.args.free - 1) _ c.in_ok-test-in-If.ensures.same c.par-condition.ensures.room in
+    let p : c.in_ok-arms-in-If.arms.1.height ≤ c.args.free - 1 = if_read (λ p. p.height ≤ c.args.free - 1) _ c.in_ok-arms-in-If.ensures.1 c.two.ensures.room in
+    let i : c.in_ok-arms-in-If.arms.0.height ≡ c.in_ok-test-in-If.test.height = ap (λ (x : Part Proc). x.height) c.in_ok-arms-in-If.ensures.0 in
+    record { condition = omega (arith, e, i, c.in_ok-begin_keyed.ensures.room, c.ranges.free); yes = omega (arith, p, c.in_ok-begin_keyed.ensures.room, c.ranges.free) }
+
+pub form-if_with_else-requires : goal.form-if_with_else-requires
+form-if_with_else-requires t c =
+    let e : c.in_ok-test-in-If.test.height ≤ c.args.free - 1 = if_read (λ p. p.height ≤ c.args.free - 1) _ c.in_ok-test-in-If.ensures.same c.par-condition.ensures.room in
+    let p : c.in_ok-arms-in-If.arms.1.height ≤ c.args.free - 1 = if_read (λ p. p.height ≤ c.args.free - 1) _ c.in_ok-arms-in-If.ensures.1 c.two.ensures.room in
+    let i : c.in_ok-arms-in-If.arms.0.height ≡ c.in_ok-test-in-If.test.height = ap (λ (x : Part Proc). x.height) c.in_ok-arms-in-If.ensures.0 in
+    record { condition = omega (arith, e, i, c.in_ok-begin_keyed.ensures.room, c.ranges.free); yes = omega (arith, p, c.in_ok-begin_keyed.ensures.room, c.ranges.free); no = grows _ c.one-other.ensures.room (omega (arith, c.ranges.free)) }
+
+pub form-returns-then-not-skip : goal.form-returns-then-not-skip
+form-returns-then-not-skip t c =
+    let k = at_step after_key _ _ c.in-If.is c.in_ok-begin_keyed.ensures.reads in
+    let e : c.in_ok-test-in-If.test.height ≤ c.args.free - 1 = if_read (λ p. p.height ≤ c.args.free - 1) _ c.in_ok-test-in-If.ensures.same c.par-condition.ensures.room in
+    let p : c.in_ok-arms-in-If.arms.1.height ≤ c.args.free - 1 = if_read (λ p. p.height ≤ c.args.free - 1) _ c.in_ok-arms-in-If.ensures.1 c.two.ensures.room in
+    let i : c.in_ok-arms-in-If.arms.0.height ≡ c.in_ok-test-in-If.test.height = ap (λ (x : Part Proc). x.height) c.in_ok-arms-in-If.ensures.0 in
+    record { reads = arms_read _ _ c.in_ok-test-in-If.test (Ok c.in_ok-arms-in-If.arms) (test_read _ _ _ (Ok c.in_ok-test-in-If.test) k c.par-condition.ensures.reads c.in_ok-test-in-If.ensures.reads) c.two.ensures.reads c.in_ok-arms-in-If.ensures _ (without_else _ c.in_ok-arms-in-If.arms.0 c.in_ok-arms-in-If.arms.1 (sym c.skip.ensures.is ∙ c.if-not-skip.true) (c.skip.ensures.stays c.if-not-skip.true) c.if_only.ensures.tree c.if_only.ensures.height); room = fits _ c.if_only.ensures.height (omega (arith, e, i, p, c.in_ok-begin_keyed.ensures.room)); shorter = omega (arith, c.in_ok-begin_keyed.ensures.shorter, c.par-condition.ensures.shorter, c.in_ok-test-in-If.ensures.shorter, c.two.ensures.shorter, c.skip.ensures.shorter) }
+
+pub form-returns-else-not-skip : goal.form-returns-else-not-skip
+form-returns-else-not-skip t c =
+    let k = at_step after_key _ _ c.in-If.is c.in_ok-begin_keyed.ensures.reads in
+    let e : c.in_ok-test-in-If.test.height ≤ c.args.free - 1 = if_read (λ p. p.height ≤ c.args.free - 1) _ c.in_ok-test-in-If.ensures.same c.par-condition.ensures.room in
+    let p : c.in_ok-arms-in-If.arms.1.height ≤ c.args.free - 1 = if_read (λ p. p.height ≤ c.args.free - 1) _ c.in_ok-arms-in-If.ensures.1 c.two.ensures.room in
+    let i : c.in_ok-arms-in-If.arms.0.height ≡ c.in_ok-test-in-If.test.height = ap (λ (x : Part Proc). x.height) c.in_ok-arms-in-If.ensures.0 in
+    record { reads = arms_read _ _ c.in_ok-test-in-If.test (Ok c.in_ok-arms-in-If.arms) (test_read _ _ _ (Ok c.in_ok-test-in-If.test) k c.par-condition.ensures.reads c.in_ok-test-in-If.ensures.reads) c.two.ensures.reads c.in_ok-arms-in-If.ensures _ (with_else _ _ _ c.in_ok-arms-in-If.arms (sym c.skip.ensures.is ∙ c.if-not-skip.false) (c.skip.ensures.takes c.if-not-skip.false) c.one-other.ensures.reads c.if_with_else.ensures.reads); room = c.if_with_else.ensures.room c.args.free (omega (arith, e, i, c.in_ok-begin_keyed.ensures.room)) (omega (arith, p, c.in_ok-begin_keyed.ensures.room)) (under_free _ c.one-other.ensures.room c.in_ok-begin_keyed.ensures.room); shorter = omega (arith, c.in_ok-begin_keyed.ensures.shorter, c.par-condition.ensures.shorter, c.in_ok-test-in-If.ensures.shorter, c.two.ensures.shorter, c.skip.ensures.shorter, c.one-other.ensures.shorter) }
+
+pub form-returns-in_err-name-in-Contract : goal.form-returns-in_err-name-in-Contract
+form-returns-in_err-name-in-Contract t c =
+    let k = at_step after_key _ _ c.in-Contract.is c.in_ok-begin_keyed.ensures.reads in
+    record { reads = exit of_proc _ _ c.from_residual-in_err-name-in-Contract.ensures.1 (contract_named _ _ _ (Err c.in_err-name-in-Contract.field-0.0) k c.name-channel.ensures.reads c.in_err-name-in-Contract.ensures.reads); room = none_left c.args.free _ _ c.from_residual-in_err-name-in-Contract.ensures.1; shorter = omega (arith, c.in_ok-begin_keyed.ensures.shorter, c.name-channel.ensures.shorter, c.in_err-name-in-Contract.ensures.shorter) }
+
+pub form-returns-in_err-head-in-Contract : goal.form-returns-in_err-head-in-Contract
+form-returns-in_err-head-in-Contract t c =
+    let k = at_step after_key _ _ c.in-Contract.is c.in_ok-begin_keyed.ensures.reads in
+    record { reads = exit of_proc _ _ c.from_residual-in_err-head-in-Contract.ensures.1 (contract_begun _ _ _ _ _ c.in_ok-name-in-Contract.name (Err c.in_err-head-in-Contract.field-0.0) k c.name-channel.ensures.reads c.in_ok-name-in-Contract.ensures.reads c.left-left.ensures.reads c.in_err-head-in-Contract.ensures.reads); room = none_left c.args.free _ _ c.from_residual-in_err-head-in-Contract.ensures.1; shorter = omega (arith, c.in_ok-begin_keyed.ensures.shorter, c.name-channel.ensures.shorter, c.in_ok-name-in-Contract.ensures.shorter, c.left-left.ensures.shorter, c.in_err-head-in-Contract.ensures.shorter) }
+
+pub form-contract_with_body-requires : goal.form-contract_with_body-requires
+form-contract_with_body-requires t c =
+    let n : c.in_ok-name-in-Contract.name.height ≤ c.args.free - 1 = if_read (λ p. p.height ≤ c.args.free - 1) _ c.in_ok-name-in-Contract.ensures.same c.name-channel.ensures.room in
+    let h = c.in_ok-head-in-Contract.ensures.room c.args.free (omega (arith, n, c.in_ok-begin_keyed.ensures.room)) (under_free _ c.left-left.ensures.room c.in_ok-begin_keyed.ensures.room) in
+    record { name = omega (arith, h.0, c.ranges.free); left = omega (arith, h.1, c.ranges.free); body = grows _ c.one-body-in-Contract.ensures.room (omega (arith, c.ranges.free)) }
+
+pub form-returns-in_ok-head-in-Contract : goal.form-returns-in_ok-head-in-Contract
+form-returns-in_ok-head-in-Contract t c =
+    let k = at_step after_key _ _ c.in-Contract.is c.in_ok-begin_keyed.ensures.reads in
+    let n : c.in_ok-name-in-Contract.name.height ≤ c.args.free - 1 = if_read (λ p. p.height ≤ c.args.free - 1) _ c.in_ok-name-in-Contract.ensures.same c.name-channel.ensures.room in
+    let h = c.in_ok-head-in-Contract.ensures.room c.args.free (omega (arith, n, c.in_ok-begin_keyed.ensures.room)) (under_free _ c.left-left.ensures.room c.in_ok-begin_keyed.ensures.room) in
+    record { reads = contract_read _ _ _ c.in_ok-head-in-Contract.head (contract_begun _ _ _ _ _ c.in_ok-name-in-Contract.name (Ok c.in_ok-head-in-Contract.head) k c.name-channel.ensures.reads c.in_ok-name-in-Contract.ensures.reads c.left-left.ensures.reads c.in_ok-head-in-Contract.ensures.reads) c.one-body-in-Contract.ensures.reads c.contract_with_body.ensures.reads; room = c.contract_with_body.ensures.room c.args.free h.0 h.1 (under_free _ c.one-body-in-Contract.ensures.room c.in_ok-begin_keyed.ensures.room); shorter = omega (arith, c.in_ok-begin_keyed.ensures.shorter, c.name-channel.ensures.shorter, c.in_ok-name-in-Contract.ensures.shorter, c.left-left.ensures.shorter, c.in_ok-head-in-Contract.ensures.shorter, c.one-body-in-Contract.ensures.shorter) }
+
+pub form-returns-in_err-left-in-For : goal.form-returns-in_err-left-in-For
+form-returns-in_err-left-in-For t c =
+    let k = at_step after_key _ _ c.in-For.is c.in_ok-begin_keyed.ensures.reads in
+    record { reads = exit of_proc _ _ c.from_residual-in_err-left-in-For.ensures.1 (for_begun _ _ _ c.arrow-kind.result c.arrow_mark.result (Err c.in_err-left-in-For.field-0.0) k c.left-pats.ensures.reads c.arrow-kind.ensures c.arrow_mark.ensures c.in_err-left-in-For.ensures.reads); room = none_left c.args.free _ _ c.from_residual-in_err-left-in-For.ensures.1; shorter = omega (arith, c.in_ok-begin_keyed.ensures.shorter, c.left-pats.ensures.shorter, c.in_err-left-in-For.ensures.shorter) }
+
+pub form-binds-init : goal.form-binds-init
+form-binds-init t c =
+    let k = at_step after_key _ _ c.in-For.is c.in_ok-begin_keyed.ensures.reads in
+    let l = if_read (λ p. p.height ≤ c.args.free - 1) _ c.in_ok-left-in-For.ensures.same c.left-pats.ensures.room in
+    record { turns = first_bind _ _ _ c.arrow-kind.result (separator_of c.next_separator-separator.result) c.in_ok-left-in-For.left _ (for_begun _ _ _ c.arrow-kind.result c.arrow_mark.result (Ok c.in_ok-left-in-For.left) k c.left-pats.ensures.reads c.arrow-kind.ensures c.arrow_mark.ensures c.in_ok-left-in-For.ensures.reads) c.name.ensures.reads c.bound-first.ensures.reads c.next_separator-separator.ensures c.first_of-binds.ensures.reads; room = c.first_of-binds.ensures.room (c.args.free - 1) (c.bound-first.ensures.room (c.args.free - 1) l c.name.ensures.room); shorter = omega (arith, c.in_ok-begin_keyed.ensures.shorter, c.left-pats.ensures.shorter, c.in_ok-left-in-For.ensures.shorter, c.name.ensures.shorter) }
+
+pub form-binds-preserved : goal.form-binds-preserved
+form-binds-preserved t c = record { turns = binds_go_on c.args.free _ _ _ c.binds.binds _ c.arrow-kind.result (separator_of c.next_separator-separator.result) c.binds.more _ (c.skip_separator_after.ensures.after c.binds-test.true) (c.skip_separator_after.ensures.is c.binds-test.true) (c.skip_separator_after.ensures.takes c.binds-test.true) c.binds.invariant.turns c.bind-next.ensures.reads c.then_one_more-binds.ensures.reads; room = c.then_one_more-binds.ensures.room (c.args.free - 1) c.binds.invariant.room c.bind-next.ensures.room; shorter = omega (arith, c.binds.invariant.shorter, c.skip_separator_after.ensures.shorter, c.bind-next.ensures.shorter) }
+
+pub form-returns-in_err-head-in-For : goal.form-returns-in_err-head-in-For
+form-returns-in_err-head-in-For t c = record { reads = exit of_proc _ _ c.from_residual-in_err-head-in-For.ensures.1 (binds_closed c.args.free _ _ _ c.arrow-kind.result (separator_of c.next_separator-separator.result) c.binds.more c.binds.binds (Err c.in_err-head-in-For.field-0.0) (c.skip_separator_after.ensures.ends c.binds-test.false) (c.skip_separator_after.ensures.stays c.binds-test.false) c.binds.invariant.turns c.in_err-head-in-For.ensures.reads); room = none_left c.args.free _ _ c.from_residual-in_err-head-in-For.ensures.1; shorter = omega (arith, c.binds.invariant.shorter, c.skip_separator_after.ensures.shorter, c.in_err-head-in-For.ensures.shorter) }
+
+pub form-close_receive-requires : goal.form-close_receive-requires
+form-close_receive-requires t c =
+    let n : c.in_ok-head-in-For.head.height ≤ c.args.free - 1 = if_read (λ bs. bs.height ≤ c.args.free - 1) _ c.in_ok-head-in-For.ensures.same c.binds.invariant.room in
+    record { binds = omega (arith, n, c.in_ok-begin_keyed.ensures.room, c.ranges.free); body = grows _ c.par-body.ensures.room (omega (arith, c.ranges.free)) }
+
+pub form-returns-in_ok-head-in-For : goal.form-returns-in_ok-head-in-For
+form-returns-in_ok-head-in-For t c =
+    let n : c.in_ok-head-in-For.head.height ≤ c.args.free - 1 = if_read (λ bs. bs.height ≤ c.args.free - 1) _ c.in_ok-head-in-For.ensures.same c.binds.invariant.room in
+    record { reads = receive_read _ _ _ _ c.arrow-kind.result c.in_ok-head-in-For.head (binds_closed c.args.free _ _ _ c.arrow-kind.result (separator_of c.next_separator-separator.result) c.binds.more c.binds.binds (Ok c.in_ok-head-in-For.head) (c.skip_separator_after.ensures.ends c.binds-test.false) (c.skip_separator_after.ensures.stays c.binds-test.false) c.binds.invariant.turns c.in_ok-head-in-For.ensures.reads) c.par-body.ensures.reads c.close_receive.ensures.reads; room = c.close_receive.ensures.room c.args.free (omega (arith, n, c.in_ok-begin_keyed.ensures.room)) (under_free _ c.par-body.ensures.room c.in_ok-begin_keyed.ensures.room); shorter = omega (arith, c.binds.invariant.shorter, c.skip_separator_after.ensures.shorter, c.in_ok-head-in-For.ensures.shorter, c.par-body.ensures.shorter, c.close_receive.ensures.shorter) }
+
+pub form-returns-in_err-target-in-Match : goal.form-returns-in_err-target-in-Match
+form-returns-in_err-target-in-Match t c =
+    let k = at_step after_key _ _ c.in-Match.is c.in_ok-begin_keyed.ensures.reads in
+    record { reads = exit of_proc _ _ c.from_residual-in_err-target-in-Match.ensures.1 (k _ (c.in_err-target-in-Match.ensures.reads _ _ _ (λ v. last (Sort.Case (of_proc v) [] v.height)) (under_read _ _ _ of_proc (λ v. sign OpenBrace (last (Sort.Case v [] v.height))) _ c.level-value.ensures.reads))); room = none_left c.args.free _ _ c.from_residual-in_err-target-in-Match.ensures.1; shorter = omega (arith, c.in_ok-begin_keyed.ensures.shorter, c.level-value.ensures.shorter, c.in_err-target-in-Match.ensures.shorter) }
+
+pub form-cases-init : goal.form-cases-init
+form-cases-init t c =
+    let k = at_step after_key _ _ c.in-Match.is c.in_ok-begin_keyed.ensures.reads in
+    let v = if_read (λ p. p.height ≤ c.args.free - 1) _ c.in_ok-target-in-Match.ensures.same c.level-value.ensures.room in
+    record { turns = λ out h. k _ (c.in_ok-target-in-Match.ensures.reads _ _ _ (λ v. last (Sort.Case (of_proc v) [] v.height)) (under_read _ _ _ of_proc (λ v. sign OpenBrace (last (Sort.Case v [] v.height))) _ c.level-value.ensures.reads) out (runs_last (no_cases_yet (λ cs k. rule Tutorial (Prod.case (of_proc c.in_ok-target-in-Match.target) cs k)) _ c.no_cases-cases.result c.no_cases-cases.ensures.tree c.no_cases-cases.ensures.height h))); room = omega (arith, c.no_cases-cases.ensures.height, v, c.in_ok-begin_keyed.ensures.room); shorter = omega (arith, c.in_ok-begin_keyed.ensures.shorter, c.level-value.ensures.shorter, c.in_ok-target-in-Match.ensures.shorter) }
+
+pub form-case-requires : goal.form-case-requires
+form-case-requires t c = omega (arith, c.cases.invariant.room, c.cases.invariant.shorter)
+
+pub form-cases-preserved : goal.form-cases-preserved
+form-cases-preserved t c = record { turns = λ out h. c.cases.invariant.turns _ (c.in-Ok.ensures.reads (of_proc c.in_ok-target-in-Match.target) _ (cases_go_on _ _ _ (sym c.skip-in-cases.ensures.is ∙ c.if-skip.false) (runs_last (unmoved (c.skip-in-cases.ensures.stays c.if-skip.false) h)))); room = c.in-Ok.ensures.room; shorter = omega (arith, c.cases.invariant.shorter, c.in-Ok.ensures.shorter, c.skip-in-cases.ensures.shorter) }
+
+pub form-returns-in-Err : goal.form-returns-in-Err
+form-returns-in-Err t c = record { reads = gives_up of_proc _ _ c.give_up.ensures (c.cases.invariant.turns _ (c.in-Err.ensures.reads (of_proc c.in_ok-target-in-Match.target))); room = none_given c.args.free _ _ c.give_up.ensures; shorter = omega (arith, c.cases.invariant.shorter, c.in-Err.ensures.shorter) }
+
+pub form-returns-then-skip : goal.form-returns-then-skip
+form-returns-then-skip t c = record { reads = c.cases.invariant.turns _ (c.in-Ok.ensures.reads (of_proc c.in_ok-target-in-Match.target) _ (cases_end _ _ _ (sym c.skip-in-cases.ensures.is ∙ c.if-skip.true) (runs_sign (c.skip-in-cases.ensures.takes c.if-skip.true) (built proc_written _ _ c.matches.ensures.tree c.matches.ensures.height)))); room = fits _ c.matches.ensures.height (omega (arith, c.in-Ok.ensures.room)); shorter = omega (arith, c.cases.invariant.shorter, c.in-Ok.ensures.shorter, c.skip-in-cases.ensures.shorter) }
+
+pub form-bind-next-requires : goal.form-bind-next-requires
+form-bind-next-requires t c = omega (arith, c.in_ok-begin_keyed.ensures.room, c.binds.invariant.shorter, c.skip_separator_after.ensures.less c.binds-test.true)
+
+pub form-par-body-requires : goal.form-par-body-requires
+form-par-body-requires t c = omega (arith, c.binds.invariant.shorter, c.skip_separator_after.ensures.shorter, c.in_ok-head-in-For.ensures.shorter)

@@ -1,8 +1,10 @@
-use Rattle.calculus.specs.Meaning.{case_written, name_pat_written, pat_written, proc_written}
+use Rattle.calculus.specs.Meaning.{bind_written, case_written, name_pat_written, pat_written, proc_written}
+use Rattle.calculus.specs.declared.process.Bind.{Bind}
 use Rattle.calculus.specs.declared.process.NamePat.{NamePat}
 use Rattle.calculus.specs.declared.process.Pat.{Pat}
 use Rattle.calculus.specs.declared.process.Proc.{Proc}
 use Rattle.form_ends.specs.Chains.{joint_sort, joint_tail, joints_below}
+use Rattle.form_steps.specs.Parts.{form_sort}
 use Rattle.grammar.specs.Choice.{choose}
 use Rattle.grammar.specs.Descent.{Outcome, Runs}
 use Rattle.grammar.specs.Grammar.{rule}
@@ -10,10 +12,10 @@ use Rattle.grammar.specs.Productions.{Prod}
 use Rattle.grammar.specs.Rules.{Sort, last}
 use Rattle.grammar.specs.Values.{patterns, processes}
 use Rattle.grammar.specs.declared.dialect.Dialect.TheVariants.{Tutorial}
-use Rattle.syntax_forms.specs.declared.part.Part.{Part}
+use Rattle.form_parts.specs.declared.part.Part.{Part}
 use Rattle.token_cursor.specs.Levels.{levels_below, sort_of, tail_of}
 use Rattle.token_cursor.specs.Meaning.{view}
-use Rattle.token_cursor.specs.Reading.{Turns, bracket_of, of_pat, of_proc, pairs_written, pat_pairs_written}
+use Rattle.token_cursor.specs.Reading.{Turns, bracket_of, of_pat, of_proc, pairs_written, pat_pairs_written, separator_of}
 use Rattle.std.specs.declared.alloc.Global.{Global}
 use Rattle.std.specs.declared.vec.Vec.{Vec}
 use Rattle.std.proofs.Common.{IfOk, length, map, ◌*◌, ◌+◌, ◌-◌, ◌<◌, ◌≤◌}
@@ -21,9 +23,6 @@ use Rattle.process_descent.proofs.parser.Parser.+parse.Given as goal
 
 abbrev pub decreases-bind : goal.decreases-bind
 decreases-bind l = 128 * length l.self.now.cursor.rest.now + 100
-
-abbrev pub decreases-binds_tail : goal.decreases-binds_tail
-decreases-binds_tail l = 128 * length l.self.now.cursor.rest.now + 39
 
 abbrev pub decreases-block : goal.decreases-block
 decreases-block l = 128 * length l.self.now.cursor.rest.now + 2
@@ -34,20 +33,17 @@ decreases-block-each l = length l.self.cursor.rest.now
 abbrev pub decreases-case : goal.decreases-case
 decreases-case l = 128 * length l.self.now.cursor.rest.now + 120
 
-abbrev pub decreases-contract_form : goal.decreases-contract_form
-decreases-contract_form l = 128 * length l.self.now.cursor.rest.now + 34
-
 abbrev pub decreases-drop_form : goal.decreases-drop_form
 decreases-drop_form l = 128 * length l.self.now.cursor.rest.now + 19
-
-abbrev pub decreases-for_form : goal.decreases-for_form
-decreases-for_form l = 128 * length l.self.now.cursor.rest.now + 34
 
 abbrev pub decreases-form : goal.decreases-form
 decreases-form l = 128 * length l.self.now.cursor.rest.now + 35
 
-abbrev pub decreases-if_form : goal.decreases-if_form
-decreases-if_form l = 128 * length l.self.now.cursor.rest.now + 34
+abbrev pub decreases-form-binds : goal.decreases-form-binds
+decreases-form-binds l = length l.self.cursor.rest.now
+
+abbrev pub decreases-form-cases : goal.decreases-form-cases
+decreases-form-cases l = length l.self.cursor.rest.now
 
 abbrev pub decreases-left : goal.decreases-left
 decreases-left l = 128 * length l.self.now.cursor.rest.now + 95
@@ -61,12 +57,6 @@ decreases-level l = 128 * length l.self.now.cursor.rest.now + (22 + 2 * levels_b
 abbrev pub decreases-level-operators : goal.decreases-level-operators
 decreases-level-operators l = length l.self.cursor.rest.now
 
-abbrev pub decreases-match_form : goal.decreases-match_form
-decreases-match_form l = 128 * length l.self.now.cursor.rest.now + 34
-
-abbrev pub decreases-match_form-each : goal.decreases-match_form-each
-decreases-match_form-each l = length l.self.cursor.rest.now
-
 abbrev pub decreases-meth : goal.decreases-meth
 decreases-meth l = 128 * length l.self.now.cursor.rest.now + 20
 
@@ -75,9 +65,6 @@ decreases-meth-calls l = length l.self.cursor.rest.now
 
 abbrev pub decreases-name : goal.decreases-name
 decreases-name l = 128 * length l.self.now.cursor.rest.now + 2
-
-abbrev pub decreases-new_form : goal.decreases-new_form
-decreases-new_form l = 128 * length l.self.now.cursor.rest.now + 34
 
 abbrev pub decreases-one : goal.decreases-one
 decreases-one l = 128 * length l.self.now.cursor.rest.now + 37
@@ -166,9 +153,16 @@ invariant-level-operators l = record {
   shorter : length l.self.cursor.rest.now ≤ length l.fn.self.cursor.rest.now;
 }
 
-abbrev pub invariant-match_form-each : goal.invariant-match_form-each
-invariant-match_form-each l = record {
-  turns : (out : Outcome) → Runs Tutorial l.free (rule Tutorial (Prod.case (of_proc l.target) (map case_written l.cases.value.items) l.cases.height)) (view l.self.cursor.rest.now) out → Runs Tutorial l.free (rule Tutorial Prod.match_form) (view l.fn.self.cursor.rest.now) out;
+abbrev pub invariant-form-binds : goal.invariant-form-binds
+invariant-form-binds l = record {
+  turns : Turns l.free (rule Tutorial (choose (form_sort l.fn.key) (view l.fn.self.cursor.rest.now))) (λ (q : Part (Vec Bind Global)). last (Sort.BindsTail l.kind (separator_of l.separator) l.more (map bind_written q.value.items) q.height)) (view l.fn.self.cursor.rest.now) l.binds (view l.self.cursor.rest.now);
+  room : IfOk l.binds (λ q. q.height ≤ l.free - 1);
+  shorter : length l.self.cursor.rest.now < length l.fn.self.cursor.rest.now;
+}
+
+abbrev pub invariant-form-cases : goal.invariant-form-cases
+invariant-form-cases l = record {
+  turns : (out : Outcome) → Runs Tutorial l.free (rule Tutorial (Prod.case (of_proc l.target) (map case_written l.cases.value.items) l.cases.height)) (view l.self.cursor.rest.now) out → Runs Tutorial l.free (rule Tutorial (choose (form_sort l.fn.key) (view l.fn.self.cursor.rest.now))) (view l.fn.self.cursor.rest.now) out;
   room : l.cases.height < l.free;
   shorter : length l.self.cursor.rest.now < length l.fn.self.cursor.rest.now;
 }

@@ -1,5 +1,5 @@
 use Rattle.std.proofs.Common.{List, [], sym, subst, IsPermutation, refl}
-use Rattle.list_laws.proofs.Permutations.{unmoved}
+use Rattle.calculus.proofs.Permutations.{unmoved}
 use Rattle.calculus.specs.Rows.{Row}
 use Rattle.replay_space.specs.declared.seen.Seen.{Seen}
 use Rattle.replay_rows.specs.Filing.{Filed}

@@ -1,0 +1,10 @@
+use Rattle.token_cursor.specs.Reading.{of_proc}
+use Rattle.token_cursor.proofs.Steps.{closes, made_height}
+use Rattle.leaf_forms.proofs.close.map_close.Goals as goal
+
+pub returns : goal.returns
+returns c = record {
+  reads = λ free. closes _ of_proc c.map-form.result _ _ c.closed.ensures.reads c.map-form.ensures.tree c.map-form.ensures.height;
+  height = made_height _ _ _ _ c.map-form.result _ c.closed.ensures.reads c.map-form.ensures.height;
+  shorter = c.closed.ensures.shorter;
+}

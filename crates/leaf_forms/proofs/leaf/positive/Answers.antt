@@ -1,0 +1,12 @@
+use Rattle.std.proofs.Common.{refl, ap}
+use Rattle.grammar.specs.Descent.{runs_integer, no_integer}
+use Rattle.grammar.specs.Values.{ground_of}
+use Rattle.token_cursor.specs.Reading.{of_ground}
+use Rattle.token_cursor.proofs.Steps.{ends, exit}
+use Rattle.leaf_forms.proofs.leaf.positive.Goals as goal
+
+pub returns-in_err-value-clause-reads : goal.returns-in_err-value-clause-reads
+returns-in_err-value-clause-reads c = λ side free. exit (of_ground side) _ _ c.from_residual.ensures.1 (no_integer c.in_err-value.ensures.reads)
+
+pub returns-clause-reads : goal.returns-clause-reads
+returns-clause-reads c = λ side free. runs_integer c.in_ok-value.ensures.reads (ends _ _ (ap (ground_of side) c.positive.ensures) refl)

@@ -1,4 +1,0 @@
-use Rattle.play_pool.proofs.playing.tell.Goals as goal
-
-pub returns-clause-run : goal.returns-clause-run
-returns-clause-run g c deploy source l p f closed storable x = c.outcome.ensures.run deploy source l p f c.requires.shards closed storable x
