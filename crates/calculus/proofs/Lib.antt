@@ -6,7 +6,6 @@ pub mod Reflexive
 pub mod Room
 pub mod States
 pub mod Candidates
-pub mod Least
 pub mod Prefixes
 pub mod Heads
 pub mod Known
@@ -36,3 +35,4 @@ pub mod Substituting
 pub mod Closing
 pub mod Digests
 pub mod Results
+pub mod ListCodes

@@ -4,16 +4,11 @@
 //! docs/CALCULUS.md tells in plain words.
 #![tactic(auto)]
 
-pub mod code_laws;
-pub mod congruence_laws;
 pub mod count;
 pub mod fault;
 pub mod ids;
-pub mod laws;
-pub mod list_laws;
 pub mod plain;
 pub mod process;
-pub mod substitution_laws;
 
 pub use count::Steps;
 pub use fault::FaultKind;

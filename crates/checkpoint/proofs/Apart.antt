@@ -7,7 +7,7 @@ use Rattle.calculus.specs.Rows.{Row}
 use Rattle.calculus.specs.Steps.{differ, is_one_of}
 use Rattle.calculus.proofs.Sorting.{length-sorted}
 use Rattle.states.proofs.Groups.{same, equal}
-use Rattle.term_encoder.proofs.Codes.{length-map}
+use Rattle.calculus.proofs.ListCodes.{length-map}
 use Rattle.radix_root.specs.Leaves.{codes_at, groups_of}
 use Rattle.radix_root.specs.declared.group.Group.{Group}
 use Rattle.checkpoint.specs.Groups.{keys_in, AreApart}

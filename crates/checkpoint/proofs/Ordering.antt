@@ -5,7 +5,7 @@ use Rattle.calculus.specs.Order.{sorted}
 use Rattle.calculus.specs.Root.{root}
 use Rattle.calculus.specs.Rows.{Row, row_code}
 use Rattle.calculus.proofs.Sorting.{length-sorted}
-use Rattle.term_encoder.proofs.Codes.{sorted-ascending, length-map}
+use Rattle.calculus.proofs.ListCodes.{sorted-ascending, length-map}
 use Rattle.states.specs.States.{state_text}
 use Rattle.checkpoint.specs.Kept.{AreKept, AreInOrder}
 use Rattle.checkpoint.specs.Texts.{head_with, text_with}

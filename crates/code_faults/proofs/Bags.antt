@@ -9,7 +9,7 @@ use Rattle.calculus.specs.Code.{code, codes}
 use Rattle.calculus.specs.Form.{Sort, Scope, term, part}
 use Rattle.rho_term.proofs.Trees.{map-same}
 use Rattle.code_faults.specs.Reading.{Reads, ReadsBag}
-use Rattle.term_encoder.proofs.Codes.{code-bag}
+use Rattle.calculus.proofs.ListCodes.{code-bag}
 use Rattle.code_faults.proofs.Rows.{Row, row-none, row-more, codes-more, last_of, last-more, ascending-more}
 
 -- bytes begin with the ascending codes of things that stand for trees, and this is the last of them

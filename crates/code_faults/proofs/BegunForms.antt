@@ -19,7 +19,7 @@ use Rattle.calculus.specs.Shape.{count, listed, leaf, one, two, many}
 use Rattle.calculus.specs.Code.{byte_of, text, code, codes}
 use Rattle.calculus.specs.Form.{Sort, term, part, a_bind, a_case, row_of, pair_of, Scope, Fits, IsDigest}
 use Rattle.calculus.specs.Variables.{Sense, a_process, a_name, bound, bound_all}
-use Rattle.term_encoder.proofs.Codes.{sorted-ascending}
+use Rattle.calculus.proofs.ListCodes.{sorted-ascending}
 use Rattle.code_faults.specs.declared.sort.TextKind.TheVariants as kind
 use Rattle.code_faults.specs.Texts.{HasForm}
 use Rattle.code_faults.specs.Reading.{Reads}

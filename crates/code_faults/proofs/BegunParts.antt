@@ -9,7 +9,7 @@ use Rattle.calculus.specs.Shape.{leaf, label_of, many}
 use Rattle.calculus.specs.Code.{code, codes}
 use Rattle.calculus.specs.Form.{pat, pat_part, Scope, Fits, wides}
 use Rattle.calculus.specs.Variables.{bound, bound_all, is_wide}
-use Rattle.term_encoder.proofs.Codes.{length-map}
+use Rattle.calculus.proofs.ListCodes.{length-map}
 use Rattle.code_faults.specs.Wide.{is_wide_tag}
 use Rattle.code_faults.specs.Beginning.{Cuts, Begun, BegunNumber}
 use Rattle.code_faults.proofs.Forms.{listed-trees}

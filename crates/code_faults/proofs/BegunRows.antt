@@ -15,7 +15,7 @@ use Rattle.calculus.specs.Variables.{bound_all}
 use Rattle.std.proofs.lemmas.Bool.{cases_Bool}
 use Rattle.std.proofs.lemmas.Cmp.{ranked}
 use Rattle.calculus.proofs.Ordered.{up_to_total}
-use Rattle.term_encoder.proofs.Codes.{length-map}
+use Rattle.calculus.proofs.ListCodes.{length-map}
 use Rattle.code_faults.specs.Beginning.{Cuts, Begun, BegunRow, BegunBag, BegunNumber, Follows}
 use Rattle.code_faults.proofs.Rows.{Row, last_of, last-more, ascending-more}
 use Rattle.code_faults.proofs.Bags.{Bag}

@@ -14,7 +14,7 @@ use Rattle.calculus.specs.Code.{byte_of, text, code}
 use Rattle.calculus.specs.Form.{Sort, term, part, a_bind, a_case, row_of, pair_of, Scope}
 use Rattle.calculus.specs.Variables.{Sense, a_name, bound}
 use Rattle.calculus.proofs.Prefixes.{Splits-length}
-use Rattle.term_encoder.proofs.Codes.{length-map}
+use Rattle.calculus.proofs.ListCodes.{length-map}
 use Rattle.code_faults.specs.declared.fault.ReadFault.{ReadFault}
 use Rattle.code_faults.specs.declared.sort.TextKind.TheVariants as kind
 use Rattle.code_faults.specs.Reading.{Reads}

@@ -23,7 +23,7 @@ use Rattle.code_faults.specs.Texts.{HasForm}
 use Rattle.code_faults.specs.Refusing.{IsRight, AreRight, HasRoom}
 use Rattle.code_faults.specs.Places.{another, Item, field, name_length, inner, items, Stop}
 use Rattle.code_faults.specs.Blaming.{Blames, Wrong, InTree, InRow, InBag}
-use Rattle.term_encoder.proofs.Codes.{length-map}
+use Rattle.calculus.proofs.ListCodes.{length-map}
 use Rattle.code_faults.proofs.Kids.{no_false, one, two, count-right}
 use Rattle.code_faults.proofs.Forms.{no_variables}
 use Rattle.code_faults.proofs.Tags.{tag_of, after-tag}

@@ -7,7 +7,7 @@ use Rattle.calculus.specs.Shape.{count, listed}
 use Rattle.calculus.specs.Code.{code, codes}
 use Rattle.calculus.specs.Form.{pat, pat_part, Scope, wides}
 use Rattle.calculus.proofs.Splitting.{length-codes}
-use Rattle.term_encoder.proofs.Codes.{length-map}
+use Rattle.calculus.proofs.ListCodes.{length-map}
 use Rattle.code_faults.specs.declared.fault.ReadFault.{ReadFault}
 use Rattle.code_faults.specs.declared.fault.ReadFault.TheVariants as fault
 use Rattle.code_faults.specs.Wide.{is_wide_tag}

@@ -25,7 +25,7 @@ use Rattle.code_faults.specs.declared.sort.TextKind.TheVariants as kind
 use Rattle.code_faults.specs.Texts.{HasForm}
 use Rattle.code_faults.specs.Reading.{Reads}
 use Rattle.code_faults.specs.Refusing.{Denies, HasRoom, Refuses, RefusesRow, RefusesByte, RefusesOrigins}
-use Rattle.term_encoder.proofs.Codes.{length-map}
+use Rattle.calculus.proofs.ListCodes.{length-map}
 use Rattle.code_faults.proofs.Denying.{first-denied, next-denied, byte-next, read-next, refused, less-left, left-less}
 use Rattle.code_faults.proofs.Kids.{row-refused, held-few}
 use Rattle.code_faults.proofs.PartRefusals.{send-refused, receive-refused, new-refused, match-refused, bundle-refused, unary-refused, binary-refused, method-refused}

@@ -14,7 +14,7 @@ use Rattle.calculus.proofs.Binding.{no_bound}
 use Rattle.calculus.proofs.FromFits.{formed, fine}
 use Rattle.calculus.proofs.Tails.{IsFine}
 use Rattle.code_faults.specs.Reading.{Reads}
-use Rattle.term_encoder.proofs.Codes.{count-trees}
+use Rattle.calculus.proofs.ListCodes.{count-trees}
 
 pub no_variables : (v : Scope) (t : Tree) → Fits term v t → bound t ≡ []
 no_variables v t h = no_bound IsFine term t tt (formed IsFine fine term v t h)

@@ -22,7 +22,7 @@ use Rattle.code_faults.specs.declared.fault.ReadFault.{ReadFault}
 use Rattle.code_faults.specs.Refusing.{Denies, IsRight, AreRight, HasRoom, Refuses, RefusesRow, RefusesBag}
 use Rattle.code_faults.proofs.Denying.{tag-next}
 use Rattle.code_faults.proofs.Kids.{no_false, one, two, count-right}
-use Rattle.term_encoder.proofs.Codes.{length-map}
+use Rattle.calculus.proofs.ListCodes.{length-map}
 use Rattle.code_faults.proofs.Forms.{no_variables}
 use Rattle.code_faults.proofs.Tags.{by-tag, Of, after-tag}
 

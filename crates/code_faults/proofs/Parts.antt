@@ -10,7 +10,7 @@ use Rattle.calculus.specs.Code.{code}
 use Rattle.calculus.specs.Form.{Sort, Scope, Fits, term, a_bind, a_case, pat, name_pat, pat_part, row_of, pair_of, wides}
 use Rattle.calculus.specs.Variables.{Sense, bound, bound_all}
 use Rattle.code_faults.specs.Reading.{Reads}
-use Rattle.term_encoder.proofs.Codes.{code-many, length-map}
+use Rattle.calculus.proofs.ListCodes.{code-many, length-map}
 use Rattle.code_faults.proofs.Forms.{no_variables, listed-trees, two-codes}
 use Rattle.code_faults.proofs.Rows.{Row}
 

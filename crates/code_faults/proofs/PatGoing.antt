@@ -12,7 +12,7 @@ use Rattle.calculus.proofs.Splitting.{kids-short, length-codes}
 use Rattle.code_faults.specs.declared.fault.ReadFault.{ReadFault}
 use Rattle.code_faults.specs.Wide.{is_wide_tag}
 use Rattle.code_faults.specs.Refusing.{Denies, IsRight, AreRight, HasRoom, Refuses, RefusesNumber}
-use Rattle.term_encoder.proofs.Codes.{length-map}
+use Rattle.calculus.proofs.ListCodes.{length-map}
 use Rattle.code_faults.proofs.Forms.{listed-trees}
 use Rattle.code_faults.proofs.Rows.{Row}
 use Rattle.code_faults.proofs.Denying.{first-denied, number-next, less-left}

@@ -11,7 +11,7 @@ use Rattle.calculus.specs.Form.{Sort, Scope, Fits, Hold, all, row_of}
 use Rattle.calculus.specs.Variables.{Sense, bound, bound_all}
 use Rattle.rho_term.proofs.Trees.{map-same}
 use Rattle.code_faults.specs.Reading.{Reads}
-use Rattle.term_encoder.proofs.Codes.{code-many}
+use Rattle.calculus.proofs.ListCodes.{code-many}
 
 pub joined-more : {A : Type 0} (g : A → List ℕ) (xs : List A) (x : A) → joined (map g (xs ++ x ∷ [])) ≡ joined (map g xs) ++ g x
 joined-more g [] x = append-nil (g x)

@@ -4,7 +4,7 @@ use Rattle.std.specs.Prelude.{Bool, false, ◌==◌}
 use Rattle.calculus.specs.Form.{Sort}
 use Rattle.calculus.specs.Tree.{Tree}
 use Rattle.calculus.specs.Variables.{Sense}
-use Rattle.term_encoder.proofs.Codes.{length-map}
+use Rattle.calculus.proofs.ListCodes.{length-map}
 use Rattle.code_faults.specs.declared.sort.Sense.{Sense as Read}
 use Rattle.code_faults.specs.declared.fault.ReadFault.{ReadFault}
 use Rattle.code_faults.specs.Scopes.{sense_of, senses_of, scope_of}

@@ -44,7 +44,7 @@ known (Ok x) p = p
 known (Err d) p = tt
 
 -- what was read is one value
-same_value : {A : Type 0} {res : Result A Fault} (a b : A) → res ≡ Ok a → res ≡ Ok b → a ≡ b
+pub same_value : {A : Type 0} {res : Result A Fault} (a b : A) → res ≡ Ok a → res ≡ Ok b → a ≡ b
 same_value a b e g = cc
 
 pub appends : {T : Type 0} (before : Result (Part (Vec T Global)) Fault) (next : Result (Part T) Fault) (res : Result (Part (Vec T Global)) Fault) (parts : Part (Vec T Global)) → before ≡ Ok parts
@@ -54,3 +54,7 @@ appends {T} before next res parts e m = λ xs g. subst (λ (q : Part (Vec T Glob
 -- and is none where a fault was met
 pub appends_none : {T : Type 0} (before : Result (Part (Vec T Global)) Fault) (next : Result (Part T) Fault) (res : Result (Part (Vec T Global)) Fault) (d : Fault) → before ≡ Err d → Appends before next res
 appends_none before next res d e = λ xs g. absurd (false≢true (ap is_ok (sym e ∙ g)))
+
+-- a fault is no value
+pub never : {A P : Type 0} {res : Result A Fault} {a : A} (d : Fault) → res ≡ Err d → res ≡ Ok a → P
+never d e g = absurd (false≢true (ap is_ok (sym e ∙ g)))

@@ -1,17 +1,23 @@
 -- The production that the next terminals choose.
-use Rattle.std.proofs.Common.{◌≡◌, ℕ, List, true, false}
+use Rattle.std.proofs.Common.{◌≡◌, ℕ, List, Result, Ok, Err, true, false, refl}
+use Rattle.std.proofs.lemmas.Bool.{false≢true}
+use Rattle.std.specs.Prelude.{IsOk, OnOk}
 use Rattle.calculus.specs.Written.{Written}
 use Rattle.grammar.specs.declared.dialect.Dialect.TheVariants.{Tutorial}
+use Rattle.grammar.specs.declared.fault.Fault.{Fault}
 use Rattle.grammar.specs.declared.mark.Mark.TheVariants as marks
 use Rattle.grammar.specs.Choice.{choose}
-use Rattle.grammar.specs.Descent.{Outcome, Runs, runs_last}
+use Rattle.grammar.specs.Descent.{Outcome, Runs, Takes, runs_last, runs_sign}
 use Rattle.grammar.specs.Grammar.{rule}
 use Rattle.grammar.specs.Productions.{Prod}
-use Rattle.grammar.specs.Rules.{Bracket, Sort, closing, done, last}
+use Rattle.grammar.specs.Rules.{Bracket, Rule, Sort, closing, done, last}
 use Rattle.grammar.specs.Terminals.{Terminal, sees}
 use Rattle.grammar.specs.Values.{Side, Spelt}
 use Rattle.rho_lexer.specs.declared.token.Token.{Token}
+use Rattle.form_ends.specs.Reading.{after_first}
+use Rattle.form_ends.proofs.Carried.{closed, stayed}
 use Rattle.token_cursor.specs.Meaning.{view}
+use Rattle.token_cursor.specs.Reading.{Turns}
 use Rattle.token_cursor.proofs.Fronts.{no_fresh}
 
 pub either_on : {free : ℕ} {ts : List Terminal} {out : Outcome} (a : Spelt) → sees marks.Either ts ≡ true → Runs Tutorial free (rule Tutorial (Prod.palt_more a)) ts out → Runs Tutorial free (last (Sort.PAltTail a)) ts out
@@ -37,6 +43,17 @@ group_on side a s r = runs_last (rw s r)
 
 pub group_off : {free : ℕ} {ts : List Terminal} {out : Outcome} (side : Side) (a : Spelt) → sees marks.Comma ts ≡ false → Runs Tutorial free (rule Tutorial (Prod.group_close side a)) ts out → Runs Tutorial free (last (Sort.Group side a)) ts out
 group_off side a s r = runs_last (rw s r)
+
+-- a group that ends, and one that goes on as a tuple, after its first member that was read
+pub group_ended : {T : Type 0} {ts us : List Terminal} (free : ℕ) (r : Rule) (t0 : List Terminal) (side : Side) (of : T → Spelt) (inner : Result T Fault) → us ≡ ts → OnOk inner (sees marks.Comma ts ≡ false)
+    → Turns free r (λ a. last (Sort.Group side (of a))) t0 inner ts → Turns free r (λ a. rule Tutorial (Prod.group_close side (of a))) t0 inner us
+group_ended free r t0 side of inner m s t = stayed free r t0 (λ a. rule Tutorial (Prod.group_close side (of a))) inner m
+    (closed r t0 (λ a. last (Sort.Group side (of a))) (λ a. rule Tutorial (Prod.group_close side (of a))) inner s (λ a c out h. group_off side (of a) c h) t)
+
+pub group_tupled : {T : Type 0} {free : ℕ} {t0 ts us : List Terminal} {out : Outcome} (r : Rule) (side : Side) (of : T → Spelt) (inner : Result T Fault) → IsOk inner → sees marks.Comma ts ≡ true → Takes marks.Comma ts us
+    → Turns free r (λ a. last (Sort.Group side (of a))) t0 inner ts → ((a : T) → inner ≡ Ok a → Runs Tutorial free (after_first side (of a)) us out) → Runs Tutorial free r t0 out
+group_tupled r side of (Ok a) k s m t h = t _ (group_on side (of a) s (runs_sign m (h a refl)))
+group_tupled r side of (Err d) k s m t h = absurd (false≢true k)
 
 pub name_at : {free : ℕ} {ts : List Terminal} {out : Outcome} → sees marks.At ts ≡ true → Runs Tutorial free (rule Tutorial Prod.name_quote) ts out → Runs Tutorial free (rule Tutorial (choose Sort.Name ts)) ts out
 name_at s r = rw s r

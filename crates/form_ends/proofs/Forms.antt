@@ -1,7 +1,7 @@
 -- The steps of descent through the forms that hold several constituents.
 use Rattle.std.proofs.Common.{◌≡◌, ◌-◌, ◌+◌, max, map, ◌++◌, ℕ, List, ◌∷◌, [], Result, Ok, Err, refl, true, false}
 use Rattle.std.proofs.lemmas.Bool.{false≢true}
-use Rattle.std.specs.Prelude.{IfOk, IsOk, MatchResult, OnOk}
+use Rattle.std.specs.Prelude.{IsOk, MatchResult, OnOk}
 use Rattle.std.specs.declared.alloc.Global.{Global}
 use Rattle.std.specs.declared.vec.Vec.{Vec}
 use Rattle.calculus.specs.Meaning.{bind_written, case_written, name_written, pat_written, proc_written}
@@ -15,10 +15,9 @@ use Rattle.calculus.specs.declared.process.Proc.{Proc}
 use Rattle.form_steps.specs.Handing.{Completes, HandsOn, HandsOnPart}
 use Rattle.form_steps.specs.Parts.{branches, contract_body, contract_left}
 use Rattle.form_steps.proofs.Handed.{both_read, mark_as, resume, then_on, under_read}
-use Rattle.form_steps.proofs.Turning.{built, chosen}
+use Rattle.form_steps.proofs.Turning.{chosen}
 use Rattle.grammar.specs.declared.dialect.Dialect.TheVariants.{Tutorial}
 use Rattle.grammar.specs.declared.fault.Fault.{Fault}
-use Rattle.grammar.specs.declared.fault.Fault.TheVariants.{NoMemory}
 use Rattle.grammar.specs.declared.mark.Mark.{Mark}
 use Rattle.grammar.specs.declared.mark.Mark.TheVariants as marks
 use Rattle.grammar.specs.Choice.{choose}
@@ -36,7 +35,7 @@ use Rattle.token_cursor.specs.Meaning.{view}
 use Rattle.token_cursor.specs.Reading.{Makes, Turns, of_bind, of_left, of_name, of_pat, of_proc, sees_bind}
 use Rattle.form_ends.specs.Reading.{Appends, ReadsBind, bind_then, received}
 use Rattle.form_ends.proofs.Carried.{closed, stayed}
-use Rattle.form_ends.proofs.Cycle.{appended, binds_off, binds_on, first_on, passed, signed, unmoved}
+use Rattle.form_ends.proofs.Cycle.{appended, binds_off, binds_on, first_on, passed, signed}
 use Rattle.form_ends.proofs.Remains.{case_body, first_channel, last_branch, receive_body}
 
 -- a further bind that was read, or not
@@ -173,22 +172,24 @@ arms_read {free} {r} {t0} {ts} us second test res c g m =
     (both_read free Sort.Two us of_proc (λ (e : Part Proc) p. last_branch (of_proc e) p) test second res m g)
 
 -- an `if` without `else`
-pub without_else : {free : ℕ} {ts us : List Terminal} (res : Result (Part Proc) Fault) (a b : Part Proc) → sees marks.Else ts ≡ false → us ≡ ts
-    → MatchResult res (λ p. proc_written p.value ≡ if_of (proc_written a.value) (proc_written b.value) nil) (λ e. e ≡ NoMemory)
-    → IfOk res (λ p. p.height ≡ max a.height b.height + 1)
-    → Makes free (last_branch (of_proc a) (of_proc b)) of_proc ts res us
-without_else res a b s m e g = runs_last (rw s (unmoved m (built proc_written (opened (if_of (proc_written a.value) (proc_written b.value) nil) (max a.height b.height)) res e g)))
+pub arms_ended : {ts us : List Terminal} (free : ℕ) (r : Rule) (t0 : List Terminal) (arms : Result (Part Proc × Part Proc) Fault) → us ≡ ts → OnOk arms (sees marks.Else ts ≡ false)
+    → Turns free r (λ q. last_branch (of_proc q.0) (of_proc q.1)) t0 arms ts
+    → Turns free r (λ q. done (opened (if_of (proc_written q.0.value) (proc_written q.1.value) nil) (max q.0.height q.1.height))) t0 arms us
+arms_ended free r t0 arms m s t = stayed free r t0 (λ (q : Part Proc × Part Proc). done (opened (if_of (proc_written q.0.value) (proc_written q.1.value) nil) (max q.0.height q.1.height))) arms m
+    (closed r t0 (λ (q : Part Proc × Part Proc). last_branch (of_proc q.0) (of_proc q.1)) (λ (q : Part Proc × Part Proc). done (opened (if_of (proc_written q.0.value) (proc_written q.1.value) nil) (max q.0.height q.1.height))) arms s (λ q c out h. runs_last (rw c h)) t)
 
 -- and with it
-pub with_else : {free : ℕ} {ts us : List Terminal} (vs : List Terminal) (other res : Result (Part Proc) Fault) (arms : Part Proc × Part Proc) → sees marks.Else ts ≡ true → Takes marks.Else ts us
+pub with_else : {free : ℕ} {t0 ts us : List Terminal} (r : Rule) (vs : List Terminal) (other res : Result (Part Proc) Fault) (arms : Result (Part Proc × Part Proc) Fault) → IsOk arms → sees marks.Else ts ≡ true → Takes marks.Else ts us
+    → Turns free r (λ q. last_branch (of_proc q.0) (of_proc q.1)) t0 arms ts
     → Makes (free - 1) (rule Tutorial (choose Sort.One us)) of_proc us other vs
-    → Completes other (λ p. done (opened (if_of (proc_written arms.0.value) (proc_written arms.1.value) (of_proc p).tree) (max (max arms.0.height arms.1.height) p.height))) of_proc res
-    → Makes free (last_branch (of_proc arms.0) (of_proc arms.1)) of_proc ts res vs
-with_else {free} {ts} {us} vs other res arms s t g m =
-    m free (last_branch (of_proc arms.0) (of_proc arms.1)) ts vs
-    (resume vs (λ p. done (opened (if_of (proc_written arms.0.value) (proc_written arms.1.value) (of_proc p).tree) (max (max arms.0.height arms.1.height) p.height))) other
-    (λ out r. runs_last (rw s (runs_sign t r)))
-    (under_read free Sort.One vs of_proc (λ p. done (opened (if_of (proc_written arms.0.value) (proc_written arms.1.value) p.tree) (max (max arms.0.height arms.1.height) p.height))) other g))
+    → ((q : Part Proc × Part Proc) → arms ≡ Ok q → Completes other (λ p. done (opened (if_of (proc_written q.0.value) (proc_written q.1.value) (of_proc p).tree) (max (max q.0.height q.1.height) p.height))) of_proc res)
+    → Makes free r of_proc t0 res vs
+with_else {free} {t0} {ts} {us} r vs other res (Ok q) i s m t g n =
+    n q refl free r t0 vs
+    (resume vs (λ p. done (opened (if_of (proc_written q.0.value) (proc_written q.1.value) (of_proc p).tree) (max (max q.0.height q.1.height) p.height))) other
+    (λ out h. t out (runs_last (rw s (runs_sign m h))))
+    (under_read free Sort.One vs of_proc (λ p. done (opened (if_of (proc_written q.0.value) (proc_written q.1.value) p.tree) (max (max q.0.height q.1.height) p.height))) other g))
+with_else r vs other res (Err d) i s m t g n = absurd (false≢true i)
 
 -- the pattern of a case
 pub case_begun : {xs ys : List Token} (free : ℕ) (us vs : List Terminal) (found : Result (Part Pat) Fault) (v : Spelt) (cs : List Written) (h : ℕ) (pattern : Result (Part Pat) Fault)

@@ -47,3 +47,8 @@ no_longer (Err d) l = l
 pub grows : {T : Type 0} {n : ℕ} (res : Result (Part T) Fault) → IfOk res (λ p. p.height ≤ n - 1) → n < 2 ^ 32 → IfOk res (λ p. p.height + 1 < 2 ^ 32)
 grows (Ok p) e l = omega (arith, e, l)
 grows (Err d) e l = e
+
+-- and with each of two parts
+pub both_grow : {S T : Type 0} {n : ℕ} (res : Result (Part S × Part T) Fault) → IfOk res (λ p. (p.0.height < n) × (p.1.height < n)) → n < 2 ^ 32 → IfOk res (λ p. (p.0.height + 1 < 2 ^ 32) × (p.1.height + 1 < 2 ^ 32))
+both_grow (Ok p) e l = (omega (arith, e.0, l), omega (arith, e.1, l))
+both_grow (Err d) e l = e

@@ -3,7 +3,7 @@ pub mod Chains
 pub mod Choices
 pub mod Cycle
 pub mod Forms
-mod Kept
+pub mod Kept
 pub mod Lengths
 pub mod Lists
 pub mod Pairs

@@ -1,5 +1,6 @@
 -- The steps of descent through the pairs of a map.
-use Rattle.std.proofs.Common.{◌≡◌, ◌-◌, ◌∙◌, ap, subst, max, map, ◌++◌, ℕ, List, ◌∷◌, [], Result, Ok, Err, true, false}
+use Rattle.std.proofs.Common.{◌≡◌, ◌-◌, ◌∙◌, ap, refl, subst, max, map, ◌++◌, ℕ, List, ◌∷◌, [], Result, Ok, Err, true, false}
+use Rattle.std.proofs.lemmas.Bool.{false≢true}
 use Rattle.std.proofs.lemmas.List.{map-append}
 use Rattle.std.specs.Prelude.{IsOk, OnOk}
 use Rattle.std.specs.declared.alloc.Global.{Global}
@@ -19,12 +20,12 @@ use Rattle.grammar.specs.Grammar.{rule}
 use Rattle.grammar.specs.Productions.{Prod}
 use Rattle.grammar.specs.Rules.{Sort, Rule, last, sign, under}
 use Rattle.grammar.specs.Terminals.{Terminal, sees}
-use Rattle.grammar.specs.Values.{Side, Spelt, patterns, processes, spelt}
+use Rattle.grammar.specs.Values.{Side, patterns, processes, spelt}
 use Rattle.form_parts.specs.declared.part.Part.{Part}
 use Rattle.token_cursor.specs.Reading.{Makes, Turns, of_pat, of_proc, pairs_written, pat_pairs_written, sees_member}
 use Rattle.form_ends.specs.Reading.{Appends, ReadsPair, pair_then, pattern_pair, process_pair}
-use Rattle.form_ends.proofs.Carried.{carried, closed}
-use Rattle.form_ends.proofs.Cycle.{pairs_on, unmoved}
+use Rattle.form_ends.proofs.Carried.{carried, closed, stayed}
+use Rattle.form_ends.proofs.Cycle.{pairs_on}
 
 -- what follows a key and a colon
 abbrev pub value_then : {T : Type 0} → Side → (T → Written) → (Written → ℕ → Rule) → Part T → Rule
@@ -72,18 +73,24 @@ pair_appended : {T : Type 0} (free : ℕ) (ts us : List Terminal) (r : Rule) (f 
 pair_appended {T} free ts us r f tail xs h (Ok p) t = λ out k. t out (subst (λ (qs : List Written). Runs Tutorial free (tail qs (max h p.height)) us out) (pushed f xs p.value) k)
 pair_appended free ts us r f tail xs h (Err d) t = t
 
--- the first pair, whose key was read before
-first_pair : {T : Type 0} {free : ℕ} {ts us : List Terminal} (vs : List Terminal) (value : Result (Part T) Fault) (pair : Result (Part (T × T)) Fault) (side : Side) (r : Rule) (f : T → Written) (tail : List Written → ℕ → Rule) (key : Part T) (res : Result (Part (Vec (T × T) Global)) Fault)
+-- a list of a first pair, whose key was read
+pub paired_first : {T : Type 0} (value : Result (Part T) Fault) (pair : Result (Part (T × T)) Fault) (res : Result (Part (Vec (T × T) Global)) Fault) (read key : Part T) → read ≡ key
+    → HandsOnPart value (λ x. (read.value, x)) (max read.height) pair (λ p. p)
+    → HandsOnPart pair (λ x. x ∷ []) (λ h. h) res (λ q. q.items)
+    → HandsOnPart value (λ x. (key.value, x) ∷ []) (max key.height) res (λ q. q.items)
+paired_first {T} value pair res read key e m n = subst (λ (k : Part T). HandsOnPart value (λ x. (k.value, x) ∷ []) (max k.height) res (λ q. q.items)) e
+    (λ free r ts us after t. n free r ts us after (m free r ts us (λ q h. after (q ∷ []) h) t))
+
+-- the first pair
+first_pair : {T : Type 0} {free : ℕ} {ts us : List Terminal} (vs : List Terminal) (value : Result (Part T) Fault) (side : Side) (r : Rule) (f : T → Written) (tail : List Written → ℕ → Rule) (key : Part T) (res : Result (Part (Vec (T × T) Global)) Fault)
     → ((out : Outcome) → Runs Tutorial free (under (Sort.Par side) (λ v. tail (pair_of (f key.value, v.tree) ∷ []) (max key.height v.height))) us out → Runs Tutorial free r ts out)
     → Makes (free - 1) (rule Tutorial (choose (Sort.Par side) us)) (λ p. spelt (f p.value) p.height) us value vs
-    → HandsOnPart value (λ x. (key.value, x)) (max key.height) pair (λ p. p)
-    → HandsOnPart pair (λ x. x ∷ []) (λ h. h) res (λ q. q.items)
+    → HandsOnPart value (λ x. (key.value, x) ∷ []) (max key.height) res (λ q. q.items)
     → Turns free r (λ q. tail (pairs_of f q.value.items) q.height) ts res vs
-first_pair {T} {free} {ts} {us} vs value pair side r f tail key res k g m n =
+first_pair {T} {free} {ts} {us} vs value side r f tail key res k g m =
     resume vs (λ (q : Part (Vec (T × T) Global)). tail (pairs_of f q.value.items) q.height) res k
-    (n free _ us vs (λ ps h. tail (pairs_of f ps) h)
-    (m free _ us vs (λ q h. tail (pairs_of f (q ∷ [])) h)
-    (under_read free (Sort.Par side) vs (λ (p : Part T). spelt (f p.value) p.height) (λ v. tail (pair_of (f key.value, v.tree) ∷ []) (max key.height v.height)) value g)))
+    (m free _ us vs (λ ps h. tail (pairs_of f ps) h)
+    (under_read free (Sort.Par side) vs (λ (p : Part T). spelt (f p.value) p.height) (λ v. tail (pair_of (f key.value, v.tree) ∷ []) (max key.height v.height)) value g))
 
 -- a further one
 more_pairs : {T : Type 0} {free : ℕ} {ts us : List Terminal} (vs : List Terminal) (next : Result (Part (T × T)) Fault) (side : Side) (r : Rule) (f : T → Written) (tail : List Written → ℕ → Rule) (xs : List (T × T)) (h : ℕ) (res : Result (Part (Vec (T × T) Global)) Fault)
@@ -96,13 +103,14 @@ more_pairs {T} {free} {ts} {us} vs next side r f tail xs h res k g m =
     (m free _ us vs (λ ps n. tail (pairs_of f ps) n) (pair_appended free us vs _ f tail xs h next (g (λ w n. tail (pairs_of f xs ++ (w ∷ [])) (max h n)))))
 
 -- pairs of processes
-pub block_first : {ts us : List Terminal} (free : ℕ) (vs : List Terminal) (value : Result (Part Proc) Fault) (pair : Result (Part (Proc × Proc)) Fault) (key : Part Proc) (res : Result (Part (Vec (Proc × Proc) Global)) Fault)
-    → sees marks.Colon ts ≡ true → Takes marks.Colon ts us
+pub block_first : {ts us : List Terminal} (free : ℕ) (r : Rule) (t0 vs : List Terminal) (first value : Result (Part Proc) Fault) (res : Result (Part (Vec (Proc × Proc) Global)) Fault)
+    → IsOk first → sees marks.Colon ts ≡ true → Takes marks.Colon ts us
+    → Turns free r (λ a. last (Sort.BraceTail (of_proc a))) t0 first ts
     → Makes (free - 1) (rule Tutorial (choose (Sort.Par processes) us)) of_proc us value vs
-    → HandsOnPart value (λ x. (key.value, x)) (max key.height) pair (λ p. p)
-    → HandsOnPart pair (λ x. x ∷ []) (λ h. h) res (λ q. q.items)
-    → Turns free (rule Tutorial (choose (Sort.BraceTail (of_proc key)) ts)) (λ q. last (Sort.Pairs (pairs_written q.value.items) q.height)) ts res vs
-block_first {ts = ts} free vs value pair key res s t g m n = first_pair vs value pair processes (rule Tutorial (choose (Sort.BraceTail (of_proc key)) ts)) proc_written (λ ps k. last (Sort.Pairs ps k)) key res (λ out k. rw s (runs_sign t k)) g m n
+    → ((k : Part Proc) → first ≡ Ok k → HandsOnPart value (λ x. (k.value, x) ∷ []) (max k.height) res (λ q. q.items))
+    → Turns free r (λ q. last (Sort.Pairs (pairs_written q.value.items) q.height)) t0 res vs
+block_first free r t0 vs (Ok key) value res i s t g m n = first_pair vs value processes r proc_written (λ ps k. last (Sort.Pairs ps k)) key res (λ out k. g out (runs_last (rw s (runs_sign t k)))) m (n key refl)
+block_first free r t0 vs (Err d) value res i s t g m n = absurd (false≢true i)
 
 pub block_more : {ts us : List Terminal} (free : ℕ) (vs : List Terminal) (next : Result (Part (Proc × Proc)) Fault) (xs : List (Proc × Proc)) (h : ℕ) (res : Result (Part (Vec (Proc × Proc) Global)) Fault)
     → sees marks.Comma ts ≡ true → Takes marks.Comma ts us
@@ -125,19 +133,21 @@ pub block_ended : (free : ℕ) (r : Rule) (t0 us : List Terminal) (pairs : Resul
     → Turns free r (λ q. rule Tutorial (Prod.pairs_end (pairs_written q.value.items) q.height)) t0 pairs us
 block_ended free r t0 us pairs e i = closed r t0 (λ (q : Part (Vec (Proc × Proc) Global)). last (Sort.Pairs (pairs_written q.value.items) q.height)) (λ (q : Part (Vec (Proc × Proc) Global)). rule Tutorial (Prod.pairs_end (pairs_written q.value.items) q.height)) pairs e (λ q s out h. runs_last (rw s h)) i
 
--- no pair follows a first process
-pub block_closed : {free : ℕ} {ts us : List Terminal} {out : Outcome} (a : Spelt) → sees marks.Colon ts ≡ false → us ≡ ts
-    → Runs Tutorial free (rule Tutorial (Prod.brace_close a)) us out → Runs Tutorial free (rule Tutorial (choose (Sort.BraceTail a) ts)) ts out
-block_closed a s m r = rw s (unmoved m r)
+-- no pair follows the first process
+pub block_closed : {ts us : List Terminal} (free : ℕ) (r : Rule) (t0 : List Terminal) (first : Result (Part Proc) Fault) → us ≡ ts → OnOk first (sees marks.Colon ts ≡ false)
+    → Turns free r (λ a. last (Sort.BraceTail (of_proc a))) t0 first ts → Turns free r (λ a. rule Tutorial (Prod.brace_close (of_proc a))) t0 first us
+block_closed free r t0 first m s t = stayed free r t0 (λ a. rule Tutorial (Prod.brace_close (of_proc a))) first m
+    (closed r t0 (λ a. last (Sort.BraceTail (of_proc a))) (λ a. rule Tutorial (Prod.brace_close (of_proc a))) first s (λ a c out h. runs_last (rw c h)) t)
 
 -- pairs of patterns
-pub pattern_block_first : {ts us : List Terminal} (free : ℕ) (vs : List Terminal) (value : Result (Part Pat) Fault) (pair : Result (Part (Pat × Pat)) Fault) (key : Part Pat) (res : Result (Part (Vec (Pat × Pat) Global)) Fault)
-    → sees marks.Colon ts ≡ true → Takes marks.Colon ts us
+pub pattern_block_first : {ts us : List Terminal} (free : ℕ) (r : Rule) (t0 vs : List Terminal) (first value : Result (Part Pat) Fault) (res : Result (Part (Vec (Pat × Pat) Global)) Fault)
+    → IsOk first → sees marks.Colon ts ≡ true → Takes marks.Colon ts us
+    → Turns free r (λ a. last (Sort.PBraceTail (of_pat a))) t0 first ts
     → Makes (free - 1) (rule Tutorial (choose (Sort.Par patterns) us)) of_pat us value vs
-    → HandsOnPart value (λ x. (key.value, x)) (max key.height) pair (λ p. p)
-    → HandsOnPart pair (λ x. x ∷ []) (λ h. h) res (λ q. q.items)
-    → Turns free (rule Tutorial (choose (Sort.PBraceTail (of_pat key)) ts)) (λ q. last (Sort.PPairs (pat_pairs_written q.value.items) q.height)) ts res vs
-pattern_block_first {ts = ts} free vs value pair key res s t g m n = first_pair vs value pair patterns (rule Tutorial (choose (Sort.PBraceTail (of_pat key)) ts)) pat_written (λ ps k. last (Sort.PPairs ps k)) key res (λ out k. rw s (runs_sign t k)) g m n
+    → ((k : Part Pat) → first ≡ Ok k → HandsOnPart value (λ x. (k.value, x) ∷ []) (max k.height) res (λ q. q.items))
+    → Turns free r (λ q. last (Sort.PPairs (pat_pairs_written q.value.items) q.height)) t0 res vs
+pattern_block_first free r t0 vs (Ok key) value res i s t g m n = first_pair vs value patterns r pat_written (λ ps k. last (Sort.PPairs ps k)) key res (λ out k. g out (runs_last (rw s (runs_sign t k)))) m (n key refl)
+pattern_block_first free r t0 vs (Err d) value res i s t g m n = absurd (false≢true i)
 
 pub pattern_block_more : {ts us : List Terminal} (free : ℕ) (vs : List Terminal) (next : Result (Part (Pat × Pat)) Fault) (xs : List (Pat × Pat)) (h : ℕ) (res : Result (Part (Vec (Pat × Pat) Global)) Fault)
     → sees_member ts ≡ true → Takes marks.Comma ts us
@@ -154,6 +164,7 @@ pub pattern_block_goes_on : {ts us : List Terminal} (free : ℕ) (r : Rule) (t0 
     → Turns free r (λ q. last (Sort.PPairs (pat_pairs_written q.value.items) q.height)) t0 res vs
 pattern_block_goes_on free r t0 vs pairs next res k s t i g m = carried free r t0 _ vs (λ (q : Part (Vec (Pat × Pat) Global)). last (Sort.PPairs (pat_pairs_written q.value.items) q.height)) pairs res k i (λ x e. pattern_block_more free vs next x.value.items x.height res s t g (m x e))
 
-pub pattern_block_closed : {free : ℕ} {ts us : List Terminal} {out : Outcome} (a : Spelt) → sees marks.Colon ts ≡ false → us ≡ ts
-    → Runs Tutorial free (rule Tutorial (Prod.pbrace_close a)) us out → Runs Tutorial free (rule Tutorial (choose (Sort.PBraceTail a) ts)) ts out
-pattern_block_closed a s m r = rw s (unmoved m r)
+pub pattern_block_closed : {ts us : List Terminal} (free : ℕ) (r : Rule) (t0 : List Terminal) (first : Result (Part Pat) Fault) → us ≡ ts → OnOk first (sees marks.Colon ts ≡ false)
+    → Turns free r (λ a. last (Sort.PBraceTail (of_pat a))) t0 first ts → Turns free r (λ a. rule Tutorial (Prod.pbrace_close (of_pat a))) t0 first us
+pattern_block_closed free r t0 first m s t = stayed free r t0 (λ a. rule Tutorial (Prod.pbrace_close (of_pat a))) first m
+    (closed r t0 (λ a. last (Sort.PBraceTail (of_pat a))) (λ a. rule Tutorial (Prod.pbrace_close (of_pat a))) first s (λ a c out h. runs_last (rw c h)) t)

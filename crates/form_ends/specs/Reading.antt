@@ -10,7 +10,11 @@ use Rattle.calculus.specs.declared.process.Bind.{Bind}
 use Rattle.calculus.specs.declared.process.Case.{Case}
 use Rattle.calculus.specs.declared.process.Pat.{Pat}
 use Rattle.calculus.specs.declared.process.Proc.{Proc}
+use Rattle.form_ends.specs.declared.form_begin.FormStep.{FormStep}
+use Rattle.form_ends.specs.declared.form_begin.FormStep.TheVariants as forms
 use Rattle.form_steps.specs.Handing.{HandsOnPart}
+use Rattle.form_steps.specs.Parts.{after_key}
+use Rattle.form_steps.specs.declared.step.FormKey.TheVariants as keys
 use Rattle.grammar.specs.declared.dialect.Dialect.TheVariants.{Tutorial}
 use Rattle.grammar.specs.declared.fault.Fault.{Fault}
 use Rattle.grammar.specs.declared.mark.Mark.TheVariants as marks
@@ -65,3 +69,11 @@ Appends {T} before next result = (xs : Part (Vec T Global)) → before ≡ Ok xs
 -- the process after the names of a `new`
 abbrev pub after_in : Vec Decl Global → Rule
 after_in ds = under Sort.One (λ p. done (opened (new_of (map declared ds.items) p.tree) p.height))
+
+-- after the step that begins a form with a key
+abbrev pub after_form_step : FormStep → Rule
+after_form_step (forms.New ds) = after_in ds
+after_form_step forms.If = after_key keys.If
+after_form_step forms.Contract = after_key keys.Contract
+after_form_step forms.For = after_key keys.For
+after_form_step forms.Match = after_key keys.Match

@@ -6,14 +6,14 @@ ghost use Rattle.grammar.specs.Choice.{choose};
 ghost use Rattle.grammar.specs.Grammar.{rule};
 ghost use Rattle.grammar.specs.Rules.{Rule, Sort, at, done, sign};
 ghost use Rattle.grammar.specs.Terminals.{Terminal};
-ghost use Rattle.grammar.specs.Values.{Spelt, closed_of, contract_of, if_of, new_of, opened, quote_of, quoted_of, spelt};
+ghost use Rattle.grammar.specs.Values.{Spelt, closed_of, contract_of, if_of, new_of, nil, opened, quote_of, quoted_of, spelt, unary_of};
 ghost use Rattle.grammar.specs.declared.dialect.Dialect.TheVariants.{Tutorial};
 ghost use Rattle.grammar.specs.declared.mark.Mark.TheVariants as marks;
 ghost use Rattle.form_parts.specs.Forms.{left_written};
 ghost use Rattle.token_cursor.specs.Reading.{Gives, Makes, of_left, of_name, of_name_pat, of_pat, of_proc};
-ghost use Rattle.std.specs.Prelude.{◌+◌, ◌<◌, ◌≤◌, ◌^◌, ℕ, IfOk, List, length, map, max};
+ghost use Rattle.std.specs.Prelude.{◌≡◌, ◌+◌, ◌<◌, ◌≤◌, ◌^◌, ℕ, IfOk, List, length, map, max};
 
-use calculus::{Bind, Decl, Kind, Name, NamePat, Pat, Proc};
+use calculus::{Bind, Decl, Kind, Name, NamePat, Pat, Proc, UnaryOp};
 use form_parts::part::{Left, Part};
 use form_parts::parts;
 use form_steps::{both, then_mark};
@@ -77,8 +77,43 @@ pub fn contract_with_body(
     }
 }
 
-/// The `if` of this condition and this branch, and of the other branch that was read after them.
+/// The `if` of the condition and the branch that were read.
+pub fn if_without_else(
+    alloc: Global,
+    arms: Result<(Part<Proc>, Part<Proc>), Fault>,
+) -> Result<Part<Proc>, Fault>
+    requires { IfOk arms (λ a. (a.0.height + 1 < 2 ^ 32) × (a.1.height + 1 < 2 ^ 32)) }
+    ensures reads { Completes arms (λ a. done (opened (if_of (proc_written a.0.value) (proc_written a.1.value) nil)
+        (max a.0.height a.1.height))) of_proc result }
+    ensures room { (n : ℕ) → IfOk arms (λ a. (a.0.height < n) × (a.1.height < n)) → IfOk result (λ p. p.height ≤ n) }
+{
+    match arms {
+        Ok(arms) => process_forms::if_only(alloc, arms.0, arms.1),
+        Err(fault) => Err(fault),
+    }
+}
+
+/// The `if` of the condition and the branch that were read, and of the other branch that was read after them.
 pub fn if_with_else(
+    alloc: Global,
+    arms: Result<(Part<Proc>, Part<Proc>), Fault>,
+    other: Result<Part<Proc>, Fault>,
+) -> Result<Part<Proc>, Fault>
+    requires arms { IfOk arms (λ a. (a.0.height + 1 < 2 ^ 32) × (a.1.height + 1 < 2 ^ 32)) }
+    requires no { IfOk other (λ p. p.height + 1 < 2 ^ 32) }
+    ensures reads { (a : Part Proc × Part Proc) → arms ≡ Ok a → Completes other (λ p. done (opened
+        (if_of (proc_written a.0.value) (proc_written a.1.value) (of_proc p).tree) (max (max a.0.height a.1.height) p.height))) of_proc result }
+    ensures room { (n : ℕ) → IfOk arms (λ a. (a.0.height < n) × (a.1.height < n)) → IfOk other (λ p. p.height < n) →
+        IfOk result (λ p. p.height ≤ n) }
+{
+    match arms {
+        Ok(arms) => if_from(alloc, arms, other),
+        Err(fault) => Err(fault),
+    }
+}
+
+/// The `if` of this condition and this branch, and of the other branch that was read after them.
+fn if_from(
     alloc: Global,
     arms: (Part<Proc>, Part<Proc>),
     other: Result<Part<Proc>, Fault>,
@@ -145,6 +180,22 @@ pub fn new_with_body(
 {
     match body {
         Ok(body) => process_forms::new_process(alloc, names, body),
+        Err(fault) => Err(fault),
+    }
+}
+
+/// The operator before the operand that was read.
+pub fn unary_with_operand(
+    alloc: Global,
+    op: UnaryOp,
+    operand: Result<Part<Proc>, Fault>,
+) -> Result<Part<Proc>, Fault>
+    requires { IfOk operand (λ p. p.height + 1 < 2 ^ 32) }
+    ensures reads { Completes operand (λ p. done (opened (unary_of op (of_proc p).tree) p.height)) of_proc result }
+    ensures room { (n : ℕ) → IfOk operand (λ p. p.height < n) → IfOk result (λ p. p.height ≤ n) }
+{
+    match operand {
+        Ok(operand) => process_forms::unary(alloc, op, operand),
         Err(fault) => Err(fault),
     }
 }

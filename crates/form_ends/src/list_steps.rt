@@ -1,7 +1,7 @@
 //! Lists of constituents that are read one after another, up to the first fault.
 ghost use Rattle.calculus.specs.Meaning.{name_pat_written, pat_written, proc_written};
 ghost use Rattle.form_ends.specs.Reading.{Appends};
-ghost use Rattle.form_steps.specs.Handing.{Completes, CompletesAt};
+ghost use Rattle.form_steps.specs.Handing.{Completes, CompletesAt, HandsOnPart};
 ghost use Rattle.grammar.specs.Descent.{Takes};
 ghost use Rattle.grammar.specs.Grammar.{rule};
 ghost use Rattle.grammar.specs.Productions.{Prod};
@@ -12,13 +12,14 @@ ghost use Rattle.grammar.specs.declared.dialect.Dialect.TheVariants.{Tutorial};
 ghost use Rattle.grammar.specs.declared.mark.Mark.TheVariants as marks;
 ghost use Rattle.token_cursor.specs.Meaning.{view};
 ghost use Rattle.token_cursor.specs.Reading.{bracket_of, of_left, of_pat, of_proc, of_sequence, pairs_written, pat_pairs_written, sees_member};
-ghost use Rattle.std.specs.Prelude.{◌≡◌, ◌+◌, ◌<◌, ◌≤◌, ◌^◌, ℕ, IfOk, IsOk, OnOk, false, length, map, true};
+ghost use Rattle.std.specs.Prelude.{◌≡◌, ◌∷◌, ◌+◌, ◌<◌, ◌≤◌, ◌^◌, ℕ, [], IfOk, IsOk, OnOk, false, length, map, max, true};
 
 use calculus::{NamePat, Pat, Proc};
 use form_parts::part::{Bracket, Left, Part, Sequence};
-use form_steps::{one_more, skip, skip_comma};
+use form_steps::{first_of, one_more, paired, skip, skip_comma};
 use grammar::{Fault, Mark};
 use leaf_forms::{left_end, map_close, pairs_end, sequence_end};
+use std::alloc::Global;
 use syntax_forms::{pattern_forms, process_forms};
 use token_cursor::Cursor;
 
@@ -53,6 +54,21 @@ pub fn skip_comma_after<T>(cursor: &mut Cursor<'_>, before: &Result<T, Fault>) -
         return false;
     }
     skip_comma(cursor)
+}
+
+/// A list of the first pair, whose key and value were read; or the first fault.
+pub fn first_pair<T: Drop>(
+    alloc: Global,
+    key: Result<Part<T>, Fault>,
+    value: Result<Part<T>, Fault>,
+) -> Result<Part<Vec<(T, T)>>, Fault>
+    ensures reads { (k : Part T) → key ≡ Ok k → HandsOnPart value (λ x. (k.value, x) ∷ []) (max k.height) result (λ ps. ps.items) }
+    ensures room { (n : ℕ) → IfOk key (λ k. k.height ≤ n) → IfOk value (λ v. v.height ≤ n) → IfOk result (λ ps. ps.height ≤ n) }
+{
+    match key {
+        Ok(key) => first_of(alloc, paired(key, value)),
+        Err(fault) => Err(fault),
+    }
 }
 
 /// One more part that was read, after those that were read before; or the first fault.

@@ -81,7 +81,7 @@ pub fn then_marks<T: Drop>(
 }
 
 /// The names of a `new`, up to the process.
-pub fn declared_names(cursor: &mut Cursor<'_>) -> Result<Vec<Decl>, Fault>
+pub(crate) fn declared_names(cursor: &mut Cursor<'_>) -> Result<Vec<Decl>, Fault>
     ensures reads { Continues cursor.old (last (Sort.Decl [])) after_in result cursor.new }
     ensures shorter { length cursor.new.rest.now ≤ length cursor.old.rest.now }
 {

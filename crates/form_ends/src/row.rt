@@ -4,7 +4,6 @@ ghost use Rattle.grammar.specs.Grammar.{rule};
 ghost use Rattle.grammar.specs.Rules.{Sort, round};
 ghost use Rattle.grammar.specs.Terminals.{Terminal};
 ghost use Rattle.grammar.specs.Values.{patterns, processes};
-ghost use Rattle.form_ends.specs.Reading.{after_first};
 ghost use Rattle.token_cursor.specs.Reading.{Gives, Makes, of_pat, of_pat_row, of_proc, of_row};
 ghost use Rattle.std.specs.Prelude.{◌+◌, ◌-◌, ◌<◌, ◌≤◌, ◌^◌, ℕ, IfOk, List};
 
@@ -46,36 +45,5 @@ pub fn sent_pattern(
     match args {
         Ok(args) => Ok(pattern_forms::send_pat(sending.channel, args, sending.persistent)),
         Err(fault) => parts::give_up(sending, fault),
-    }
-}
-
-/// The tuple of this member and those that were read after it.
-pub fn tuple(first: Part<Proc>, row: Result<Part<Vec<Proc>>, Fault>) -> Result<Part<Proc>, Fault>
-    requires first { first.height + 1 < 2 ^ 32 }
-    requires row { IfOk row (λ p. p.height + 1 < 2 ^ 32) }
-    ensures reads { (free : ℕ) (ts us : List Terminal) → Gives (free - 1) (Sort.Row processes round) of_row ts row us →
-        Makes free (after_first processes (of_proc first)) of_proc ts result us }
-    ensures room { (n : ℕ) → first.height < n → IfOk row (λ p. p.height < n) → IfOk result (λ p. p.height ≤ n) }
-{
-    match row {
-        Ok(row) => process_forms::tuple(first, row),
-        Err(fault) => parts::give_up(first, fault),
-    }
-}
-
-/// The pattern of a tuple of this member and those that were read after it.
-pub fn tuple_pattern(
-    first: Part<Pat>,
-    row: Result<Part<Vec<Pat>>, Fault>,
-) -> Result<Part<Pat>, Fault>
-    requires first { first.height + 1 < 2 ^ 32 }
-    requires row { IfOk row (λ p. p.height + 1 < 2 ^ 32) }
-    ensures reads { (free : ℕ) (ts us : List Terminal) → Gives (free - 1) (Sort.Row patterns round) of_pat_row ts row us →
-        Makes free (after_first patterns (of_pat first)) of_pat ts result us }
-    ensures room { (n : ℕ) → first.height < n → IfOk row (λ p. p.height < n) → IfOk result (λ p. p.height ≤ n) }
-{
-    match row {
-        Ok(row) => pattern_forms::tuple_pat(first, row),
-        Err(fault) => parts::give_up(first, fault),
     }
 }

@@ -11,11 +11,9 @@ use Rattle.form_steps.specs.declared.step.PartStep.TheVariants as parts
 use Rattle.form_steps.specs.declared.step.TermStep.{TermStep}
 use Rattle.form_steps.specs.declared.step.TermStep.TheVariants as terms
 use Rattle.form_steps.specs.declared.step.Sending.{Sending}
-use Rattle.grammar.specs.declared.dialect.Dialect.TheVariants.{Tutorial}
 use Rattle.grammar.specs.declared.mark.Mark.{Mark}
 use Rattle.grammar.specs.declared.mark.Mark.TheVariants as marks
 use Rattle.grammar.specs.Choice.{sees_any_send, sees_bundle, sees_send}
-use Rattle.grammar.specs.Grammar.{rule}
 use Rattle.grammar.specs.Productions.{Prod}
 use Rattle.grammar.specs.Rules.{Sort, Rule, round, at, done, sign, under, last}
 use Rattle.grammar.specs.Terminals.{Terminal, sees}
@@ -84,24 +82,34 @@ after_quoted a = last (Sort.SentTail processes (spelt (quote_of a.tree) a.height
 abbrev pub after_quoted_pattern : Spelt → Rule
 after_quoted_pattern a = last (Sort.SentTail patterns (spelt (quoted_of a.tree) a.height))
 
+-- after the channel of a send and a parenthesis
+abbrev pub after_channel : Sending Name → Rule
+after_channel s = under (Sort.Row processes round) (λ r. done (opened (send_of processes s.persistent (name_written s.channel.value) r.tree) (max s.channel.height r.height)))
+
+-- after the pattern of the channel of a send and a parenthesis
+abbrev pub after_channel_pattern : Sending NamePat → Rule
+after_channel_pattern s = under (Sort.Row patterns round) (λ r. done (opened (send_of patterns s.persistent (name_pat_written s.channel.value) r.tree) (max s.channel.height r.height)))
+
 -- after the step that begins a part of a process
 abbrev pub after_term_step : TermStep → Rule
 after_term_step (terms.Form k) = last (form_sort k)
 after_term_step (terms.Bundle r) = after_bundle processes r
 after_term_step terms.Quoted = under Sort.Drop after_quoted
-after_term_step terms.Send = rule Tutorial Prod.two_word
+after_term_step (terms.Send s) = after_channel s
 after_term_step terms.Chain = last Sort.Or
 
 -- there is room for what it begins
 abbrev pub HasRoomForTerm : ℕ → TermStep → Type 0
 HasRoomForTerm free (terms.Bundle r) = 0 < free
 HasRoomForTerm free terms.Quoted = 0 < free
+HasRoomForTerm free (terms.Send s) = s.channel.height < free
 HasRoomForTerm free _ = ⊤
 
 -- it took what stands before a constituent
 abbrev pub PassesTerm : ℕ → ℕ → TermStep → Type 0
 PassesTerm new old (terms.Bundle r) = new < old
 PassesTerm new old terms.Quoted = new < old
+PassesTerm new old (terms.Send s) = new < old
 PassesTerm new old _ = new ≤ old
 
 -- the production of a part of a pattern that is this form
@@ -130,26 +138,19 @@ abbrev pub after_part_step : PartStep → Rule
 after_part_step (parts.Form k) = at (form_sort k) (λ a. done (closed_of a))
 after_part_step (parts.Bundle r) = after_bundle patterns r
 after_part_step parts.Quoted = under Sort.PAlt after_quoted_pattern
-after_part_step parts.AnySend = rule Tutorial Prod.pone_any
-after_part_step parts.Send = rule Tutorial Prod.pone_word
+after_part_step (parts.Send s) = after_channel_pattern s
 after_part_step parts.Alternative = last Sort.PAlt
 
 -- there is room for what it begins
 abbrev pub HasRoomForPart : ℕ → PartStep → Type 0
 HasRoomForPart free (parts.Bundle r) = 0 < free
 HasRoomForPart free parts.Quoted = 0 < free
+HasRoomForPart free (parts.Send s) = s.channel.height < free
 HasRoomForPart free _ = ⊤
 
 -- it took what stands before a constituent
 abbrev pub PassesPart : ℕ → ℕ → PartStep → Type 0
 PassesPart new old (parts.Bundle r) = new < old
 PassesPart new old parts.Quoted = new < old
+PassesPart new old (parts.Send s) = new < old
 PassesPart new old _ = new ≤ old
-
--- after the channel of a send and a parenthesis
-abbrev pub after_channel : Sending Name → Rule
-after_channel s = under (Sort.Row processes round) (λ r. done (opened (send_of processes s.persistent (name_written s.channel.value) r.tree) (max s.channel.height r.height)))
-
--- after the pattern of the channel of a send and a parenthesis
-abbrev pub after_channel_pattern : Sending NamePat → Rule
-after_channel_pattern s = under (Sort.Row patterns round) (λ r. done (opened (send_of patterns s.persistent (name_pat_written s.channel.value) r.tree) (max s.channel.height r.height)))

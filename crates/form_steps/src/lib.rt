@@ -25,4 +25,4 @@ pub use plain::{
     close_bundle, close_bundle_pattern, close_same, dropped_quote, member_patterns, members,
     negated,
 };
-pub use send::{begin_any_send, begin_send, begin_send_pattern, quoted_send, quoted_send_pattern};
+pub use send::{quoted_send, quoted_send_pattern};

@@ -8,6 +8,7 @@ ghost use Rattle.form_steps.specs.Parts.{after_bundle, keyed_part, part_or};
 ghost use Rattle.grammar.specs.Productions.{Prod};
 ghost use Rattle.token_cursor.specs.Cursors.{BeginsWithin, Shortens, ShortensAs, rule_at};
 
+use crate::send::{begin_any_send, begin_send, begin_send_pattern};
 use crate::step::{FormKey, PartStep, TermStep};
 use calculus::Rights;
 use grammar::{Fault, Mark};
@@ -50,7 +51,8 @@ pub fn begin_term(cursor: &mut Cursor<'_>, free: u32) -> Result<TermStep, Fault>
         return Ok(TermStep::Quoted);
     }
     if cursor.sees_send() {
-        return Ok(TermStep::Send);
+        let sending = begin_send(cursor, free)?;
+        return Ok(TermStep::Send(sending));
     }
     Ok(TermStep::Chain)
 }
@@ -108,10 +110,12 @@ pub fn begin_part(cursor: &mut Cursor<'_>, free: u32) -> Result<PartStep, Fault>
         return Ok(PartStep::Quoted);
     }
     if cursor.sees_any_send() {
-        return Ok(PartStep::AnySend);
+        let any = begin_any_send(cursor, free)?;
+        return Ok(PartStep::Send(any));
     }
     if cursor.sees_send() {
-        return Ok(PartStep::Send);
+        let sending = begin_send_pattern(cursor, free)?;
+        return Ok(PartStep::Send(sending));
     }
     Ok(PartStep::Alternative)
 }

@@ -19,7 +19,7 @@ use syntax_forms::{pattern_forms, process_forms};
 use token_cursor::Cursor;
 
 /// A variable, the mark of a send, which opens it, and a parenthesis.
-pub fn begin_send(cursor: &mut Cursor<'_>, free: u32) -> Result<Sending<Name>, Fault>
+pub(crate) fn begin_send(cursor: &mut Cursor<'_>, free: u32) -> Result<Sending<Name>, Fault>
     ensures reads { ContinuesWithin free cursor.old (rule Tutorial Prod.two_word) after_channel result cursor.new }
     ensures room { IfOk result (λ s. s.channel.height < free) }
     ensures shorter { Shortens cursor.old result cursor.new }
@@ -77,7 +77,10 @@ pub fn quoted_send(
 }
 
 /// A variable that is bound here, the mark of a send, which opens it, and a parenthesis.
-pub fn begin_send_pattern(cursor: &mut Cursor<'_>, free: u32) -> Result<Sending<NamePat>, Fault>
+pub(crate) fn begin_send_pattern(
+    cursor: &mut Cursor<'_>,
+    free: u32,
+) -> Result<Sending<NamePat>, Fault>
     ensures reads { ContinuesWithin free cursor.old (rule Tutorial Prod.pone_word) after_channel_pattern result cursor.new }
     ensures room { IfOk result (λ s. s.channel.height < free) }
     ensures shorter { Shortens cursor.old result cursor.new }
@@ -87,7 +90,7 @@ pub fn begin_send_pattern(cursor: &mut Cursor<'_>, free: u32) -> Result<Sending<
 }
 
 /// `_`, the mark of a send, which opens it, and a parenthesis.
-pub fn begin_any_send(cursor: &mut Cursor<'_>, free: u32) -> Result<Sending<NamePat>, Fault>
+pub(crate) fn begin_any_send(cursor: &mut Cursor<'_>, free: u32) -> Result<Sending<NamePat>, Fault>
     ensures reads { ContinuesWithin free cursor.old (rule Tutorial Prod.pone_any) after_channel_pattern result cursor.new }
     ensures room { IfOk result (λ s. s.channel.height < free) }
     ensures shorter { Shortens cursor.old result cursor.new }

@@ -1,4 +1,4 @@
-use calculus::{Rights, Simple};
+use calculus::{Name, NamePat, Rights, Simple};
 use form_parts::part::{Bracket, Part};
 
 /// A process that holds no further one.
@@ -81,8 +81,7 @@ pub enum FormKey {
     Match,
 }
 
-/// How a part of a process begins. What begins a bundle or a quoted channel was taken up to the next constituent.
-#[derive(Clone, Copy)]
+/// How a part of a process begins. What begins a bundle or a send was taken up to the next constituent.
 pub enum TermStep {
     /// This form is next.
     Form(FormKey),
@@ -90,14 +89,13 @@ pub enum TermStep {
     Bundle(Rights),
     /// The quoted process that is the channel of a send is next.
     Quoted,
-    /// A send on a variable is next.
-    Send,
+    /// The arguments of a send on this variable are next.
+    Send(Sending<Name>),
     /// Operators and their operands are next.
     Chain,
 }
 
-/// How a part of a pattern begins. What begins a bundle or a quoted channel was taken up to the next constituent.
-#[derive(Clone, Copy)]
+/// How a part of a pattern begins. What begins a bundle or a send was taken up to the next constituent.
 pub enum PartStep {
     /// This form of processes is next.
     Form(FormKey),
@@ -105,10 +103,8 @@ pub enum PartStep {
     Bundle(Rights),
     /// The quoted pattern that is the channel of a send is next.
     Quoted,
-    /// A send on any channel is next.
-    AnySend,
-    /// A send on a channel that is bound here is next.
-    Send,
+    /// The arguments of a send on any channel, or on this one, which is bound here, are next.
+    Send(Sending<NamePat>),
     /// Alternatives are next.
     Alternative,
 }

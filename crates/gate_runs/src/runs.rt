@@ -1,10 +1,9 @@
 //! Calls of the program, over files in memory.
 use crate::channels::{apart, receives, sends};
 use crate::direct::replayed;
-use call_harness::{Ended, Harness, Meeting, Outside};
+use call_harness::{Ended, Harness, Meeting, Outside, file};
 use numbered_jobs::Crew;
 use replay_runs::Replayed;
-use rho_outside::Shelf;
 use std::alloc::{AllocError, Global};
 use std::str;
 use std::sync::Wait;
@@ -12,9 +11,6 @@ use std::thread::Threads;
 use table_lines::LineFault;
 
 const PRICES: &[u8] = b"comm = 10\nsend = 3\nreceive = 4\nname = 2\ncase = 1\nop = 1\nbyte = 0\n";
-
-// The most bytes of a file.
-const MOST: u64 = 1_000_000;
 
 const STORE: &str =
     "deploy receives --state empty --prices prices --limit 1000 --log first --next state --workers 1";
@@ -72,14 +68,6 @@ fn tell_end(harness: &mut Harness) {
     let put = str::from_utf8(harness.outside.out.bytes.as_slice()).unwrap_or("no UTF-8");
     let text = format!(in alloc; "code {}, {put}", harness.ended.code);
     harness.tell_made(text);
-}
-
-// The bytes of a file; none where there is no such file.
-fn file(harness: &mut Harness, name: &str) -> Vec<u8> {
-    match harness.outside.shelf.fetch(harness.alloc, name, MOST) {
-        Ok(bytes) => bytes,
-        Err(_) => Vec::new(harness.alloc),
-    }
 }
 
 // The replay of the same log by two workers, called directly, with a gate.

@@ -13,7 +13,7 @@ use Rattle.calculus.specs.Rows.{Row, row_code}
 use Rattle.calculus.specs.Steps.{is_one_of}
 use Rattle.calculus.specs.Storing.{IsStorable}
 use Rattle.calculus.proofs.Tails.{length-be64}
-use Rattle.term_encoder.proofs.Codes.{length-map}
+use Rattle.calculus.proofs.ListCodes.{length-map}
 use Rattle.states.proofs.Groups.{same, sorted-moved}
 use Rattle.states.specs.States.{state_text}
 use Rattle.radix_root.specs.Leaves.{Leaves, Keeps, group_digest, codes_at, groups_of}

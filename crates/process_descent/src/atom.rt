@@ -2,7 +2,7 @@
 ghost use Rattle.calculus.specs.Meaning.{proc_written};
 ghost use Rattle.grammar.specs.Grammar.{rule};
 ghost use Rattle.grammar.specs.Productions.{Prod};
-ghost use Rattle.grammar.specs.Rules.{Sort, last};
+ghost use Rattle.grammar.specs.Rules.{Sort, last, under};
 ghost use Rattle.grammar.specs.Values.{processes};
 ghost use Rattle.grammar.specs.declared.dialect.Dialect.TheVariants.{Tutorial};
 ghost use Rattle.form_ends.specs.Reading.{ReadsPair, process_pair};
@@ -12,12 +12,15 @@ ghost use Rattle.std.specs.Prelude.{◌-◌, ◌<◌, ◌≤◌, IfOk, MatchResu
 
 use crate::parser::Parser;
 use calculus::{Name, Proc};
-use form_ends::{close_map, plain_process, quoted_name, skip_after, then_one_more, tuple};
+use form_ends::{
+    close_block, close_group, close_map, first_pair, plain_process, quoted_name, skip_after,
+    then_one_more, tuple,
+};
 use form_parts::part::{Bracket, Part};
 use form_steps::step::ProcessStep;
 use form_steps::{begin_atom, dropped_quote, first_of, members, paired, skip, then_mark};
 use grammar::{Fault, Mark};
-use leaf_forms::{brace_close, group_close, name_word, row_none};
+use leaf_forms::{name_word, row_none};
 use token_cursor::cursor::closing_mark;
 
 impl<'a> Parser<'a> {
@@ -35,17 +38,14 @@ impl<'a> Parser<'a> {
                 dropped_quote(self.cursor.alloc, quoted)
             }
             Ok(ProcessStep::Group) => {
-                let inner = self.par(free - 1)?;
-                if !skip(&mut self.cursor, Mark::Comma) {
-                    return group_close(&mut self.cursor, inner);
+                let inner = self.par(free - 1);
+                if !skip_after(&mut self.cursor, &inner, Mark::Comma) {
+                    return close_group(&mut self.cursor, inner);
                 }
                 let row = self.row(Bracket::Round, free - 1);
                 tuple(inner, row)
             }
-            Ok(ProcessStep::Block) => {
-                let first = self.par(free - 1)?;
-                self.block(first, free)
-            }
+            Ok(ProcessStep::Block) => self.block(free),
             Ok(ProcessStep::Members(bracket)) => {
                 let row = self.row(bracket, free - 1);
                 members(bracket, row)
@@ -68,20 +68,21 @@ impl<'a> Parser<'a> {
         quoted_name(self.cursor.alloc, quoted)
     }
 
-    /// What follows the first process in braces: the end, or the pairs of a map.
+    /// The first process in braces, and what follows it: the end, or the pairs of a map.
     #[cycle(parse)]
-    pub(crate) fn block(&mut self, inner: Part<Proc>, free: u32) -> Result<Part<Proc>, Fault>
-        requires { inner.height < free }
-        ensures reads { Gives free (Sort.BraceTail (of_proc inner)) of_proc (view self.old.cursor.rest.now) result
-            (view self.new.cursor.rest.now) }
+    pub(crate) fn block(&mut self, free: u32) -> Result<Part<Proc>, Fault>
+        requires { 0 < free }
+        ensures reads { Makes free (under (Sort.Par processes) (λ p. last (Sort.BraceTail p))) of_proc (view self.old.cursor.rest.now)
+            result (view self.new.cursor.rest.now) }
         ensures room { IfOk result (λ p. p.height ≤ free) }
         ensures shorter { length self.new.cursor.rest.now ≤ length self.old.cursor.rest.now }
     {
-        if !skip(&mut self.cursor, Mark::Colon) {
-            return brace_close(&mut self.cursor, inner);
+        let first = self.par(free - 1);
+        if !skip_after(&mut self.cursor, &first, Mark::Colon) {
+            return close_block(&mut self.cursor, first);
         }
-        let pair = paired(inner, self.par(free - 1));
-        let mut pairs = first_of(self.cursor.alloc, pair);
+        let value = self.par(free - 1);
+        let mut pairs = first_pair(self.cursor.alloc, first, value);
         'each: while skip_after(&mut self.cursor, &pairs, Mark::Comma) {
             let next = self.pair(free);
             pairs = then_one_more(pairs, next);

@@ -11,11 +11,10 @@ ghost use Rattle.std.specs.Prelude.{◌<◌, ◌≤◌, IfOk, MatchResult, lengt
 
 use crate::parser::Parser;
 use calculus::Proc;
-use form_ends::{Chain, begin_right, called, next_call, operated};
+use form_ends::{Chain, begin_right, called, next_call, operated, unary_with_operand};
 use form_parts::part::{Bracket, Part};
 use form_steps::begin_operand;
 use grammar::Fault;
-use syntax_forms::process_forms;
 use token_cursor::Level;
 
 impl<'a> Parser<'a> {
@@ -53,8 +52,8 @@ impl<'a> Parser<'a> {
         match begin_operand(&mut self.cursor, free) {
             Ok(None) => self.meth(free),
             Ok(Some(op)) => {
-                let arg = self.pre(free - 1)?;
-                process_forms::unary(self.cursor.alloc, op, arg)
+                let operand = self.pre(free - 1);
+                unary_with_operand(self.cursor.alloc, op, operand)
             }
             Err(fault) => Err(fault),
         }

@@ -14,17 +14,17 @@ ghost use Rattle.std.specs.Prelude.{◌≡◌, ◌<◌, ◌≤◌, IfOk, MatchRe
 use crate::parser::Parser;
 use calculus::{NamePat, Pat};
 use form_ends::{
-    Chain, Joint, closed_form, composed_pattern, join, next_joint, plain_pattern, quoted_pattern,
-    sent_pattern, skip_after, then_one_more, tuple_pattern,
+    Chain, Joint, close_pattern_group, closed_form, composed_pattern, join, next_joint,
+    plain_pattern, quoted_pattern, sent_pattern, skip_after, then_one_more, tuple_pattern,
 };
 use form_parts::part::{Bracket, Part};
 use form_steps::step::{PartStep, PatternStep};
 use form_steps::{
-    begin_any_send, begin_part, begin_pattern, begin_send_pattern, close_bundle_pattern,
-    close_same, first_of, member_patterns, negated, quoted_send_pattern, skip,
+    begin_part, begin_pattern, close_bundle_pattern, close_same, first_of, member_patterns,
+    negated, quoted_send_pattern, skip,
 };
 use grammar::{Fault, Mark};
-use leaf_forms::{name_any, name_bound, pattern_close};
+use leaf_forms::{name_any, name_bound};
 
 impl<'a> Parser<'a> {
     /// PPar ::= POne { "|" POne }
@@ -62,13 +62,7 @@ impl<'a> Parser<'a> {
                 let args = self.pattern_row(Bracket::Round, free - 1);
                 sent_pattern(channel, args)
             }
-            Ok(PartStep::AnySend) => {
-                let any = begin_any_send(&mut self.cursor, free)?;
-                let args = self.pattern_row(Bracket::Round, free - 1);
-                sent_pattern(any, args)
-            }
-            Ok(PartStep::Send) => {
-                let sending = begin_send_pattern(&mut self.cursor, free)?;
+            Ok(PartStep::Send(sending)) => {
                 let args = self.pattern_row(Bracket::Round, free - 1);
                 sent_pattern(sending, args)
             }
@@ -123,17 +117,14 @@ impl<'a> Parser<'a> {
                 close_same(&mut self.cursor, body)
             }
             Ok(PatternStep::Group) => {
-                let inner = self.pattern_par(free - 1)?;
-                if !skip(&mut self.cursor, Mark::Comma) {
-                    return pattern_close(&mut self.cursor, inner);
+                let inner = self.pattern_par(free - 1);
+                if !skip_after(&mut self.cursor, &inner, Mark::Comma) {
+                    return close_pattern_group(&mut self.cursor, inner);
                 }
                 let row = self.pattern_row(Bracket::Round, free - 1);
                 tuple_pattern(inner, row)
             }
-            Ok(PatternStep::Block) => {
-                let first = self.pattern_par(free - 1)?;
-                self.pattern_block(first, free)
-            }
+            Ok(PatternStep::Block) => self.pattern_block(free),
             Ok(PatternStep::Members(bracket)) => {
                 let sequence = self.pattern_sequence(bracket, free - 1);
                 member_patterns(bracket, sequence)

@@ -3,7 +3,7 @@ ghost use Rattle.calculus.specs.Meaning.{pat_written};
 ghost use Rattle.grammar.specs.Choice.{choose};
 ghost use Rattle.grammar.specs.Grammar.{rule};
 ghost use Rattle.grammar.specs.Productions.{Prod};
-ghost use Rattle.grammar.specs.Rules.{Sort, last};
+ghost use Rattle.grammar.specs.Rules.{Sort, last, under};
 ghost use Rattle.grammar.specs.Values.{patterns};
 ghost use Rattle.grammar.specs.declared.dialect.Dialect.TheVariants.{Tutorial};
 ghost use Rattle.form_ends.specs.Reading.{ReadsPair, pattern_pair};
@@ -14,11 +14,14 @@ ghost use Rattle.std.specs.Prelude.{◌≡◌, ◌-◌, ◌<◌, ◌≤◌, IfOk
 
 use crate::parser::Parser;
 use calculus::Pat;
-use form_ends::{close_pairs, close_sequence, skip_after, skip_comma_after, then_one_more};
+use form_ends::{
+    close_pairs, close_pattern_block, close_sequence, first_pair, skip_after, skip_comma_after,
+    then_one_more,
+};
 use form_parts::part::{Bracket, Part, Sequence};
-use form_steps::{first_of, paired, skip, then_mark};
+use form_steps::{first_of, paired, then_mark};
 use grammar::{Fault, Mark};
-use leaf_forms::{pattern_brace_close, pattern_row_none, sequence_none, sequence_only_rest};
+use leaf_forms::{pattern_row_none, sequence_none, sequence_only_rest};
 use token_cursor::cursor::closing_mark;
 
 impl<'a> Parser<'a> {
@@ -74,20 +77,21 @@ impl<'a> Parser<'a> {
         close_sequence(&mut self.cursor, bracket, pats)
     }
 
-    /// What follows the first pattern in braces: the end, or the pairs of a map and its remainder.
+    /// The first pattern in braces, and what follows it: the end, or the pairs of a map and its remainder.
     #[cycle(parse)]
-    pub(crate) fn pattern_block(&mut self, first: Part<Pat>, free: u32) -> Result<Part<Pat>, Fault>
-        requires { first.height < free }
-        ensures reads { Gives free (Sort.PBraceTail (of_pat first)) of_pat (view self.old.cursor.rest.now) result
-            (view self.new.cursor.rest.now) }
+    pub(crate) fn pattern_block(&mut self, free: u32) -> Result<Part<Pat>, Fault>
+        requires { 0 < free }
+        ensures reads { Makes free (under (Sort.Par patterns) (λ p. last (Sort.PBraceTail p))) of_pat (view self.old.cursor.rest.now)
+            result (view self.new.cursor.rest.now) }
         ensures room { IfOk result (λ p. p.height ≤ free) }
         ensures shorter { length self.new.cursor.rest.now ≤ length self.old.cursor.rest.now }
     {
-        if !skip(&mut self.cursor, Mark::Colon) {
-            return pattern_brace_close(&mut self.cursor, first);
+        let first = self.pattern_par(free - 1);
+        if !skip_after(&mut self.cursor, &first, Mark::Colon) {
+            return close_pattern_block(&mut self.cursor, first);
         }
-        let pair = paired(first, self.pattern_par(free - 1));
-        let mut pairs = first_of(self.cursor.alloc, pair);
+        let value = self.pattern_par(free - 1);
+        let mut pairs = first_pair(self.cursor.alloc, first, value);
         'each: while skip_comma_after(&mut self.cursor, &pairs) {
             let next = self.pattern_pair(free);
             pairs = then_one_more(pairs, next);

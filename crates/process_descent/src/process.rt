@@ -1,6 +1,7 @@
 //! Processes in parallel, and the forms that end in a process, a row or a block.
 ghost use Rattle.calculus.specs.Meaning.{proc_written};
-ghost use Rattle.form_steps.specs.Parts.{after_channel, form_sort};
+ghost use Rattle.form_steps.specs.Parts.{after_channel, after_key, form_sort};
+ghost use Rattle.form_steps.specs.declared.step.FormKey.TheVariants as keys;
 ghost use Rattle.grammar.specs.Grammar.{rule};
 ghost use Rattle.grammar.specs.Productions.{Prod};
 ghost use Rattle.grammar.specs.Rules.{Sort, last};
@@ -13,15 +14,16 @@ ghost use Rattle.std.specs.Prelude.{◌≡◌, ◌<◌, ◌≤◌, IfOk, MatchRe
 use crate::parser::Parser;
 use calculus::Proc;
 use form_ends::{
-    close_receive, composed, contract_head, contract_with_body, declared_names, if_with_else,
-    new_with_body, sent, skip_after, skip_separator_after, then_marks, then_one_more,
+    FormStep, begin_form, close_receive, composed, contract_head, contract_with_body, if_with_else,
+    if_without_else, new_with_body, sent, skip_after, skip_separator_after, then_marks,
+    then_one_more,
 };
 use form_parts::part::{Bracket, Part};
 use form_parts::parts;
 use form_steps::step::{FormKey, TermStep};
 use form_steps::{
-    arrow_mark, begin_keyed, begin_send, begin_term, both, bound, close_bundle, first_of,
-    leading_form, next_separator, quoted_send, skip, then_mark,
+    arrow_mark, begin_term, both, bound, close_bundle, first_of, leading_form, next_separator,
+    quoted_send, skip, then_mark,
 };
 use grammar::{Fault, Mark};
 use syntax_forms::process_forms;
@@ -69,24 +71,22 @@ impl<'a> Parser<'a> {
         ensures room { IfOk result (λ p. p.height ≤ free) }
         ensures shorter { length self.new.cursor.rest.now ≤ length self.old.cursor.rest.now }
     {
-        begin_keyed(&mut self.cursor, key, free)?;
-        match key {
-            FormKey::New => {
-                let names = declared_names(&mut self.cursor)?;
+        match begin_form(&mut self.cursor, key, free) {
+            Ok(FormStep::New(names)) => {
                 let body = self.one(free - 1);
                 new_with_body(self.cursor.alloc, names, body)
             }
-            FormKey::If => {
+            Ok(FormStep::If) => {
                 let condition = self.par(free - 1);
                 let test = then_mark(&mut self.cursor, condition, Mark::Close)?;
-                let arms = both(test, self.two(free - 1))?;
-                if !skip(&mut self.cursor, Mark::Else) {
-                    return process_forms::if_only(self.cursor.alloc, arms.0, arms.1);
+                let arms = both(test, self.two(free - 1));
+                if !skip_after(&mut self.cursor, &arms, Mark::Else) {
+                    return if_without_else(self.cursor.alloc, arms);
                 }
                 let other = self.one(free - 1);
                 if_with_else(self.cursor.alloc, arms, other)
             }
-            FormKey::Contract => {
+            Ok(FormStep::Contract) => {
                 let channel = self.name(free - 1);
                 let name = then_mark(&mut self.cursor, channel, Mark::Open)?;
                 let left = self.left(free - 1);
@@ -94,36 +94,55 @@ impl<'a> Parser<'a> {
                 let body = self.one(free - 1);
                 contract_with_body(self.cursor.alloc, head, body)
             }
-            FormKey::For => {
-                let pats = self.left(free - 1);
-                let kind = self.cursor.arrow();
-                let left = then_mark(&mut self.cursor, pats, arrow_mark(kind))?;
-                let first = bound(left, self.name(free - 1));
-                let separator = next_separator(&self.cursor);
-                let mut binds = first_of(self.cursor.alloc, first);
-                let mut more = 15;
-                'binds: while skip_separator_after(&mut self.cursor, &binds, separator, more) {
-                    let next = self.bind(kind, free);
-                    binds = then_one_more(binds, next);
-                    more -= 1;
-                }
-                let head = then_marks(&mut self.cursor, binds, Mark::Close, Mark::OpenBrace)?;
-                let body = self.par(free - 1);
-                close_receive(&mut self.cursor, kind, head, body)
-            }
-            FormKey::Match => {
-                let value = self.level(Some(Level::Or), free - 1);
-                let target = then_mark(&mut self.cursor, value, Mark::OpenBrace)?;
-                let mut cases = process_forms::no_cases(self.cursor.alloc, target.height);
-                'cases: loop {
-                    cases = match self.case(cases, free) {
-                        Ok(cases) => cases,
-                        Err(fault) => return parts::give_up(target, fault),
-                    };
-                    if skip(&mut self.cursor, Mark::CloseBrace) {
-                        return process_forms::matches(self.cursor.alloc, target.value, cases);
-                    }
-                }
+            Ok(FormStep::For) => self.receive(free),
+            Ok(FormStep::Match) => self.matching(free),
+            Err(fault) => Err(fault),
+        }
+    }
+
+    /// What follows `for` and a parenthesis: Binds ")" "{" Par "}"
+    #[cycle(parse)]
+    fn receive(&mut self, free: u32) -> Result<Part<Proc>, Fault>
+        requires { 0 < free }
+        ensures reads { Makes free (after_key keys.For) of_proc (view self.old.cursor.rest.now) result (view self.new.cursor.rest.now) }
+        ensures room { IfOk result (λ p. p.height ≤ free) }
+        ensures shorter { length self.new.cursor.rest.now ≤ length self.old.cursor.rest.now }
+    {
+        let pats = self.left(free - 1);
+        let kind = self.cursor.arrow();
+        let left = then_mark(&mut self.cursor, pats, arrow_mark(kind))?;
+        let first = bound(left, self.name(free - 1));
+        let separator = next_separator(&self.cursor);
+        let mut binds = first_of(self.cursor.alloc, first);
+        let mut more = 15;
+        'binds: while skip_separator_after(&mut self.cursor, &binds, separator, more) {
+            let next = self.bind(kind, free);
+            binds = then_one_more(binds, next);
+            more -= 1;
+        }
+        let head = then_marks(&mut self.cursor, binds, Mark::Close, Mark::OpenBrace)?;
+        let body = self.par(free - 1);
+        close_receive(&mut self.cursor, kind, head, body)
+    }
+
+    /// What follows `match`: Or "{" Case { Case } "}"
+    #[cycle(parse)]
+    fn matching(&mut self, free: u32) -> Result<Part<Proc>, Fault>
+        requires { 0 < free }
+        ensures reads { Makes free (after_key keys.Match) of_proc (view self.old.cursor.rest.now) result (view self.new.cursor.rest.now) }
+        ensures room { IfOk result (λ p. p.height ≤ free) }
+        ensures shorter { length self.new.cursor.rest.now ≤ length self.old.cursor.rest.now }
+    {
+        let value = self.level(Some(Level::Or), free - 1);
+        let target = then_mark(&mut self.cursor, value, Mark::OpenBrace)?;
+        let mut cases = process_forms::no_cases(self.cursor.alloc, target.height);
+        'cases: loop {
+            cases = match self.case(cases, free) {
+                Ok(cases) => cases,
+                Err(fault) => return parts::give_up(target, fault),
+            };
+            if skip(&mut self.cursor, Mark::CloseBrace) {
+                return process_forms::matches(self.cursor.alloc, target.value, cases);
             }
         }
     }
@@ -147,8 +166,7 @@ impl<'a> Parser<'a> {
                 let args = self.row(Bracket::Round, free - 1);
                 sent(channel, args)
             }
-            Ok(TermStep::Send) => {
-                let sending = begin_send(&mut self.cursor, free)?;
+            Ok(TermStep::Send(sending)) => {
                 let args = self.row(Bracket::Round, free - 1);
                 sent(sending, args)
             }

@@ -17,7 +17,7 @@ use Rattle.run_status.specs.declared.status.Status.{Status}
 use Rattle.run_status.specs.declared.status.Status.TheVariants as status
 use Rattle.rho_main.specs.Accepting.{InputsRefused, FetchesIn}
 use Rattle.rho_main.specs.Calls.{IsCallIn}
-use Rattle.rho_main.specs.Genesis.{IsGenesis}
+use Rattle.run_inspects.specs.Genesis.{IsGenesis}
 use Rattle.recorded_runs.specs.Workloads.{IsWorkload, WorkloadEnds}
 use Rattle.rho_main.specs.Words.{Answer, IsSaidBy}
 

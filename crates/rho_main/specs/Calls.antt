@@ -9,7 +9,7 @@ use Rattle.run_reports.specs.World.{World}
 use Rattle.run_status.specs.Endings.{OnUsage, SaysUsage}
 use Rattle.run_status.specs.declared.status.Status.{Status}
 use Rattle.recorded_runs.specs.Workloads.{IsWorkload}
-use Rattle.rho_main.specs.Genesis.{IsGenesis}
+use Rattle.run_inspects.specs.Genesis.{IsGenesis}
 use Rattle.rho_main.specs.Words.{Answer, DeployIn, GenesisIn, InspectIn, ReplayIn, WorkloadIn, IsRefusal, IsSaidBy}
 
 -- a call from one world to the next ended with this status, where the words are answered so: the words are refused exactly where the answer is no request, and with that fault, or memory is wanted, and then nothing changes; and each verb was done

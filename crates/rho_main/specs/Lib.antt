@@ -1,4 +1,3 @@
 pub mod Words
-pub mod Genesis
 pub mod Calls
 pub mod Accepting

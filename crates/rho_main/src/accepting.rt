@@ -6,11 +6,10 @@ ghost use Rattle.rho_main.specs.Calls.{IsCall};
 ghost use Rattle.rho_main.specs.Words.{Tells};
 ghost use Rattle.run_reports.specs.World.{world};
 
-use crate::genesis::genesis;
 use command_words::{Command, Run, Usage, Workload, read_command};
 use rho_outside::{Shelf, Sink};
 use run_inputs::{Inputs, ReplayInputs, accept as accept_inputs, accept_replay};
-use run_inspects::inspect;
+use run_inspects::{genesis, inspect};
 use run_status::Status;
 use std::alloc::Global;
 

@@ -2,7 +2,6 @@
 #![tactic(auto)]
 
 pub mod accepting;
-mod genesis;
 pub mod top;
 
 pub use accepting::{Accepted, accept};

@@ -4,7 +4,7 @@ ghost use Rattle.run_status.specs.Endings.{OnUsage, SaysUsage};
 ghost use Rattle.rho_main.specs.Calls.{IsCall};
 ghost use Rattle.rho_main.specs.Words.{IsRefusal, IsSaidBy, OnDeploy, OnGenesis, OnInspect, OnReplay, OnWorkload};
 ghost use Rattle.recorded_runs.specs.Deploys.{IsDeploy};
-ghost use Rattle.rho_main.specs.Genesis.{IsGenesis};
+ghost use Rattle.run_inspects.specs.Genesis.{IsGenesis};
 ghost use Rattle.run_inspects.specs.Inspects.{IsInspect};
 ghost use Rattle.recorded_runs.specs.Replays.{IsReplay};
 ghost use Rattle.run_reports.specs.World.{world};

@@ -15,7 +15,7 @@ use Rattle.calculus.proofs.FromFits.{codes_split}
 use Rattle.calculus.proofs.Ordered.{up_to_total}
 use Rattle.calculus.proofs.Prefixes.{cut}
 use Rattle.calculus.proofs.Splitting.{kids-short, length-codes}
-use Rattle.term_encoder.proofs.Codes.{length-map}
+use Rattle.calculus.proofs.ListCodes.{length-map}
 use Rattle.rho_term.specs.Parts.{bind_tree}
 use Rattle.rho_term.specs.declared.term.TermBind.{TermBind}
 use Rattle.code_faults.specs.declared.fault.ReadFault.{ReadFault}

@@ -18,7 +18,7 @@ use Rattle.rho_term.specs.declared.op.Op.TheVariants as op
 use Rattle.rho_term.specs.declared.term.TermBind.{TermBind}
 use Rattle.rho_term.specs.Parts.{bind_tree}
 use Rattle.rho_term.specs.Rows.{row_of_op}
-use Rattle.term_encoder.proofs.Codes.{code-trees}
+use Rattle.calculus.proofs.ListCodes.{code-trees}
 use Rattle.space_row.specs.Bytes.{sent_bytes}
 
 -- what rises ascends

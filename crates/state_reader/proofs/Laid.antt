@@ -11,7 +11,7 @@ use Rattle.events.specs.Events.{first_ids, stored}
 use Rattle.states.specs.States.{state_text}
 use Rattle.least_step.specs.Least.{AllowsNone, HasRows, IsLeast, NothingIsUsedUp}
 use Rattle.least_step.specs.declared.least.LeastStep.{LeastStep}
-use Rattle.term_encoder.proofs.Codes.{length-map}
+use Rattle.calculus.proofs.ListCodes.{length-map}
 use Rattle.input_faults.specs.declared.state_fault.StateFault.{StateFault}
 use Rattle.input_faults.specs.declared.state_fault.StateFault.TheVariants as fault
 use Rattle.state_reader.specs.Files.{Begins, EndsEarly, heading, IsLeastOf, IsWrongAt}

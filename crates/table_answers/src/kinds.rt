@@ -8,12 +8,10 @@ pub enum Table {
     Stores,
     Rigs,
     Hubs,
-    Runs,
-    Races,
 }
 
 /// The kinds of lines, each with its table.
-const KINDS: [(&str, Table); 49] = [
+const KINDS: [(&str, Table); 42] = [
     ("words", Table::Low),
     ("tokens", Table::Low),
     ("token-count", Table::Low),
@@ -56,21 +54,11 @@ const KINDS: [(&str, Table); 49] = [
     ("spread", Table::Hubs),
     ("one-shard", Table::Hubs),
     ("plain", Table::Hubs),
-    ("deploy", Table::Runs),
-    ("deploy-of", Table::Runs),
-    ("deploy-failing", Table::Runs),
-    ("deploy-and-replay", Table::Runs),
-    ("replay", Table::Runs),
-    ("race", Table::Races),
-    ("damage", Table::Races),
 ];
 
 impl Table {
-    /// The table that has a kind of lines. What begins a call are names with `+` between them.
+    /// The table that has a kind of lines.
     pub fn with(word: &str) -> Option<Table> {
-        if word.contains('+') {
-            return Some(Table::Runs);
-        }
         for (kind, table) in &KINDS {
             if *kind == word {
                 return Some(*table);

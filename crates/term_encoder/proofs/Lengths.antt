@@ -9,7 +9,7 @@ use Rattle.calculus.specs.Code.{head, text, code, codes}
 use Rattle.calculus.proofs.Tails.{length-be32, length-be64}
 use Rattle.calculus.proofs.Formed.{length-code}
 use Rattle.term_encoder.specs.Sizes.{head_size, size, sizes}
-use Rattle.term_encoder.proofs.Codes.{length-map}
+use Rattle.calculus.proofs.ListCodes.{length-map}
 
 length-text : (s : List ℕ) → length (text s) ≡ 4 + length s
 length-text s = omega (arith, length-append (be32 (length s)) s, length-be32 (length s))

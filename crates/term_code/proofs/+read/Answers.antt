@@ -8,7 +8,7 @@ use Rattle.rho_term.specs.Normal.{IsOrdered}
 use Rattle.rho_term.proofs.Trees.{map-same}
 use Rattle.rho_term.specs.Parts.{part_tree, pat_part_tree, pat_tree, pair_tree, bind_tree, case_tree}
 use Rattle.code_faults.specs.Scopes.{scope_of, senses_of}
-use Rattle.term_encoder.proofs.Codes.{length-map}
+use Rattle.calculus.proofs.ListCodes.{length-map}
 use Rattle.code_faults.proofs.Rows.{row-done, row-done_trees}
 use Rattle.code_faults.proofs.Bags.{bag-done, bag-done_trees, process-done}
 use Rattle.code_faults.proofs.Forms.{reads-at, tuple-form, tuple_pattern-form, receive-form, new-form, match-form}

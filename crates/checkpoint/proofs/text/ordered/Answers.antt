@@ -6,7 +6,7 @@ use Rattle.std.specs.declared.alloc.Global.{Global}
 use Rattle.std.specs.declared.vec.Vec.{Vec}
 use Rattle.calculus.proofs.Permutations.{each-moved}
 use Rattle.states.proofs.Groups.{sorted-moved}
-use Rattle.term_encoder.proofs.Codes.{sorted-ascending}
+use Rattle.calculus.proofs.ListCodes.{sorted-ascending}
 use Rattle.checkpoint.proofs.Sorting.{low, ascending}
 use Rattle.checkpoint.proofs.text.ordered.Goals as goal
 

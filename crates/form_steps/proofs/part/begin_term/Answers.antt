@@ -22,5 +22,11 @@ returns-in_err-opens-clause-reads c = let x0 : sees For (view c.args.cursor.now.
 pub returns-then-sees-3-clause-reads : goal.returns-then-sees-3-clause-reads
 returns-then-sees-3-clause-reads c = let x0 : sees For (view c.args.cursor.now.rest.now) ≡ false = sym c.sees.ensures ∙ c.if-sees.false in let x1 : sees Match (view c.args.cursor.now.rest.now) ≡ false = sym c.sees-2.ensures ∙ c.if-sees-2.false in let b : sees_bundle (view c.args.cursor.now.rest.now) ≡ false = sym c.sees_bundle.ensures ∙ c.if-sees_bundle.false in let a : sees At (view c.args.cursor.now.rest.now) ≡ true = sym c.sees-3.ensures ∙ c.if-sees-3.true in λ out h. rw (x0, x1, b, a) (runs_opens c.in_ok-opens.ensures.reads h)
 
+pub returns-in_err-sending-clause-reads : goal.returns-in_err-sending-clause-reads
+returns-in_err-sending-clause-reads c = let x0 : sees For (view c.args.cursor.now.rest.now) ≡ false = sym c.sees.ensures ∙ c.if-sees.false in let x1 : sees Match (view c.args.cursor.now.rest.now) ≡ false = sym c.sees-2.ensures ∙ c.if-sees-2.false in let b : sees_bundle (view c.args.cursor.now.rest.now) ≡ false = sym c.sees_bundle.ensures ∙ c.if-sees_bundle.false in let a : sees At (view c.args.cursor.now.rest.now) ≡ false = sym c.sees-3.ensures ∙ c.if-sees-3.false in let s : sees_send (view c.args.cursor.now.rest.now) ≡ true = sym c.sees_send.ensures ∙ c.if-sees_send.true in let n : sees_text a_fresh_name (view c.args.cursor.now.rest.now) ≡ false = no_fresh c.args.cursor.now.rest.now in leave after_term_step _ _ c.from_residual-in_err-sending.ensures.1 (rw (x0, x1, b, a, n, s) c.in_err-sending.ensures.reads)
+
+pub returns-then-sees_send-clause-reads : goal.returns-then-sees_send-clause-reads
+returns-then-sees_send-clause-reads c = let x0 : sees For (view c.args.cursor.now.rest.now) ≡ false = sym c.sees.ensures ∙ c.if-sees.false in let x1 : sees Match (view c.args.cursor.now.rest.now) ≡ false = sym c.sees-2.ensures ∙ c.if-sees-2.false in let b : sees_bundle (view c.args.cursor.now.rest.now) ≡ false = sym c.sees_bundle.ensures ∙ c.if-sees_bundle.false in let a : sees At (view c.args.cursor.now.rest.now) ≡ false = sym c.sees-3.ensures ∙ c.if-sees-3.false in let s : sees_send (view c.args.cursor.now.rest.now) ≡ true = sym c.sees_send.ensures ∙ c.if-sees_send.true in let n : sees_text a_fresh_name (view c.args.cursor.now.rest.now) ≡ false = no_fresh c.args.cursor.now.rest.now in λ out h. rw (x0, x1, b, a, n, s) (c.in_ok-sending.ensures.reads out h)
+
 pub returns-clause-reads : goal.returns-clause-reads
 returns-clause-reads c = let x0 : sees For (view c.args.cursor.now.rest.now) ≡ false = sym c.sees.ensures ∙ c.if-sees.false in let x1 : sees Match (view c.args.cursor.now.rest.now) ≡ false = sym c.sees-2.ensures ∙ c.if-sees-2.false in let b : sees_bundle (view c.args.cursor.now.rest.now) ≡ false = sym c.sees_bundle.ensures ∙ c.if-sees_bundle.false in let a : sees At (view c.args.cursor.now.rest.now) ≡ false = sym c.sees-3.ensures ∙ c.if-sees-3.false in let s : sees_send (view c.args.cursor.now.rest.now) ≡ false = sym c.sees_send.ensures ∙ c.if-sees_send.false in let n : sees_text a_fresh_name (view c.args.cursor.now.rest.now) ≡ false = no_fresh c.args.cursor.now.rest.now in λ out h. rw (x0, x1, b, a, n, s) h

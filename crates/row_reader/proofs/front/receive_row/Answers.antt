@@ -1,7 +1,7 @@
 use Rattle.std.proofs.Common.{map, sym, subst}
 use Rattle.calculus.specs.Order.{IsAscending}
 use Rattle.rho_term.specs.Parts.{bind_tree}
-use Rattle.term_encoder.proofs.Codes.{length-map}
+use Rattle.calculus.proofs.ListCodes.{length-map}
 use Rattle.code_faults.proofs.Exit.{exit}
 use Rattle.row_reader.proofs.Joins.{cut-where, cut-here, cut-on, join-codes}
 use Rattle.row_reader.proofs.JoinRows.{id-refused, kind-refused, binds-refused, body-refused, id-cut, kind-cut, binds-cut, body-cut, receive-read}

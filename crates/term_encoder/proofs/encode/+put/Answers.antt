@@ -5,7 +5,7 @@ use Rattle.calculus.specs.Tree.{weight, weights, trees, row, list, tuple, set, d
 use Rattle.rho_term.specs.Parts.{part_tree, pat_part_tree, pair_tree, bind_tree, case_tree}
 use Rattle.rho_term.specs.Normal.{IsNormal, IsOrdered}
 use Rattle.rho_term.proofs.Trees.{weight-at, tree-at, ordered-at}
-use Rattle.term_encoder.proofs.Codes.{code-many, code-bag, code-trees, code-bag_trees}
+use Rattle.calculus.proofs.ListCodes.{code-many, code-bag, code-trees, code-bag_trees}
 use Rattle.term_encoder.proofs.encode.+put.Goals as goal
 
 pub put_term-put_part-requires : goal.put_term-put_part-requires

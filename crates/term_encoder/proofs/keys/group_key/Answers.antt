@@ -1,7 +1,7 @@
 use Rattle.std.proofs.Common.{arith, map}
 use Rattle.std.proofs.lemmas.Grind.{common_steps}
 use Rattle.calculus.specs.Code.{code}
-use Rattle.term_encoder.proofs.Codes.{sorted-ascending, length-map}
+use Rattle.calculus.proofs.ListCodes.{sorted-ascending, length-map}
 use Rattle.term_encoder.proofs.keys.group_key.Goals as goal
 
 pub returns : goal.returns

@@ -4,12 +4,13 @@ use Rattle.calculus.specs.declared.process.NamePat.{NamePat}
 use Rattle.calculus.specs.declared.process.Pat.{Pat}
 use Rattle.calculus.specs.declared.process.Proc.{Proc}
 use Rattle.form_ends.specs.Chains.{joint_sort, joint_tail, joints_below}
-use Rattle.form_steps.specs.Parts.{form_sort}
+use Rattle.form_steps.specs.Parts.{after_key}
+use Rattle.form_steps.specs.declared.step.FormKey.TheVariants.{For, Match}
 use Rattle.grammar.specs.Choice.{choose}
 use Rattle.grammar.specs.Descent.{Outcome, Runs}
 use Rattle.grammar.specs.Grammar.{rule}
 use Rattle.grammar.specs.Productions.{Prod}
-use Rattle.grammar.specs.Rules.{Sort, last}
+use Rattle.grammar.specs.Rules.{Sort, last, under}
 use Rattle.grammar.specs.Values.{patterns, processes}
 use Rattle.grammar.specs.declared.dialect.Dialect.TheVariants.{Tutorial}
 use Rattle.form_parts.specs.declared.part.Part.{Part}
@@ -25,7 +26,7 @@ abbrev pub decreases-bind : goal.decreases-bind
 decreases-bind l = 128 * length l.self.now.cursor.rest.now + 100
 
 abbrev pub decreases-block : goal.decreases-block
-decreases-block l = 128 * length l.self.now.cursor.rest.now + 2
+decreases-block l = 128 * length l.self.now.cursor.rest.now + 41
 
 abbrev pub decreases-block-each : goal.decreases-block-each
 decreases-block-each l = length l.self.cursor.rest.now
@@ -36,14 +37,20 @@ decreases-case l = 128 * length l.self.now.cursor.rest.now + 120
 abbrev pub decreases-drop_form : goal.decreases-drop_form
 decreases-drop_form l = 128 * length l.self.now.cursor.rest.now + 19
 
+abbrev pub decreases-receive : goal.decreases-receive
+decreases-receive l = 128 * length l.self.now.cursor.rest.now + 121
+
+abbrev pub decreases-matching : goal.decreases-matching
+decreases-matching l = 128 * length l.self.now.cursor.rest.now + 121
+
 abbrev pub decreases-form : goal.decreases-form
 decreases-form l = 128 * length l.self.now.cursor.rest.now + 35
 
-abbrev pub decreases-form-binds : goal.decreases-form-binds
-decreases-form-binds l = length l.self.cursor.rest.now
+abbrev pub decreases-receive-binds : goal.decreases-receive-binds
+decreases-receive-binds l = length l.self.cursor.rest.now
 
-abbrev pub decreases-form-cases : goal.decreases-form-cases
-decreases-form-cases l = length l.self.cursor.rest.now
+abbrev pub decreases-matching-cases : goal.decreases-matching-cases
+decreases-matching-cases l = length l.self.cursor.rest.now
 
 abbrev pub decreases-left : goal.decreases-left
 decreases-left l = 128 * length l.self.now.cursor.rest.now + 95
@@ -134,7 +141,7 @@ decreases-two l = 128 * length l.self.now.cursor.rest.now + 36
 
 abbrev pub invariant-block-each : goal.invariant-block-each
 invariant-block-each l = record {
-  turns : Turns l.free (rule Tutorial (choose (Sort.BraceTail (of_proc l.fn.inner)) (view l.fn.self.cursor.rest.now))) (λ (q : Part (Vec (Proc × Proc) Global)). last (Sort.Pairs (pairs_written q.value.items) q.height)) (view l.fn.self.cursor.rest.now) l.pairs (view l.self.cursor.rest.now);
+  turns : Turns l.free (under (Sort.Par processes) (λ p. last (Sort.BraceTail p))) (λ (q : Part (Vec (Proc × Proc) Global)). last (Sort.Pairs (pairs_written q.value.items) q.height)) (view l.fn.self.cursor.rest.now) l.pairs (view l.self.cursor.rest.now);
   room : IfOk l.pairs (λ q. q.height ≤ l.free - 1);
   shorter : length l.self.cursor.rest.now < length l.fn.self.cursor.rest.now;
 }
@@ -153,18 +160,18 @@ invariant-level-operators l = record {
   shorter : length l.self.cursor.rest.now ≤ length l.fn.self.cursor.rest.now;
 }
 
-abbrev pub invariant-form-binds : goal.invariant-form-binds
-invariant-form-binds l = record {
-  turns : Turns l.free (rule Tutorial (choose (form_sort l.fn.key) (view l.fn.self.cursor.rest.now))) (λ (q : Part (Vec Bind Global)). last (Sort.BindsTail l.kind (separator_of l.separator) l.more (map bind_written q.value.items) q.height)) (view l.fn.self.cursor.rest.now) l.binds (view l.self.cursor.rest.now);
+abbrev pub invariant-receive-binds : goal.invariant-receive-binds
+invariant-receive-binds l = record {
+  turns : Turns l.free (after_key For) (λ (q : Part (Vec Bind Global)). last (Sort.BindsTail l.kind (separator_of l.separator) l.more (map bind_written q.value.items) q.height)) (view l.fn.self.cursor.rest.now) l.binds (view l.self.cursor.rest.now);
   room : IfOk l.binds (λ q. q.height ≤ l.free - 1);
-  shorter : length l.self.cursor.rest.now < length l.fn.self.cursor.rest.now;
+  shorter : length l.self.cursor.rest.now ≤ length l.fn.self.cursor.rest.now;
 }
 
-abbrev pub invariant-form-cases : goal.invariant-form-cases
-invariant-form-cases l = record {
-  turns : (out : Outcome) → Runs Tutorial l.free (rule Tutorial (Prod.case (of_proc l.target) (map case_written l.cases.value.items) l.cases.height)) (view l.self.cursor.rest.now) out → Runs Tutorial l.free (rule Tutorial (choose (form_sort l.fn.key) (view l.fn.self.cursor.rest.now))) (view l.fn.self.cursor.rest.now) out;
+abbrev pub invariant-matching-cases : goal.invariant-matching-cases
+invariant-matching-cases l = record {
+  turns : (out : Outcome) → Runs Tutorial l.free (rule Tutorial (Prod.case (of_proc l.target) (map case_written l.cases.value.items) l.cases.height)) (view l.self.cursor.rest.now) out → Runs Tutorial l.free (after_key Match) (view l.fn.self.cursor.rest.now) out;
   room : l.cases.height < l.free;
-  shorter : length l.self.cursor.rest.now < length l.fn.self.cursor.rest.now;
+  shorter : length l.self.cursor.rest.now ≤ length l.fn.self.cursor.rest.now;
 }
 
 abbrev pub invariant-meth-calls : goal.invariant-meth-calls
@@ -183,7 +190,7 @@ invariant-par-each l = record {
 
 abbrev pub invariant-pattern_block-each : goal.invariant-pattern_block-each
 invariant-pattern_block-each l = record {
-  turns : Turns l.free (rule Tutorial (choose (Sort.PBraceTail (of_pat l.fn.first)) (view l.fn.self.cursor.rest.now))) (λ (q : Part (Vec (Pat × Pat) Global)). last (Sort.PPairs (pat_pairs_written q.value.items) q.height)) (view l.fn.self.cursor.rest.now) l.pairs (view l.self.cursor.rest.now);
+  turns : Turns l.free (under (Sort.Par patterns) (λ p. last (Sort.PBraceTail p))) (λ (q : Part (Vec (Pat × Pat) Global)). last (Sort.PPairs (pat_pairs_written q.value.items) q.height)) (view l.fn.self.cursor.rest.now) l.pairs (view l.self.cursor.rest.now);
   room : IfOk l.pairs (λ q. q.height ≤ l.free - 1);
   shorter : length l.self.cursor.rest.now < length l.fn.self.cursor.rest.now;
 }

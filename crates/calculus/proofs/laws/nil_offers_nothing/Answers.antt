@@ -1,5 +1,0 @@
-use Rattle.calculus.proofs.laws.nil_offers_nothing.Goals as goal
-use Rattle.calculus.proofs.Least.{nil_offers_nothing}
-
-pub returns : goal.returns
-returns c = record { law = nil_offers_nothing }

@@ -1,5 +1,0 @@
-use Rattle.calculus.proofs.laws.variable_matches_once.Goals as goal
-use Rattle.calculus.proofs.Least.{variable_matches_once}
-
-pub returns : goal.returns
-returns c = record { law = variable_matches_once }

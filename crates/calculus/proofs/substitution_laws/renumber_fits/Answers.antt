@@ -1,5 +1,0 @@
-use Rattle.calculus.proofs.substitution_laws.renumber_fits.Goals as goal
-use Rattle.calculus.proofs.Closing.{renumber_fits}
-
-pub returns : goal.returns
-returns c = record { law = renumber_fits }

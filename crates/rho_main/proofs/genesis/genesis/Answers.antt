@@ -1,6 +1,0 @@
-use Rattle.rho_main.proofs.genesis.genesis.Goals as goal
-
-pub returns : goal.returns
-returns g c =
-    let d = c.genesis_made.ensures in
-    record { ends = d.ends; all = d.all; part = d.part; write_fault = d.write_fault; complete = d.complete }
