@@ -1,8 +1,8 @@
--- Names as lists, and the table of their places.
+-- Names as lists, and the map of their places.
 use Rattle.std.proofs.Common.{◌≡◌, ℕ, ◌+◌, ◌-◌, ◌<◌, ◌≤◌, ◌^◌, List, [], ◌∷◌, ◌++◌, length, map, reverse, ap, sym, ◌∙◌, drop, length-drop, arith, refl, subst, true, false, rules}
 use Rattle.std.specs.Prelude.{Some, cond, String, unwrap_or}
 use Rattle.std.specs.Str.{bytes_eq}
-use Rattle.std.specs.HashMap.{HashMap, get_by_text}
+use Rattle.std.specs.BTreeMap.{BTreeMap, get_by_text}
 use Rattle.std.specs.declared.alloc.Global.{Global}
 use Rattle.std.proofs.lemmas.List.{map-append, reverse-append, length-reverse, length-map, length-append, drop-drop}
 use Rattle.calculus.specs.Bare.{index}
@@ -39,7 +39,7 @@ place-other x y v e =
     let m : length (y ∷ v) - (index x v + 1) ≡ length v - index x v = omega arith in
     ap (λ b. length (y ∷ v) - cond b 0 (index x v + 1)) e ∙ m
 
--- what the table has is no more than the number of names, and what is left is the index
+-- what the map has is no more than the number of names, and what is left is the index
 pub place-most : (x : List ℕ) (v : List (List ℕ)) → place x v ≤ length v
 place-most x v = omega arith
 
@@ -54,7 +54,7 @@ turned-true x y h =
 pub turned-false : (x y : List ℕ) → bytes_eq y x ≡ false → bytes_eq x y ≡ false
 turned-false x y h = elim (bytes_eq x y) as (λ b. bytes_eq x y ≡ b → b ≡ false) [ true ↦ λ g. sym (turned-true y x g) ∙ h | false ↦ λ g. refl ] refl
 
-pub put-last : {S : Type 0} (bs : List Bound) (b : Bound) (m : HashMap (String Global) ℕ S) → IsIndexed bs m → (x : List ℕ) → unwrap_or (cond (bytes_eq (bytes_of b) x) (Some (length bs + 1)) (get_by_text m x)) 0 ≡ place x (bytes_of b ∷ names_of bs)
+pub put-last : (bs : List Bound) (b : Bound) (m : BTreeMap (String Global) ℕ) → IsIndexed bs m → (x : List ℕ) → unwrap_or (cond (bytes_eq (bytes_of b) x) (Some (length bs + 1)) (get_by_text m x)) 0 ≡ place x (bytes_of b ∷ names_of bs)
 put-last bs b m h x =
     let y = bytes_of b in
     let v = names_of bs in
@@ -64,14 +64,14 @@ put-last bs b m h x =
     ] refl
 
 -- one more name
-pub put-indexed : {S : Type 0} (bs : List Bound) (b : Bound) (m n : HashMap (String Global) ℕ S) → IsIndexed bs m → length bs + 1 < 2 ^ 32 → b.before ≡ unwrap_or (get_by_text m (bytes_of b)) 0 → ((x : List ℕ) → get_by_text n x ≡ cond (bytes_eq (bytes_of b) x) (Some (length bs + 1)) (get_by_text m x)) → IsIndexed (bs ++ b ∷ []) n
+pub put-indexed : (bs : List Bound) (b : Bound) (m n : BTreeMap (String Global) ℕ) → IsIndexed bs m → length bs + 1 < 2 ^ 32 → b.before ≡ unwrap_or (get_by_text m (bytes_of b)) 0 → ((x : List ℕ) → get_by_text n x ≡ cond (bytes_eq (bytes_of b) x) (Some (length bs + 1)) (get_by_text m x)) → IsIndexed (bs ++ b ∷ []) n
 put-indexed bs b m n h few e u = record {
   few = rw (length-append bs (b ∷ [])) few;
   last = λ x. ap (λ o. unwrap_or o 0) (u x) ∙ put-last bs b m h x ∙ ap (place x) (sym (names-snoc bs b));
   chained = subst AreChained (sym (last-first bs b)) (e ∙ h.last (bytes_of b), h.chained);
 }
 
-pub leave-last : {S : Type 0} (bs : List Bound) (b : Bound) (m : HashMap (String Global) ℕ S) → IsIndexed (bs ++ b ∷ []) m → b.before ≡ place (bytes_of b) (names_of bs) → (x : List ℕ) → unwrap_or (cond (bytes_eq (bytes_of b) x) (Some b.before) (get_by_text m x)) 0 ≡ place x (names_of bs)
+pub leave-last : (bs : List Bound) (b : Bound) (m : BTreeMap (String Global) ℕ) → IsIndexed (bs ++ b ∷ []) m → b.before ≡ place (bytes_of b) (names_of bs) → (x : List ℕ) → unwrap_or (cond (bytes_eq (bytes_of b) x) (Some b.before) (get_by_text m x)) 0 ≡ place x (names_of bs)
 leave-last bs b m h e x =
     let y = bytes_of b in
     let v = names_of bs in
@@ -81,7 +81,7 @@ leave-last bs b m h e x =
     ] refl
 
 -- one name less
-pub leave-indexed : {S : Type 0} (bs : List Bound) (b : Bound) (m n : HashMap (String Global) ℕ S) → IsIndexed (bs ++ b ∷ []) m → ((x : List ℕ) → get_by_text n x ≡ cond (bytes_eq (bytes_of b) x) (Some b.before) (get_by_text m x)) → IsIndexed bs n
+pub leave-indexed : (bs : List Bound) (b : Bound) (m n : BTreeMap (String Global) ℕ) → IsIndexed (bs ++ b ∷ []) m → ((x : List ℕ) → get_by_text n x ≡ cond (bytes_eq (bytes_of b) x) (Some b.before) (get_by_text m x)) → IsIndexed bs n
 leave-indexed bs b m n h u =
     let both = subst AreChained (last-first bs b) h.chained in
     record {
@@ -90,8 +90,8 @@ leave-indexed bs b m n h u =
       chained = both.1;
     }
 
--- the name that goes is in the table
-pub last-there : {S : Type 0} (bs : List Bound) (b : Bound) (m : HashMap (String Global) ℕ S) → IsIndexed (bs ++ b ∷ []) m → 0 < unwrap_or (get_by_text m (bytes_of b)) 0
+-- the name that goes is in the map
+pub last-there : (bs : List Bound) (b : Bound) (m : BTreeMap (String Global) ℕ) → IsIndexed (bs ++ b ∷ []) m → 0 < unwrap_or (get_by_text m (bytes_of b)) 0
 last-there bs b m h =
     let t : bytes_eq (bytes_of b) (bytes_of b) ≡ true = search rules in
     let e = h.last (bytes_of b) ∙ ap (place (bytes_of b)) (names-snoc bs b) ∙ place-same (bytes_of b) (bytes_of b) (names_of bs) t in

@@ -1,6 +1,6 @@
 -- Where names stand among those in scope.
 use Rattle.std.specs.Prelude.{◌≡◌, ℕ, ◌-◌, ◌<◌, ◌^◌, List, [], ◌∷◌, ⊤, map as each, reverse, length, string_bytes, String, unwrap_or}
-use Rattle.std.specs.HashMap.{HashMap, get_by_text}
+use Rattle.std.specs.BTreeMap.{BTreeMap, get_by_text}
 use Rattle.std.specs.declared.alloc.Global.{Global}
 use Rattle.calculus.specs.Bare.{index}
 use Rattle.bound_names.specs.declared.names.Bound.{Bound}
@@ -22,8 +22,8 @@ abbrev pub AreChained : List Bound → Type 0
 AreChained [] = ⊤
 AreChained (b ∷ bs) = (b.before ≡ place (bytes_of b) (each bytes_of bs)) × AreChained bs
 
--- the table has the place of the last name of each text
-pub record IsIndexed {S : Type 0} (bs : List Bound) (m : HashMap (String Global) ℕ S) : Type 0 where
+-- the map has the place of the last name of each text
+pub record IsIndexed (bs : List Bound) (m : BTreeMap (String Global) ℕ) : Type 0 where
   pub few : length bs < 2 ^ 32
   pub last : (x : List ℕ) → unwrap_or (get_by_text m x) 0 ≡ place x (names_of bs)
   pub chained : AreChained (reverse bs)

@@ -2,7 +2,7 @@ ghost use Rattle.std.specs.Prelude.{◌≡◌, ◌≤◌, ◌<◌, ◌-◌, ◌+
 ghost use Rattle.calculus.specs.Bare.{index};
 
 use std::alloc::{AllocError, Global};
-use std::collections::HashMap;
+use std::collections::BTreeMap;
 use std::marker::Model;
 
 // A name, and the place of the last equal one before it, counted from 1; 0 where there is none.
@@ -14,12 +14,13 @@ struct Bound {
 
 /// Names in scope, seen as their bytes, the last one bound first. There are fewer than 2^32.
 ///
-/// An index is found by one look-up in a table, so its cost doesn't grow with the number of names.
+/// An index is found by one look-up in an ordered map, so its cost grows with the logarithm of the number of
+/// names, whatever they are.
 #[derive(Drop)]
 pub struct Names {
     bound: Vec<Bound>,
     // The place of the last of equal names, counted from 1; 0 where none is in scope.
-    last: HashMap<String, u32>,
+    last: BTreeMap<String, u32>,
 }
 
 impl Model for Names {
@@ -44,7 +45,7 @@ impl Names {
     {
         Names {
             bound: Vec::new(alloc),
-            last: HashMap::new(alloc),
+            last: BTreeMap::new(alloc),
         }
     }
 

@@ -1,4 +1,4 @@
-ghost use Rattle.std.specs.Prelude.{◌≡◌, ◌++◌, map, IfOk, OnOk};
+ghost use Rattle.std.specs.Prelude.{◌≡◌, ◌<◌, ◌-◌, ◌++◌, map, IfOk, OnOk};
 ghost use Rattle.calculus.specs.Bytes.{be64, joined};
 ghost use Rattle.calculus.specs.Order.{sorted};
 ghost use Rattle.calculus.specs.Root.{root};
@@ -11,17 +11,18 @@ ghost use Rattle.checkpoint.specs.Texts.{head_with, text_with};
 use crate::checkpoint::Checkpoint;
 use crate::groups::{codes_of_rows, counted_tree};
 use crate::marks::marks_of;
-use calculus::Digest;
+use calculus::{Digest, Steps};
 use radix_root::{RadixTree, slices_of};
 use space_row::{Row, row_code};
 use std::alloc::{AllocError, Global};
+use std::marker::Brand;
+use std::sync::ledger::{Blank, Ledger};
 
-/// A state that was made: its root, its text, and how many digests of groups and of nodes above them the root took.
+/// A state that was made: its root and its text.
 #[derive(Drop)]
 pub struct MadeState {
     pub root: Digest,
     pub text: Vec<u8>,
-    pub made: u64,
 }
 
 /// The version of a state's text, after its name.
@@ -80,47 +81,71 @@ pub fn state_of(alloc: Global, rows: Vec<Row>) -> Result<(Digest, Vec<u8>), Allo
     ensures root { IfOk result (λ p. p.0.0 ≡ root rows.items) }
     ensures text { IfOk result (λ p. p.1.items ≡ state_text rows.items) }
 {
-    let MadeState { root, text, .. } = made_state(alloc, rows)?;
+    let MadeState { root, text } = state_in::<Brand>(alloc, rows, Blank::new(1))?;
     Ok((root, text))
 }
 
-/// The same, with the number of digests that were made, at most 65 for each group of these rows.
-pub fn made_state(alloc: Global, rows: Vec<Row>) -> Result<MadeState, AllocError>
+// The same. Its steps are counted in this ledger.
+fn state_in<L: Ledger>(alloc: Global, rows: Vec<Row>, blank: Blank) -> Result<MadeState, AllocError>
+    requires name { blank.name ≡ L.name }
+    requires parts { blank.parts ≡ L.parts }
+    requires some { 0 < L.parts }
     ensures root { IfOk result (λ s. s.root.0 ≡ root rows.items) }
     ensures text { IfOk result (λ s. s.text.items ≡ state_text rows.items) }
-    ensures made { IfOk result (λ s. AreMade no_codes (groups_of rows.items) s.made) }
+{
+    let mut steps = Steps::<L>::new(blank);
+    let state = made_state(alloc, rows, &mut steps)?;
+    Ok(state)
+}
+
+/// The same. Each digest of a group or of a node above them is one more step, and at most 65 are made for each group of
+/// these rows.
+pub fn made_state<L: Ledger>(
+    alloc: Global,
+    rows: Vec<Row>,
+    steps: &mut Steps<L>,
+) -> Result<MadeState, AllocError>
+    ensures root { IfOk result (λ s. s.root.0 ≡ root rows.items) }
+    ensures text { IfOk result (λ s. s.text.items ≡ state_text rows.items) }
+    ensures made { OnOk result (AreMade no_codes (groups_of rows.items) (steps.new - steps.old)) }
 {
     let codes = codes_of_rows(alloc, rows.as_slice())?;
-    let (root, made) = root_with(alloc, rows, codes.as_slice())?;
+    let root = root_with(alloc, rows, codes.as_slice(), steps)?;
     let ascending = ordered(codes)?;
     let text = text_of_codes(alloc, &root, ascending)?;
-    Ok(MadeState { root, text, made })
+    Ok(MadeState { root, text })
 }
 
-// The root of these rows, which have these codes, and how many digests it took. The rows are let go.
-fn root_with(alloc: Global, rows: Vec<Row>, codes: &[Vec<u8>]) -> Result<(Digest, u64), AllocError>
+// The root of these rows, which have these codes. The rows are let go.
+fn root_with<L: Ledger>(
+    alloc: Global,
+    rows: Vec<Row>,
+    codes: &[Vec<u8>],
+    steps: &mut Steps<L>,
+) -> Result<Digest, AllocError>
     requires { map (λ c. c.items) codes.now ≡ map code_of_row rows.items }
-    ensures root { IfOk result (λ p. p.0.0 ≡ root rows.items) }
-    ensures made { IfOk result (λ p. AreMade no_codes (groups_of rows.items) p.1) }
+    ensures root { IfOk result (λ d. d.0 ≡ root rows.items) }
+    ensures made { OnOk result (AreMade no_codes (groups_of rows.items) (steps.new - steps.old)) }
 {
     let slices = slices_of(alloc, codes)?;
-    let (tree, made) = tree_of_codes(alloc, rows.as_slice(), slices)?;
-    Ok((tree.root(), made))
+    let tree = tree_of_codes(alloc, rows.as_slice(), slices, steps)?;
+    Ok(tree.root())
 }
 
-// The tree of the groups of these rows, which have these codes, and how many digests it took.
-fn tree_of_codes(
+// The tree of the groups of these rows, which have these codes.
+fn tree_of_codes<L: Ledger>(
     alloc: Global,
     rows: &[Row],
     codes: Vec<&[u8]>,
-) -> Result<(RadixTree, u64), AllocError>
+    steps: &mut Steps<L>,
+) -> Result<RadixTree, AllocError>
     requires { map (λ c. c.now) codes.items ≡ map code_of_row rows.now }
-    ensures tree { IfOk result (λ p. Keeps p.0 (groups_of rows.now)) }
-    ensures made { IfOk result (λ p. AreMade no_codes (groups_of rows.now) p.1) }
+    ensures tree { IfOk result (λ t. Keeps t (groups_of rows.now)) }
+    ensures made { OnOk result (AreMade no_codes (groups_of rows.now) (steps.new - steps.old)) }
 {
     let marks = marks_of(alloc, rows, codes.as_slice())?;
-    let counted = counted_tree(alloc, rows, codes, marks.as_slice())?;
-    Ok(counted)
+    let tree = counted_tree(alloc, rows, codes, marks.as_slice(), steps)?;
+    Ok(tree)
 }
 
 // These codes, ascending.

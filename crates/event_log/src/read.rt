@@ -14,21 +14,6 @@ const NAME: &[u8] = b"RHOLOG";
 /// The version of a log's text, after its name.
 const VERSION: u8 = 0x01;
 
-// The next bytes of a text of `whole` bytes, and the rest.
-fn take_field<'a>(
-    whole: usize,
-    bytes: &'a [u8],
-    len: usize,
-) -> Result<(&'a [u8], &'a [u8]), LogFault>
-    ensures { MatchResult result (λ r. field whole len bytes.now ≡ Ok (r.0.now, r.1.now)) (λ e. field whole len bytes.now ≡ Err e) }
-{
-    if len <= bytes.len() {
-        Ok(bytes.split_at(len))
-    } else {
-        Err(LogFault::Short { at: whole })
-    }
-}
-
 // The next 32 bytes.
 fn take_digest<'a>(whole: usize, bytes: &'a [u8]) -> Result<(Digest, &'a [u8]), LogFault>
     ensures { MatchResult result (λ r. field whole 32 bytes.now ≡ Ok (r.0.0, r.1.now)) (λ e. field whole 32 bytes.now ≡ Err e) }

@@ -93,9 +93,13 @@ digests ws = flat_map (λ w. each digest (work_products w)) ws
 abbrev pub built_in_names : List (List ℕ)
 built_in_names = digest_of (System 0) ∷ digest_of (System 1) ∷ []
 
+-- the ids of the built-in receivers
+abbrev pub built_in_ids : List (List ℕ)
+built_in_ids = first_ids []
+
 -- the ids of the built-in receivers, and the names of their channels
 abbrev pub built_in_digests : List (List ℕ)
-built_in_digests = first_ids [] ++ built_in_names
+built_in_digests = built_in_ids ++ built_in_names
 
 -- the digests that a deploy from the empty state makes are fresh: wherever its first steps lead, no two of these are equal: the built-in receivers' ids and their channels' names, and the ids and names made so far
 abbrev pub FreshDigests : Prices → ℕ → Tree → List ℕ → List Step → Type 0

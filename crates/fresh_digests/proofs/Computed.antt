@@ -1,7 +1,8 @@
 -- Proofs of the examples.
-use Rattle.std.proofs.Common.{◌≡◌, ℕ, ◌+◌, ◌^◌, Bool, true, false, ◌&&◌, List, [], ◌∷◌, ◌++◌, length, refl, ap, arith}
+use Rattle.std.proofs.Common.{◌≡◌, ℕ, ◌+◌, ◌^◌, Bool, true, false, ◌&&◌, ◌||◌, List, [], ◌∷◌, ◌++◌, length, refl, sym, ap, subst, ◌∙◌, arith}
 use Rattle.std.specs.Prelude.{ltb, Some, option_map}
 use Rattle.std.specs.Int.{w32, to_be_bytes}
+use Rattle.std.specs.Str.{bytes_eq}
 use Rattle.std.proofs.lemmas.Bool.{ltb-true}
 use Rattle.std.proofs.lemmas.List.Elements.{All-nil}
 use Rattle.calculus.specs.Bytes.{be32, joined}
@@ -9,13 +10,14 @@ use Rattle.calculus.specs.Form.{IsBytes, IsDigest}
 use Rattle.calculus.specs.Examples.{prices, first_path_source, first_path_digest, first_path_step}
 use Rattle.calculus.specs.Log.{Step}
 use Rattle.calculus.specs.Seeds.{digest_of, System}
-use Rattle.calculus.specs.Steps.{differ}
+use Rattle.calculus.specs.Steps.{is_one_of, differ}
 use Rattle.calculus.specs.Runs.{deploy_of, State, state_after, Leads, made_digests}
 use Rattle.calculus.proofs.Opened.{hashing}
 use Rattle.calculus.proofs.States.{anyhow, on_the_way}
-use Rattle.events.specs.Events.{built_in_digests, FreshDigests}
+use Rattle.events.specs.Events.{built_in_ids, built_in_digests, FreshDigests}
+use Rattle.events.proofs.Counts.{bytes_same}
 use Rattle.fresh_digests.specs.HashedTexts.{texts_in}
-use Rattle.fresh_digests.specs.Premises.{FitsInTexts}
+use Rattle.fresh_digests.specs.Premises.{FitsInTexts, Shares}
 use Rattle.fresh_digests.specs.Examples.{FreshExamples, HashedExamples, NumberExamples, NumbersNeedRoom}
 use Rattle.fresh_digests.proofs.Octets.{no-bytes, one-more-byte}
 use Rattle.fresh_digests.proofs.Numbering.{few-numberable}
@@ -66,6 +68,21 @@ pub fresh_examples : FreshExamples
 unfolding hashing
 fresh_examples = record { made = refl; differs = after; fresh = fresh; fits = fits }
 
+-- one digest that is none of these shares none with them
+not-shared : (x : List ℕ) (ys : List (List ℕ)) → is_one_of x ys ≡ false → Shares (x ∷ []) ys → ⊥
+not-shared x ys e s = no (sym (subst (λ z. is_one_of z ys ≡ true) (same (bytes_eq s.digest x) refl s.among) s.too) ∙ e)
+  where
+    same : (b : Bool) → bytes_eq s.digest x ≡ b → b || false ≡ true → s.digest ≡ x
+    same true f h = bytes_same s.digest x f
+    same false f h = cc h
+
+    no : true ≡ false → ⊥
+    no e = cc e
+
+no-id : is_one_of (digest_of (System 0)) built_in_ids ≡ false
+unfolding hashing
+no-id = refl
+
 pub hashed_examples : HashedExamples
 unfolding hashing texts_in
 hashed_examples = record {
@@ -74,6 +91,7 @@ hashed_examples = record {
   fault = refl;
   no_bytes = (refl, λ e. cc e);
   made_up = record { digest = digest_of (System 2); among = refl; too = refl };
+  named = not-shared (digest_of (System 0)) built_in_ids no-id;
 }
 
 pub number_examples : NumberExamples

@@ -15,7 +15,7 @@ use Rattle.calculus.specs.Unfolding.{digest}
 use Rattle.calculus.specs.Steps.{meeting, is_one_of, differ}
 use Rattle.calculus.specs.Runs.{deploy_of, Deploy, work_products, State, body_work, moved, step_from, steps_from, Leads, made_digests}
 use Rattle.calculus.proofs.Candidates.{and_then-inv, map-inv}
-use Rattle.events.specs.Events.{first_ids, AreFresh, built_in_names, built_in_digests, FreshDigests}
+use Rattle.events.specs.Events.{first_ids, AreFresh, built_in_names, built_in_ids, built_in_digests, FreshDigests}
 use Rattle.events.proofs.Counts.{ids, times, same_bytes, times-append, ids-append}
 use Rattle.events.proofs.Legal.{leads-rest}
 use Rattle.events.proofs.Fresh.{fewer-differ}
@@ -146,15 +146,19 @@ shared (x ∷ xs) ys = go (is_one_of x ys) refl (shared xs ys)
     go false e (inl h) = inl (e, h)
     go false e (inr s) = inr (record { digest = s.digest; among = one-later s.digest x xs s.among; too = s.too })
 
+-- the ids of the built-in receivers and what was made are fewer than with the names of their channels
+names-fewer : (a : State) (x : List ℕ) → times x (built_in_ids ++ made_digests a) ≤ times x (built_in_digests ++ made_digests a)
+names-fewer a x = omega (arith, times-append x built_in_ids (made_digests a), times-append x built_in_digests (made_digests a), times-append x built_in_ids built_in_names)
+
 pub old_digests_differ : OldDigestsDiffer
 old_digests_differ deploy ss a old h l d = go (made_digests_differ deploy ss a h l) (shared old now)
   where
     now : List (List ℕ)
-    now = built_in_digests ++ made_digests a
+    now = built_in_ids ++ made_digests a
 
-    go : (differ now ≡ true) ⊎ Collides deploy ss → Every (λ x. is_one_of x now ≡ false) old ⊎ Shares old now → (differ (old ++ now) ≡ true) ⊎ (Shares old now ⊎ Collides deploy ss)
+    go : (differ (built_in_digests ++ made_digests a) ≡ true) ⊎ Collides deploy ss → Every (λ x. is_one_of x now ≡ false) old ⊎ Shares old now → (differ (old ++ now) ≡ true) ⊎ (Shares old now ⊎ Collides deploy ss)
     go (inr c) s = inr (inr c)
-    go (inl k) (inl n) = inl (both-differ old now d k n)
+    go (inl k) (inl n) = inl (both-differ old now d (fewer-differ now (built_in_digests ++ made_digests a) (names-fewer a) k) n)
     go (inl k) (inr s) = inr (inl s)
 
 step-more : (p : Prices) (cap room : ℕ) (a b : State) (s : Step) → step_from p cap room a s ≡ Some b → (xs : List (List ℕ)) × (made_digests b ≡ made_digests a ++ xs)
@@ -178,17 +182,16 @@ first-made deploy ss xs ys e a b l k =
     let r = leads-rest deploy xs ys b a k (subst (λ (z : List Step). Leads deploy z a) e l) in
     steps-more deploy.prices deploy.limit r.0 ys b a r.1
 
--- the ids that stood before and what was made are fewer than with the names of the built-in channels
-ids-fewer : (rows : List Row) (a b : State) (zs : List (List ℕ)) → made_digests a ≡ made_digests b ++ zs → (x : List ℕ) → times x (first_ids rows ++ made_digests b) ≤ times x (ids rows ++ (built_in_digests ++ made_digests a))
+-- the ids that stood before and what was made so far are fewer than with all that was made
+ids-fewer : (rows : List Row) (a b : State) (zs : List (List ℕ)) → made_digests a ≡ made_digests b ++ zs → (x : List ℕ) → times x (first_ids rows ++ made_digests b) ≤ times x (ids rows ++ (built_in_ids ++ made_digests a))
 ids-fewer rows a b zs e x =
     omega (
       arith,
       times-append x (first_ids rows) (made_digests b),
       ap (times x) (ids-append rows (stdout ∷ stdout_ack ∷ [])),
       times-append x (ids rows) (ids (stdout ∷ stdout_ack ∷ [])),
-      times-append x (ids rows) (built_in_digests ++ made_digests a),
-      times-append x built_in_digests (made_digests a),
-      times-append x (first_ids []) built_in_names,
+      times-append x (ids rows) (built_in_ids ++ made_digests a),
+      times-append x built_in_ids (made_digests a),
       ap (times x) e,
       times-append x (made_digests b) zs,
     )
@@ -197,7 +200,7 @@ pub legal_lists_are_fresh_or_show_an_id : LegalListsAreFreshOrShowAnId
 legal_lists_are_fresh_or_show_an_id deploy ss h d l = go (old_digests_differ deploy ss l.0 (ids deploy.rows) h l.1 d)
   where
     now : List (List ℕ)
-    now = built_in_digests ++ made_digests l.0
+    now = built_in_ids ++ made_digests l.0
 
     fresh : differ (ids deploy.rows ++ now) ≡ true → AreFresh deploy ss
     fresh k xs ys e b m = let f = first-made deploy ss xs ys e l.0 b l.1 m in fewer-differ (first_ids deploy.rows ++ made_digests b) (ids deploy.rows ++ now) (ids-fewer deploy.rows l.0 b f.0 f.1) k

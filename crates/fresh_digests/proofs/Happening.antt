@@ -9,7 +9,7 @@ use Rattle.calculus.specs.Seeds.{Start, message}
 use Rattle.calculus.specs.Unfolding.{digest}
 use Rattle.calculus.specs.Steps.{is_one_of, differ, meeting}
 use Rattle.calculus.specs.Runs.{source_seed, deploy_of, Deploy, Work, work_products, State, step_from, first_state, done, verdict, IsRun, made_digests}
-use Rattle.events.specs.Events.{Core, started, Events, no_event, one_more, AreFresh, digests, built_in_digests, FreshDigests}
+use Rattle.events.specs.Events.{Core, started, Events, no_event, one_more, AreFresh, digests, built_in_ids, FreshDigests}
 use Rattle.events.specs.Laws.{Begins, Follows}
 use Rattle.events.proofs.Counts.{ids, times, one_of-times, times-one_of, times-append}
 use Rattle.events.proofs.Following.{Kept}
@@ -72,18 +72,18 @@ more-collides deploy ss us all e c = subst (Collides deploy) (sym e) (
 fewer-fit : (deploy : Deploy) (ss : List Step) (s : Step) → FitsInTexts deploy (ss ++ s ∷ []) → FitsInTexts deploy ss
 fewer-fit deploy ss s h = record { numberable = h.numberable; steps_fit = omega (arith, h.steps_fit, length-append ss (s ∷ [])); ids_fit = h.ids_fit; source_fits = h.source_fits }
 
--- a checkpoint's id is built in or made, or texts collide
+-- a checkpoint's id is a built-in receiver's or made, or texts collide
 abbrev Fails : Deploy → List Step → List Work → Type 0
-Fails deploy ss ws = Shares (ids deploy.rows) (built_in_digests ++ digests ws) ⊎ Collides deploy ss
+Fails deploy ss ws = Shares (ids deploy.rows) (built_in_ids ++ digests ws) ⊎ Collides deploy ss
 
-longer : (vs ws : List Work) (w : Work) → ws ≡ vs ++ w ∷ [] → built_in_digests ++ digests ws ≡ (built_in_digests ++ digests vs) ++ each digest (work_products w)
-longer vs ws w e = ap (λ z. built_in_digests ++ digests z) e ∙ ap (λ l. built_in_digests ++ l) (digests-more vs w) ∙ sym (append_assoc built_in_digests (digests vs) (each digest (work_products w)))
+longer : (vs ws : List Work) (w : Work) → ws ≡ vs ++ w ∷ [] → built_in_ids ++ digests ws ≡ (built_in_ids ++ digests vs) ++ each digest (work_products w)
+longer vs ws w e = ap (λ z. built_in_ids ++ digests z) e ∙ ap (λ l. built_in_ids ++ l) (digests-more vs w) ∙ sym (append_assoc built_in_ids (digests vs) (each digest (work_products w)))
 
-more-shares : (rows : List Row) (vs ws : List Work) (w : Work) → ws ≡ vs ++ w ∷ [] → Shares (ids rows) (built_in_digests ++ digests vs) → Shares (ids rows) (built_in_digests ++ digests ws)
+more-shares : (rows : List Row) (vs ws : List Work) (w : Work) → ws ≡ vs ++ w ∷ [] → Shares (ids rows) (built_in_ids ++ digests vs) → Shares (ids rows) (built_in_ids ++ digests ws)
 more-shares rows vs ws w e s = record {
   digest = s.digest;
   among = s.among;
-  too = among-more s.digest (built_in_digests ++ digests vs) (built_in_digests ++ digests ws) (omega (arith, ap (times s.digest) (longer vs ws w e), times-append s.digest (built_in_digests ++ digests vs) (each digest (work_products w)))) s.too;
+  too = among-more s.digest (built_in_ids ++ digests vs) (built_in_ids ++ digests ws) (omega (arith, ap (times s.digest) (longer vs ws w e), times-append s.digest (built_in_ids ++ digests vs) (each digest (work_products w)))) s.too;
 }
 
 module _ (deploy : Deploy) (differs : differ (ids deploy.rows) ≡ true) where
@@ -96,9 +96,9 @@ module _ (deploy : Deploy) (differs : differ (ids deploy.rows) ≡ true) where
   checked : (c : Core) → FitsInTexts deploy c.made → Kept deploy c → Fresh c ⊎ Fails deploy c.made c.works
   checked c h k = go (legal_lists_are_fresh_or_show_an_id deploy c.made h differs (k.state, k.leads))
     where
-      go : AreFresh deploy c.made ⊎ (Shares (ids deploy.rows) (built_in_digests ++ made_digests k.state) ⊎ Collides deploy c.made) → Fresh c ⊎ Fails deploy c.made c.works
+      go : AreFresh deploy c.made ⊎ (Shares (ids deploy.rows) (built_in_ids ++ made_digests k.state) ⊎ Collides deploy c.made) → Fresh c ⊎ Fails deploy c.made c.works
       go (inl f) = inl (record { kept = k; fresh = f })
-      go (inr (inl s)) = inr (inl (subst (λ ws. Shares (ids deploy.rows) (built_in_digests ++ digests ws)) k.works s))
+      go (inr (inl s)) = inr (inl (subst (λ ws. Shares (ids deploy.rows) (built_in_ids ++ digests ws)) k.works s))
       go (inr (inr x)) = inr (inr x)
 
   pub all-fresh : (w : Work) (c : Core) → Begins deploy w → Events deploy.prices deploy.limit (started deploy.rows w) c → FitsInTexts deploy c.made → Fresh c ⊎ Fails deploy c.made c.works

@@ -4,13 +4,13 @@ use Rattle.calculus.specs.declared.plain.BinaryOp.TheVariants as op
 use Rattle.calculus.specs.declared.plain.Origin.TheVariants as origins
 use Rattle.calculus.specs.Tree.{new, Tree, weight}
 use Rattle.calculus.specs.Examples.{prices, num, op_on, first_path_source, first_path_digest, first_path_step}
-use Rattle.calculus.specs.Rows.{stdout}
+use Rattle.calculus.specs.Rows.{Row, stdout}
 use Rattle.calculus.specs.Seeds.{digest_of, message, System, Start, Split, Body, Fresh, Comm}
 use Rattle.calculus.specs.Root.{root}
 use Rattle.calculus.specs.Steps.{differ}
 use Rattle.calculus.specs.Runs.{deploy_of, made_digests, state_after}
 use Rattle.sha2.specs.Sha256.{sha256}
-use Rattle.events.specs.Events.{built_in_digests, FreshDigests}
+use Rattle.events.specs.Events.{built_in_ids, built_in_digests, FreshDigests}
 use Rattle.fresh_digests.specs.Numbers.{full_codes, name_count, most_names}
 use Rattle.fresh_digests.specs.HashedTexts.{step_seed, built_in_texts, hashed_texts}
 use Rattle.fresh_digests.specs.Premises.{FitsInTexts, Shares}
@@ -43,6 +43,10 @@ abbrev pub NumbersNeedRoom : Type 0
 NumbersNeedRoom = (s : List ℕ) (xs : List (List ℕ)) (n : ℕ)
     → (message (Split s (n + 2 ^ 32)) ≡ message (Split s n)) × ((message (Fresh s (n + 2 ^ 32)) ≡ message (Fresh s n)) × (message (Comm s xs (n + 2 ^ 32)) ≡ message (Comm s xs n)))
 
+-- a row whose id is the name of the first built-in receiver's channel
+abbrev pub named_row : Row
+named_row = record { id = digest_of (System 0); part = stdout.part }
+
 -- `new c in { c!(5) | for (@x <- c) { @"out"!(x) } }` and its step
 pub record FreshExamples : Type 0 where
   -- the name c, the send and the receive under the body of the only part, and what the step's body sends
@@ -66,7 +70,9 @@ pub record HashedExamples : Type 0 where
   -- numbers that are no bytes
   pub no_bytes : OtherListsCollide
   -- a checkpoint made up to hold the id of a built-in receiver
-  pub made_up : Shares (each (λ r. r.id) (stdout ∷ [])) built_in_digests
+  pub made_up : Shares (each (λ r. r.id) (stdout ∷ [])) built_in_ids
+  -- one that holds the name of a built-in channel as a row's id shows nothing by that
+  pub named : Shares (each (λ r. r.id) (named_row ∷ [])) built_in_ids → ⊥
 
 -- how much has to be numbered
 pub record NumberExamples : Type 0 where

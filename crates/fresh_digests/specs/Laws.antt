@@ -6,7 +6,7 @@ use Rattle.calculus.specs.Outcome.{Prices}
 use Rattle.calculus.specs.Log.{Step}
 use Rattle.calculus.specs.Steps.{is_one_of, differ}
 use Rattle.calculus.specs.Runs.{deploy_of, Deploy, Work, State, Leads, IsLegal, done, verdict, IsRun, made_digests}
-use Rattle.events.specs.Events.{Core, started, Events, AreFresh, digests, built_in_digests, FreshDigests}
+use Rattle.events.specs.Events.{Core, started, Events, AreFresh, digests, built_in_ids, built_in_digests, FreshDigests}
 use Rattle.events.specs.Laws.{Begins, Follows}
 use Rattle.fresh_digests.specs.Numbers.{most_names, IsNumberable}
 use Rattle.fresh_digests.specs.HashedTexts.{hashed_texts}
@@ -23,22 +23,22 @@ MadeDigestsDiffer = (deploy : Deploy) (ss : List Step) (a : State)
     → FitsInTexts deploy ss → Leads deploy ss a
     → (differ (built_in_digests ++ made_digests a) ≡ true) ⊎ Collides deploy ss
 
--- beside any old digests that differ, those that are built in or made differ too, or one of the old ones is built in or made, or texts collide
+-- beside any old digests that differ, the ids of the built-in receivers and the digests that are made differ too, or one of the old ones is one of these, or texts collide
 abbrev pub OldDigestsDiffer : Type 0
 OldDigestsDiffer = (deploy : Deploy) (ss : List Step) (a : State) (old : List (List ℕ))
     → FitsInTexts deploy ss → Leads deploy ss a → differ old ≡ true
-    → (differ (old ++ (built_in_digests ++ made_digests a)) ≡ true) ⊎ (Shares old (built_in_digests ++ made_digests a) ⊎ Collides deploy ss)
+    → (differ (old ++ (built_in_ids ++ made_digests a)) ≡ true) ⊎ (Shares old (built_in_ids ++ made_digests a) ⊎ Collides deploy ss)
 
 -- along a legal list from the empty state the digests are fresh, or texts collide
 abbrev pub LegalListsAreFresh : Type 0
 LegalListsAreFresh = (p : Prices) (cap : ℕ) (t : Tree) (source : List ℕ) (ss : List Step)
     → FitsInTexts (deploy_of p cap [] t source) ss → IsLegal (deploy_of p cap [] t source) ss → FreshDigests p cap t source ss ⊎ Collides (deploy_of p cap [] t source) ss
 
--- along a legal list from a checkpoint of rows whose ids differ they are fresh, or a row's id is built in or made at the list's end, or texts collide
+-- along a legal list from a checkpoint of rows whose ids differ they are fresh, or a row's id is a built-in receiver's or made at the list's end, or texts collide
 abbrev pub LegalListsAreFreshOrShowAnId : Type 0
 LegalListsAreFreshOrShowAnId = (deploy : Deploy) (ss : List Step)
     → FitsInTexts deploy ss → differ (each (λ r. r.id) deploy.rows) ≡ true → (l : IsLegal deploy ss)
-    → AreFresh deploy ss ⊎ (Shares (each (λ r. r.id) deploy.rows) (built_in_digests ++ made_digests l.0) ⊎ Collides deploy ss)
+    → AreFresh deploy ss ⊎ (Shares (each (λ r. r.id) deploy.rows) (built_in_ids ++ made_digests l.0) ⊎ Collides deploy ss)
 
 -- whatever events lead to from the empty state, the digests of its steps are fresh, or texts collide
 abbrev pub EventsAreFresh : Type 0
@@ -46,11 +46,11 @@ EventsAreFresh = (p : Prices) (cap : ℕ) (t : Tree) (source : List ℕ) (w : Wo
     → Begins (deploy_of p cap [] t source) w → Events p cap (started [] w) c → FitsInTexts (deploy_of p cap [] t source) c.made
     → FreshDigests p cap t source c.made ⊎ Collides (deploy_of p cap [] t source) c.made
 
--- whatever events lead to from a checkpoint of rows whose ids differ, the digests of its steps are fresh, or a row's id is built in or made, or texts collide
+-- whatever events lead to from a checkpoint of rows whose ids differ, the digests of its steps are fresh, or a row's id is a built-in receiver's or made, or texts collide
 abbrev pub EventsAreFreshOrShowAnId : Type 0
 EventsAreFreshOrShowAnId = (deploy : Deploy) (w : Work) (c : Core)
     → Begins deploy w → Events deploy.prices deploy.limit (started deploy.rows w) c → FitsInTexts deploy c.made → differ (each (λ r. r.id) deploy.rows) ≡ true
-    → AreFresh deploy c.made ⊎ (Shares (each (λ r. r.id) deploy.rows) (built_in_digests ++ digests c.works) ⊎ Collides deploy c.made)
+    → AreFresh deploy c.made ⊎ (Shares (each (λ r. r.id) deploy.rows) (built_in_ids ++ digests c.works) ⊎ Collides deploy c.made)
 
 -- with no premise on digests: whatever events lead to from the empty state follows a legal list, which is a run once nothing is pending or the verdict is not done, or texts collide
 abbrev pub EventsAreARunOrCollide : Type 0
@@ -58,12 +58,12 @@ EventsAreARunOrCollide = (p : Prices) (cap : ℕ) (t : Tree) (source : List ℕ)
     → Begins (deploy_of p cap [] t source) w → Events p cap (started [] w) c → FitsInTexts (deploy_of p cap [] t source) c.made
     → ((f : Follows (deploy_of p cap [] t source) c) × ((c.pending ≡ []) ⊎ (verdict p cap f.state ≢ done) → IsRun (deploy_of p cap [] t source) c.made f.state)) ⊎ Collides (deploy_of p cap [] t source) c.made
 
--- from a checkpoint of rows whose ids differ it does so too, or a row's id is built in or made, or texts collide
+-- from a checkpoint of rows whose ids differ it does so too, or a row's id is a built-in receiver's or made, or texts collide
 abbrev pub EventsAreARunOrShowAnId : Type 0
 EventsAreARunOrShowAnId = (deploy : Deploy) (w : Work) (c : Core)
     → Begins deploy w → Events deploy.prices deploy.limit (started deploy.rows w) c → FitsInTexts deploy c.made → differ (each (λ r. r.id) deploy.rows) ≡ true
     → ((f : Follows deploy c) × ((c.pending ≡ []) ⊎ (verdict deploy.prices deploy.limit f.state ≢ done) → IsRun deploy c.made f.state))
-    ⊎ (Shares (each (λ r. r.id) deploy.rows) (built_in_digests ++ digests c.works) ⊎ Collides deploy c.made)
+    ⊎ (Shares (each (λ r. r.id) deploy.rows) (built_in_ids ++ digests c.works) ⊎ Collides deploy c.made)
 
 -- four bytes number the parts and names of a process whose code has at most 2^32 bytes, as every process has that is within the limits
 abbrev pub ShortProcessesAreNumberable : Type 0

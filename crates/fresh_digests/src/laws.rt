@@ -23,7 +23,8 @@ pub fn legal_lists_are_fresh()
     ensures law { LegalListsAreFresh }
 {}
 
-/// Along a legal list from a checkpoint they are fresh, or a row's id is built in or made again, or texts collide.
+/// Along a legal list from a checkpoint they are fresh, or a row's id is a built-in receiver's or made again, or texts
+/// collide.
 pub fn legal_lists_are_fresh_or_show_an_id()
     ensures law { LegalListsAreFreshOrShowAnId }
 {}
@@ -33,7 +34,8 @@ pub fn events_are_fresh()
     ensures law { EventsAreFresh }
 {}
 
-/// Whatever events lead to from a checkpoint has them, or a row's id is built in or made again, or texts collide.
+/// Whatever events lead to from a checkpoint has them, or a row's id is a built-in receiver's or made again, or texts
+/// collide.
 pub fn events_are_fresh_or_show_an_id()
     ensures law { EventsAreFreshOrShowAnId }
 {}
@@ -44,7 +46,7 @@ pub fn events_are_a_run_or_collide()
     ensures law { EventsAreARunOrCollide }
 {}
 
-/// From a checkpoint it is one too, or a row's id is built in or made again, or texts collide.
+/// From a checkpoint it is one too, or a row's id is a built-in receiver's or made again, or texts collide.
 pub fn events_are_a_run_or_show_an_id()
     ensures law { EventsAreARunOrShowAnId }
 {}

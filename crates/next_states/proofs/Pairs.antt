@@ -1,5 +1,5 @@
 -- Rows as pairs of keys and codes.
-use Rattle.std.proofs.Common.{◌≡◌, ℕ, ◌≤◌, ◌*◌, ◌+◌, Bool, true, false, cond, ◌||◌, List, [], ◌∷◌, ◌++◌, length, map as each, take, drop, min, get_or, refl, ap, sym, ◌∙◌, subst, arith, length-append, append_assoc, append-nil}
+use Rattle.std.proofs.Common.{◌≡◌, ℕ, ◌≤◌, ◌*◌, ◌+◌, ◌-◌, Bool, true, false, cond, ◌||◌, List, [], ◌∷◌, ◌++◌, length, map as each, take, drop, min, get_or, refl, ap, sym, ◌∙◌, subst, arith, length-append, append_assoc, append-nil}
 use Rattle.std.specs.Prelude.{All, IsPermutation}
 use Rattle.std.specs.Str.{bytes_eq}
 use Rattle.std.proofs.lemmas.List.Elements.{All-head, All-tail, All-cons, All-nil}
@@ -220,5 +220,5 @@ pub made-weaker : {P Q : List ℕ → Type 0} {n : ℕ} → AreFor P n → ((k :
 made-weaker h f = record { keys = h.keys; once = h.once; so = λ k m. f k (h.so k m); within = h.within }
 
 -- digests of groups and of nodes above them
-pub both-within : (gs ss ts : List Group) (nodes own made : ℕ) → ss ≡ gs → ts ≡ gs → nodes ≤ 64 * length ss → own ≤ length ts → made ≤ nodes + own → made ≤ 65 * length (each (λ g. g.key.0) gs)
-both-within gs ss ts nodes own made e f a b c = omega (arith, ap length e, ap length f, a, b, c, length-map (λ (g : Group). g.key.0) gs)
+pub both-within : (gs ss : List Group) (first now last : ℕ) → ss ≡ gs → now ≤ first + length gs → last ≤ now + 64 * length ss → last - first ≤ 65 * length (each (λ g. g.key.0) gs)
+both-within gs ss first now last e a b = omega (arith, ap length e, a, b, length-map (λ (g : Group). g.key.0) gs)

@@ -1,5 +1,5 @@
 // The groups that change from a base to the next state.
-ghost use Rattle.std.specs.Prelude.{◌≡◌, ◌≤◌, ◌⊎◌, ◌++◌, ◌∷◌, [], ℕ, List, true, length, map, All, IfOk, OnOk};
+ghost use Rattle.std.specs.Prelude.{◌≡◌, ◌≤◌, ◌⊎◌, ◌+◌, ◌++◌, ◌∷◌, [], ℕ, List, true, length, map, All, IfOk, OnOk};
 ghost use Rattle.calculus.specs.Order.{sorted};
 ghost use Rattle.calculus.specs.Steps.{differ, is_one_of};
 ghost use Rattle.radix_root.specs.Groups.{given};
@@ -7,10 +7,11 @@ ghost use Rattle.radix_root.specs.Leaves.{group_digest};
 ghost use Rattle.next_states.specs.Pairs.{Pair, IsRight};
 ghost use Rattle.next_states.specs.Walks.{Has, Holds};
 
-use calculus::Digest;
+use calculus::{Digest, Steps};
 use radix_root::{Group, slices_of};
 use std::alloc::{AllocError, Global};
 use std::collections::BTreeMap;
+use std::sync::ledger::Ledger;
 
 // The codes of groups, by their keys.
 type Groups = BTreeMap<[u8; 32], Vec<Vec<u8>>>;
@@ -60,16 +61,21 @@ impl Changed {
         }
     }
 
-    // The groups, each with the codes that are gathered of it.
-    pub(crate) fn into_groups(self, alloc: Global) -> Result<Vec<Group>, AllocError>
+    // The groups, each with the codes that are gathered of it. The digest of each is one more step.
+    pub(crate) fn into_groups<L: Ledger>(
+        self,
+        alloc: Global,
+        steps: &mut Steps<L>,
+    ) -> Result<Vec<Group>, AllocError>
         ensures right { IfOk result (λ v. (ps : List Pair) → Holds self ps → All (IsRight ps) v.items) }
         ensures each { IfOk result (λ v. (k : List ℕ) → Has self k → is_one_of k (map (λ g. g.key.0) v.items) ≡ true) }
         ensures only { IfOk result (λ v. (k : List ℕ) → is_one_of k (map (λ g. g.key.0) v.items) ≡ true → Has self k) }
         ensures once { IfOk result (λ v. differ (map (λ g. g.key.0) v.items) ≡ true) }
+        ensures counted { IfOk result (λ v. steps.new ≤ steps.old + length v.items) }
     {
         let mut groups = Vec::new(alloc);
         for (key, codes) in self.groups {
-            let group = group_of(alloc, &Digest(key), codes)?;
+            let group = group_of(alloc, &Digest(key), codes, steps)?;
             groups.push(group)?;
         }
         Ok(groups)
@@ -85,25 +91,18 @@ fn copy_of(alloc: Global, bytes: &[u8]) -> Result<Vec<u8>, AllocError>
     Ok(copy)
 }
 
-// The group of this key with these codes, in any order.
-fn group_of(alloc: Global, key: &Digest, mut codes: Vec<Vec<u8>>) -> Result<Group, AllocError>
+// The group of this key with these codes, in any order. Its digest is one more step, where it has rows.
+fn group_of<L: Ledger>(
+    alloc: Global,
+    key: &Digest,
+    mut codes: Vec<Vec<u8>>,
+    steps: &mut Steps<L>,
+) -> Result<Group, AllocError>
     ensures key { IfOk result (λ g. g.key.0 ≡ key.now.0) }
     ensures digest { IfOk result (λ g. given g.digest ≡ group_digest key.now.0 (sorted (map (λ c. c.items) codes.items))) }
+    ensures counted { steps.new ≤ steps.old + 1 }
 {
     codes.sort_by(|a, b| a.cmp(b))?;
     let slices = slices_of(alloc, codes.as_slice())?;
-    Ok(Group::of(key, slices.as_slice()))
-}
-
-// How many of these groups have rows, and so a digest.
-pub(crate) fn digests_of(groups: &[Group]) -> u64
-    ensures { result ≤ length groups.now }
-{
-    let mut made: u64 = 0;
-    for group in groups {
-        if group.digest.is_some() {
-            made = made.saturating_add(1);
-        }
-    }
-    made
+    Ok(Group::of(key, slices.as_slice(), steps))
 }

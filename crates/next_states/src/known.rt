@@ -1,5 +1,5 @@
 // A state that a run starts from, and the next one.
-ghost use Rattle.std.specs.Prelude.{◌≡◌, ◌≤◌, ◌<◌, ◌/◌, [], List, ℕ, drop, length, map, IfOk, OnOk};
+ghost use Rattle.std.specs.Prelude.{◌≡◌, ◌≤◌, ◌<◌, ◌-◌, ◌/◌, [], List, ℕ, drop, length, map, IfOk, OnOk};
 ghost use Rattle.calculus.specs.Order.{sorted};
 ghost use Rattle.calculus.specs.Root.{root};
 ghost use Rattle.calculus.specs.Rows.{row_code as code_of_row};
@@ -10,14 +10,15 @@ ghost use Rattle.states.specs.States.{state_text};
 ghost use Rattle.next_states.specs.Pairs.{Pair, groups_in, OfState};
 ghost use Rattle.next_states.specs.Walks.{Covers, Has, Holds, pair_in};
 
-use crate::changed::{Changed, digests_of};
+use crate::changed::Changed;
 use crate::walk::{Keyed, compared};
-use calculus::Digest;
+use calculus::{Digest, Steps};
 use checkpoint::{Checkpoint, MadeState, Mark, Parts, made_state, text_of_codes};
 use radix_root::RadixTree;
 use space_row::Row;
 use std::alloc::{AllocError, Global};
-use std::marker::Model;
+use std::marker::{Brand, Model};
+use std::sync::ledger::{Blank, Ledger};
 
 // How many bytes stand before the codes in the text of a state.
 const HEADER: usize = 49;
@@ -72,44 +73,77 @@ impl KnownState {
     }
 
     /// The root of these rows, which may stand in any order, and the text of the state that holds them. Want of
-    /// memory is the one error.
-    ///
-    /// At most 65 digests of groups and of nodes above them are made for each group that changed from this state to
-    /// the next; or, where that has over twice as many rows, for each of its groups.
+    /// memory is the one error. The steps are counted in a ledger of its own.
     pub fn next_state(self, alloc: Global, rows: Vec<Row>) -> Result<MadeState, AllocError>
         ensures root { IfOk result (λ s. s.root.0 ≡ root rows.items) }
         ensures text { IfOk result (λ s. s.text.items ≡ state_text rows.items) }
-        ensures made { IfOk result (λ s. OfState self (λ base.
-            length rows.items / 2 ≤ length base → AreMade (groups_of base) (groups_of rows.items) s.made)) }
-        ensures anew { IfOk result (λ s. OfState self (λ base.
-            length base < length rows.items / 2 → AreMade no_codes (groups_of rows.items) s.made)) }
+    {
+        let state = next_in::<Brand>(alloc, self, rows, Blank::new(1))?;
+        Ok(state)
+    }
+
+    /// The same. Each digest of a group or of a node above them is one more step.
+    ///
+    /// At most 65 are made for each group that changed from this state to the next; or, where that has over twice as
+    /// many rows, for each of its groups.
+    pub fn counted_next_state<L: Ledger>(
+        self,
+        alloc: Global,
+        rows: Vec<Row>,
+        steps: &mut Steps<L>,
+    ) -> Result<MadeState, AllocError>
+        ensures root { IfOk result (λ s. s.root.0 ≡ root rows.items) }
+        ensures text { IfOk result (λ s. s.text.items ≡ state_text rows.items) }
+        ensures made { OnOk result (OfState self (λ base.
+            length rows.items / 2 ≤ length base → AreMade (groups_of base) (groups_of rows.items) (steps.new - steps.old))) }
+        ensures anew { OnOk result (OfState self (λ base.
+            length base < length rows.items / 2 → AreMade no_codes (groups_of rows.items) (steps.new - steps.old))) }
     {
         if rows.len() / 2 > self.marks.len() {
-            let state = made_state(alloc, rows)?;
+            let state = made_state(alloc, rows, steps)?;
             return Ok(state);
         }
-        let (root, keyed, made) = next_root(alloc, self, rows)?;
+        let (root, keyed) = next_root(alloc, self, rows, steps)?;
         let codes = codes_of(alloc, keyed)?;
         let text = text_of_codes(alloc, &root, codes)?;
-        Ok(MadeState { root, text, made })
+        Ok(MadeState { root, text })
     }
 }
 
-// The root of these rows, and their codes, ascending, and how many digests were made.
-fn next_root(
+// The root of these rows, and the text of the state that holds them. The steps are counted in this ledger.
+fn next_in<L: Ledger>(
     alloc: Global,
     known: KnownState,
     rows: Vec<Row>,
-) -> Result<(Digest, Vec<Keyed>, u64), AllocError>
+    blank: Blank,
+) -> Result<MadeState, AllocError>
+    requires name { blank.name ≡ L.name }
+    requires parts { blank.parts ≡ L.parts }
+    requires some { 0 < L.parts }
+    ensures root { IfOk result (λ s. s.root.0 ≡ root rows.items) }
+    ensures text { IfOk result (λ s. s.text.items ≡ state_text rows.items) }
+{
+    let mut steps = Steps::<L>::new(blank);
+    let state = known.counted_next_state(alloc, rows, &mut steps)?;
+    Ok(state)
+}
+
+// The root of these rows, and their codes, ascending.
+fn next_root<L: Ledger>(
+    alloc: Global,
+    known: KnownState,
+    rows: Vec<Row>,
+    steps: &mut Steps<L>,
+) -> Result<(Digest, Vec<Keyed>), AllocError>
     ensures root { IfOk result (λ p. p.0.0 ≡ root rows.items) }
     ensures codes { IfOk result (λ p. map (λ k. k.code.items) p.1.items ≡ sorted (map code_of_row rows.items)) }
-    ensures made { IfOk result (λ p. OfState known (λ base. AreMade (groups_of base) (groups_of rows.items) p.2)) }
+    ensures made { OnOk result (OfState known (λ base. AreMade (groups_of base) (groups_of rows.items) (steps.new - steps.old))) }
 {
     let KnownState { text, marks, tree } = known;
     let codes = rest_of(text.as_slice(), HEADER);
     let (keyed, changed) = compared(alloc, rows.as_slice(), marks.as_slice(), codes)?;
-    let (next, made) = changed_tree(alloc, tree, changed, keyed.as_slice())?;
-    Ok((next.root(), keyed, made))
+    let next = changed_tree(alloc, tree, changed, keyed.as_slice(), steps)?;
+    Ok((next.root(), keyed))
 }
 
 // These bytes but for so many.
@@ -120,24 +154,24 @@ fn rest_of(bytes: &[u8], len: usize) -> &[u8]
     &bytes[len..]
 }
 
-// A tree with the codes of these pairs in each group that changes, and how many digests were made.
-fn changed_tree(
+// A tree with the codes of these pairs in each group that changes.
+fn changed_tree<L: Ledger>(
     alloc: Global,
     tree: RadixTree,
     changed: Changed,
     keyed: &[Keyed],
-) -> Result<(RadixTree, u64), AllocError>
+    steps: &mut Steps<L>,
+) -> Result<RadixTree, AllocError>
     requires { Holds changed [] }
-    ensures tree { IfOk result (λ p. (all : List Pair) → Keeps tree (groups_in all) →
-        Covers changed all (map pair_in keyed.now) → Keeps p.0 (groups_in (map pair_in keyed.now))) }
-    ensures made { IfOk result (λ p. AreFor (Has changed) p.1) }
+    ensures tree { IfOk result (λ t. (all : List Pair) → Keeps tree (groups_in all) →
+        Covers changed all (map pair_in keyed.now) → Keeps t (groups_in (map pair_in keyed.now))) }
+    ensures made { OnOk result (AreFor (Has changed) (steps.new - steps.old)) }
 {
     let mut changed = changed;
     gather(alloc, &mut changed, keyed)?;
-    let groups = changed.into_groups(alloc)?;
-    let (next, nodes) = tree.with_groups(alloc, groups.as_slice())?;
-    let made = nodes.saturating_add(digests_of(groups.as_slice()));
-    Ok((next, made))
+    let groups = changed.into_groups(alloc, steps)?;
+    let next = tree.with_groups(alloc, groups.as_slice(), steps)?;
+    Ok(next)
 }
 
 // Gathers these codes, as far as their groups change.

@@ -1,3 +1,5 @@
 pub mod Forms
 pub mod Leaving
 pub mod Meanings
+mod Twos
+mod Uses

@@ -20,7 +20,7 @@ abbrev pub play_of : List PlayEntry → List TouchingEntry
 play_of es = each entry_of es
 
 module _ (deploy : Deploy) (source : Work) {X : Type 0} (rows : X → List Row) (es : List PlayEntry) (closed : List X) (left : List Row) (hands : List (ℕ × Row)) where
-  -- where digests fit in texts and the ids of the checkpoint's rows differ: they are those of a run once the hub has ended, or a row's id is built in or made again, or texts collide
+  -- where digests fit in texts and the ids of the checkpoint's rows differ: they are those of a run once the hub has ended, or a row's id is a built-in receiver's or made again, or texts collide
   abbrev pub ComesToAPlay : Type 0
   ComesToAPlay =
       FitsInTexts deploy (steps_of (entries_of (play_of es))) → differ (each (λ r. r.id) deploy.rows) ≡ true

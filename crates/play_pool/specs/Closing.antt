@@ -21,7 +21,7 @@ abbrev pub IsThrough : {E X W : Type 0} → TableId → SeatState E X W → Type
 IsThrough home s = AtRest home s × (due_of s ≡ []) × HasCause s
 
 -- So many workers drew these entries. All that they cost was charged; they made no more steps than the limit pays for, and one more for each worker; and where the deploy begins so, they and the closed
--- shards come to a run, or a row's id is built in or made again, or texts collide.
+-- shards come to a run, or a row's id is a built-in receiver's or made again, or texts collide.
 pub record ClosesPlay (deploy : Deploy) (source : Work) (workers : ℕ) (es : List PlayEntry) (closed : List (List Row)) (charged : ℕ) : Type 0 where
   pub total : total_of deploy source (entries_of (play_of es)) ≡ charged
   pub few : length (steps_of (entries_of (play_of es))) ≤ deploy.limit / deploy.prices.comm + workers

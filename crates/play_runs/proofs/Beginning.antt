@@ -13,7 +13,7 @@ use Rattle.calculus.specs.Steps.{differ}
 use Rattle.calculus.specs.Unfolding.{Unfolds}
 use Rattle.calculus.specs.Runs.{Deploy, deploy_of, Work, Leads, begun, made_digests, source_seed}
 use Rattle.event_log.specs.View.{step_of}
-use Rattle.events.specs.Events.{AreFresh, first_ids, built_in_digests}
+use Rattle.events.specs.Events.{AreFresh, first_ids, built_in_ids}
 use Rattle.events.proofs.Counts.{ids, AreDistinct, differ-distinct, distinct-differ, times-append}
 use Rattle.events.proofs.Legal.{leads-none}
 use Rattle.fresh_digests.specs.Numbers.{IsNumberable}
@@ -49,7 +49,7 @@ module _ (deploy : Deploy) (ss : List Step) (fits : FitsInTexts deploy ss) (diff
   ids-differ : (differ (first_ids deploy.rows) ≡ true) ⊎ (ShowsAnId deploy ss ⊎ Collides deploy ss)
   ids-differ = go (legal_lists_are_fresh_or_show_an_id deploy [] none-fit differs (begun deploy.rows w, leads))
     where
-      go : AreFresh deploy [] ⊎ (Shares (ids deploy.rows) (built_in_digests ++ made_digests (begun deploy.rows w)) ⊎ Collides deploy [])
+      go : AreFresh deploy [] ⊎ (Shares (ids deploy.rows) (built_in_ids ++ made_digests (begun deploy.rows w)) ⊎ Collides deploy [])
           → (differ (first_ids deploy.rows) ≡ true) ⊎ (ShowsAnId deploy ss ⊎ Collides deploy ss)
       go (inl f) = inl (first-differ f)
       go (inr (inl s)) = inr (inl (record { first = []; rest = ss; is = refl; state = begun deploy.rows w; leads = leads; shares = s }))

@@ -123,8 +123,8 @@ fn play_source<
 /// a body has a fault or the price passes the limit. `root` is the root of the rows, and `source` the digest of the source's bytes. Each
 /// worker passes the gate where it has taken shards in hand, and where it has given them home.
 ///
-/// Its steps are a run, or an id of the rows is shown that is built in or made again, or two of the texts that the deploy hashes are shown
-/// to have one digest. Want of memory is the one error.
+/// Its steps are a run, or an id of the rows is shown that is a built-in receiver's or made again, or two of the texts that the deploy
+/// hashes are shown to have one digest. Want of memory is the one error.
 pub fn play<R: Threads + Wait + Sync, G: Gate + Sync, T: ShardTables + Sync>(
     rt: &R,
     alloc: Global,

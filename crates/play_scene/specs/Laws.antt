@@ -56,7 +56,7 @@ HubsPlayOrCollide = (p : Prices) (cap : ℕ) (t : Tree) (digest : List ℕ) (sou
     → RanPlay (deploy_of p cap [] t digest) source opened works es closed left hands → FitsInTexts (deploy_of p cap [] t digest) (steps_of (entries_of es))
     → PlaysRun (deploy_of p cap [] t digest) source es closed left hands ⊎ Collides (deploy_of p cap [] t digest) (steps_of (entries_of es))
 
--- from a checkpoint of rows whose ids differ: they come to this, or a row's id is built in or made again, or texts collide
+-- from a checkpoint of rows whose ids differ: they come to this, or a row's id is a built-in receiver's or made again, or texts collide
 abbrev pub HubsPlayOrShowAnId : Type 0
 HubsPlayOrShowAnId = (deploy : Deploy) (source : Work) (opened : List (List Row)) (works : List Row) (es : List TouchingEntry) (closed : List (List Row)) (left : List Row) (hands : List (ℕ × Row))
     → RanPlay deploy source opened works es closed left hands → FitsInTexts deploy (steps_of (entries_of es)) → differ (each (λ r. r.id) deploy.rows) ≡ true

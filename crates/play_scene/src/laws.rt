@@ -24,7 +24,7 @@ pub fn hubs_play_or_collide()
     ensures law { HubsPlayOrCollide }
 {}
 
-/// From a checkpoint they do so too, or a row's id is built in or made again, or texts collide.
+/// From a checkpoint they do so too, or a row's id is a built-in receiver's or made again, or texts collide.
 pub fn hubs_play_or_show_an_id()
     ensures law { HubsPlayOrShowAnId }
 {}

@@ -1,5 +1,5 @@
 -- Binds, cases and closed forms that have been written.
-use Rattle.std.proofs.Common.{◌≡◌, ℕ, ◌+◌, ◌<◌, ◌≤◌, max, Bool, true, false, cond, ltb, List, [], ◌∷◌, ◌++◌, length, map as each, refl, sym, ap, ◌∙◌, subst, arith, append-nil, length-append, codes}
+use Rattle.std.proofs.Common.{◌≡◌, ℕ, ◌+◌, ◌<◌, ◌≤◌, max, Bool, true, false, cond, ltb, List, [], ◌∷◌, ◌++◌, length, map as each, refl, sym, ap, ◌∙◌, subst, arith, le_refl, append-nil, length-append, codes}
 use Rattle.std.proofs.lemmas.Bool.{lt-ltb, le-ltb}
 use Rattle.calculus.specs.declared.plain.Kind.{Kind}
 use Rattle.calculus.specs.declared.plain.TermRest.{TermRest}
@@ -8,9 +8,9 @@ use Rattle.calculus.specs.declared.plain.Ground.TheVariants as ground
 use Rattle.calculus.specs.Tree.{row, tuple, bind, rest, Tree, trees}
 use Rattle.calculus.specs.Shape.{leaf, three, many, held, only}
 use Rattle.calculus.specs.Variables.{bound, bound_all}
-use Rattle.calculus.specs.Form.{term, part, a_bind, a_case, pat, name_pat, pat_part, name_part, all}
+use Rattle.calculus.specs.Form.{term, part, a_case, pat, name_pat, pat_part, name_part}
 use Rattle.calculus.specs.Printed.{Printed, name_text, with_commas, rest_text, bind_text, arrow_text, block, parallel_text}
-use Rattle.calculus.proofs.Formed.{Formed, Holds}
+use Rattle.calculus.proofs.Formed.{Formed}
 use Rattle.calculus.proofs.Tails.{IsFine}
 use Rattle.calculus.proofs.Binding.{no_bound}
 use Rattle.rho_term.specs.Parts.{part_tree, term_tree, bind_tree, case_tree, ground_tree}
@@ -18,13 +18,14 @@ use Rattle.rho_term.specs.declared.term.Part.{Part}
 use Rattle.rho_term.specs.declared.term.Part.TheVariants as parts
 use Rattle.rho_term.specs.declared.term.TermBind.{TermBind}
 use Rattle.rho_term.specs.declared.term.TermCase.{TermCase}
-use Rattle.printed_leaves.specs.Texts.{text_of, texts_of, left_text, bind_text_of, IsClosedForm, Writes}
+use Rattle.printed_words.specs.Words.{remainder}
+use Rattle.printed_leaves.specs.Texts.{text_of, texts_of, left_text, bind_text_of, IsClosedForm, AddsTo, Writes, WritesAs, WritesPattern, WritesPart, WritesListed, WritesBind}
 use Rattle.printed_leaves.proofs.Rows.{row_printed, single_name_pat, ordered_texts}
-use Rattle.printed_leaves.proofs.Forms.{after, shown, no_variables, WritesText}
-use Rattle.printed_leaves.proofs.PatternForms.{pat_formed}
+use Rattle.printed_leaves.proofs.Forms.{after, shown, no_variables}
+use Rattle.printed_leaves.proofs.PatternForms.{pat_formed, left-writes}
 
 -- what a bind binds, beside its channel
-pub bind-bound : (c : Tree) (ts : List Tree) (r : TermRest) (n : ℕ) → Formed IsFine term c
+bind-bound : (c : Tree) (ts : List Tree) (r : TermRest) (n : ℕ) → Formed IsFine term c
     → n + length (bound (three bind c (many row ts) (leaf (rest r)))) ≡ n + length (bound_all (trees ts)) + length (bound (leaf (rest r)))
 bind-bound c ts r n h =
     omega (arith, ap length (no_variables c h), length-append (bound c) (bound_all (trees ts) ++ (bound (leaf (rest r)) ++ [])), length-append (bound_all (trees ts)) (bound (leaf (rest r)) ++ []), length-append (bound (leaf (rest r))) [])
@@ -57,29 +58,36 @@ left_then k (a ∷ l) c old x y z new p q r s =
     let f : y ≡ x ++ codes " " = q ∙ ap (λ (b : Bool). x ++ cond b (codes " ") []) e in
     after old (a ∷ l) ((codes " ") ++ ((arrow_text k) ++ (c))) (p) (after x (codes " ") ((arrow_text k) ++ (c)) (f) (after y (arrow_text k) (c) (r) (s)))
 
-pub bind-writes : (k : Kind) (b : TermBind) (d n : ℕ) (old x y z new : List ℕ) → d ≤ n
-    → (Holds IsFine (all name_pat) (trees b.pats.items) → x ≡ old ++ left_text b.pats.items b.rest d n)
-    → y ≡ x ++ cond (ltb (length old) (length x)) (codes " ") [] → z ≡ y ++ arrow_text k → WritesText b.channel d (name_text (held b.channel)) z new
-    → Formed IsFine a_bind (bind_tree b) → new ≡ old ++ bind_text_of k (bind_tree b) d n
-bind-writes k b d n old x y z new h w q r s f =
-    shown old (bind_parts k b.channel b.pats.items b.rest d n h f.1.0)
-    (left_then k (left_text b.pats.items b.rest d n) (name_text (held b.channel) (text_of term b.channel d n)) old x y z new (w f.1.1.0.1) q r (s f.1.0 n))
+pub bind-writes : (k : Kind) (b : TermBind) (d n j m start len : ℕ) (old x y z u new : List ℕ) → start ≡ length old → WritesListed name_pat b.pats.items d n j old x → len ≡ length b.pats.items
+    → AddsTo (remainder len (codes ", ") (codes "...@") b.rest j) (j + length (bound (leaf (rest b.rest)))) m x y
+    → z ≡ y ++ cond (ltb start (length y)) (codes " ") [] → u ≡ z ++ arrow_text k → WritesAs (name_text (held b.channel)) b.channel d u new → WritesBind k (bind_tree b) d n m old new
+bind-writes k b d n j m start len old x y z u new e w f a q r s l h =
+    let g = w l h.1.1.0.1 in
+    let ts = b.pats.items in
+    let v : y ≡ old ++ left_text ts b.rest d n = left-writes ts b.rest d n j len old x y g.0 g.1 f a.0 in
+    let space : z ≡ y ++ cond (ltb (length old) (length y)) (codes " ") [] = shown y (ap (λ (i : ℕ). cond (ltb i (length y)) (codes " ") []) (sym e)) q in (
+      shown old (bind_parts k b.channel ts b.rest d n l h.1.0)
+          (left_then k (left_text ts b.rest d n) (name_text (held b.channel) (text_of term b.channel d n)) old y z u new v space r (s h.1.0 n)),
+      a.1 ∙ ap (λ (i : ℕ). i + length (bound (leaf (rest b.rest)))) g.1 ∙ sym (bind-bound b.channel ts b.rest n h.1.0),
+    )
 
 case_depth : (p b : Tree) (d m : ℕ) → Formed IsFine term b → m ≡ d + length (bound p) → d + length (bound p ++ (bound b ++ [])) ≡ m
 case_depth p b d m h e = omega (arith, e, ap length (no_variables b h), length-append (bound p) (bound b ++ []), length-append (bound b) [])
 
-pub case-writes : (c : TermCase) (d m : ℕ) (old x y z new : List ℕ) → x ≡ old ++ codes "("
-    → (Formed IsFine name_pat c.pat → y ≡ x ++ text_of pat c.pat d d) → (Formed IsFine name_pat c.pat → m ≡ d + length (bound c.pat))
-    → z ≡ y ++ codes ") => " → WritesText c.body m block z new → Writes a_case (case_tree c) d old new
-case-writes c d m old x y z new p w e q v h n =
-    let f = pat_formed c.pat h.1.0 in
-    let g = h.1.1.0 in
+pub case-writes : (c : TermCase) (d m : ℕ) (old x y z u written : List ℕ) → x ≡ old ++ codes "(" → WritesPattern (λ v. v) c.pat d d m x y → z ≡ y ++ codes ") => { " → Writes term c.body m z u → written ≡ u ++ codes " }"
+    → Writes a_case (case_tree c) d old written
+case-writes c d m old x y z u written p w q v r h n =
+    let g = w (le_refl d) (pat_formed c.pat h.1.0) in
+    let f = h.1.1.0 in
     let j = d + length (bound c.pat ++ (bound c.body ++ [])) in
     let i = max j (d + length (bound c.pat)) in
-    shown old (ap (λ (k : ℕ). codes "(" ++ (text_of pat c.pat d d ++ (codes ") => " ++ block (text_of term c.body k i)))) (case_depth c.pat c.body d m g (e f))) (after old (codes "(") ((text_of pat c.pat d d) ++ ((codes ") => ") ++ (block (text_of term c.body m i)))) (p) (after x (text_of pat c.pat d d) ((codes ") => ") ++ (block (text_of term c.body m i))) (w f) (after y (codes ") => ") (block (text_of term c.body m i)) (q) (v g i))))
+    let left = text_of pat c.pat d d in
+    let body = text_of term c.body m i in
+    shown old (ap (λ (k : ℕ). codes "(" ++ (left ++ (codes ") => " ++ block (text_of term c.body k i)))) (case_depth c.pat c.body d m f g.1))
+    (after old (codes "(") (left ++ (codes ") => { " ++ (body ++ codes " }"))) p (after x left (codes ") => { " ++ (body ++ codes " }")) g.0 (after y (codes ") => { ") (body ++ codes " }") q (after z body (codes " }") (v f i) r))))
 
 -- a closed form in a pattern is a part of a process
-pub closed-formed : (p : Part) → IsClosedForm p → Formed IsFine name_part (part_tree p) → Formed IsFine part (part_tree p)
+closed-formed : (p : Part) → IsClosedForm p → Formed IsFine name_part (part_tree p) → Formed IsFine part (part_tree p)
 closed-formed (parts.Ground (ground.Bool x)) c h = h
 closed-formed (parts.Ground (ground.Int x)) c h = h
 closed-formed (parts.Ground (ground.Str x)) c h = h
@@ -103,12 +111,11 @@ closed_text (parts.New os b) d n c = refl
 closed_text (parts.Match t cs) d n c = refl
 closed_text _ d n c = absurd c
 
-pub closed-writes : (p : Part) (d n : ℕ) (old new : List ℕ) → (Formed IsFine name_part (part_tree p) → IsClosedForm p) → Writes part (part_tree p) d old new
-    → Formed IsFine name_part (part_tree p) → new ≡ old ++ text_of pat_part (part_tree p) d n
-closed-writes p d n old new f w h = shown old (closed_text p d n (f h)) (w (closed-formed p (f h) h) n)
+closed_bound : (p : Part) → IsClosedForm p → Formed IsFine name_part (part_tree p) → bound (part_tree p) ≡ []
+closed_bound p f h = no_bound IsFine part (part_tree p) tt (closed-formed p f h)
 
-pub closed-bound : (p : Part) → (Formed IsFine name_part (part_tree p) → IsClosedForm p) → Formed IsFine name_part (part_tree p) → bound (part_tree p) ≡ []
-closed-bound p f h = no_bound IsFine part (part_tree p) tt (closed-formed p (f h) h)
+pub closed-writes : (p : Part) (d n : ℕ) (old new : List ℕ) → (Formed IsFine name_part (part_tree p) → IsClosedForm p) → Writes part (part_tree p) d old new → WritesPart (part_tree p) d n n old new
+closed-writes p d n old new f w l h = (shown old (closed_text p d n (f h)) (w (closed-formed p (f h) h) n), omega (arith, ap length (closed_bound p (f h) h)))
 
 -- a process is no pattern
 pub no_pattern : (ps : List Part) (t : Tree) → t ≡ term_tree ps → Formed IsFine pat t → ⊥
@@ -128,16 +135,19 @@ ground-text (ground.Str x) d n = refl
 ground-text (ground.Uri x) d n = refl
 ground-text (ground.Bytes x) d n = refl
 
-pub ground_pattern-text : (g : Ground) (d n : ℕ) → text_of pat_part (ground_tree g) d n ≡ text_of part (ground_tree g) 0 0
+ground_pattern-text : (g : Ground) (d n : ℕ) → text_of pat_part (ground_tree g) d n ≡ text_of part (ground_tree g) 0 0
 ground_pattern-text (ground.Bool x) d n = refl
 ground_pattern-text (ground.Int x) d n = refl
 ground_pattern-text (ground.Str x) d n = refl
 ground_pattern-text (ground.Uri x) d n = refl
 ground_pattern-text (ground.Bytes x) d n = refl
 
-pub ground-bound : (g : Ground) → bound (ground_tree g) ≡ []
+ground-bound : (g : Ground) → bound (ground_tree g) ≡ []
 ground-bound (ground.Bool x) = refl
 ground-bound (ground.Int x) = refl
 ground-bound (ground.Str x) = refl
 ground-bound (ground.Uri x) = refl
 ground-bound (ground.Bytes x) = refl
+
+pub ground-writes : (g : Ground) (d n : ℕ) (old new : List ℕ) → new ≡ old ++ text_of part (ground_tree g) 0 0 → WritesPart (ground_tree g) d n n old new
+ground-writes g d n old new e l h = (shown old (ground_pattern-text g d n) e, omega (arith, ap length (ground-bound g)))

@@ -6,5 +6,3 @@ pub mod BindForms
 pub mod Singles
 pub mod Declared
 pub mod Moving
-pub mod Growing
-pub mod Answered

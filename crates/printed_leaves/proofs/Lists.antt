@@ -8,16 +8,16 @@ use Rattle.calculus.specs.Printed.{separated}
 use Rattle.calculus.proofs.Formed.{Formed, Holds}
 use Rattle.calculus.proofs.Tails.{IsFine}
 use Rattle.printed_words.specs.Words.{before}
-use Rattle.printed_leaves.specs.Texts.{chain, separated_from}
+use Rattle.printed_leaves.specs.Texts.{chain, separated_from, GoesOn}
 
 -- the members from number i on are left
 abbrev pub StillWrites : (Tree → ℕ → List ℕ) → Sort → List ℕ → List Tree → ℕ → List ℕ → List ℕ → Type 0
 StillWrites f a mark ts i out start = Holds IsFine (all a) (trees ts) → (n : ℕ) → ((m : ℕ) × (out ++ separated_from i mark (chain f (drop i ts) m) ≡ start ++ separated mark (chain f ts n)))
 
--- the same where the next variable has this number
-abbrev pub StillFrom : (Tree → ℕ → List ℕ) → Sort → List ℕ → List Tree → ℕ → ℕ → List ℕ → ℕ → List ℕ → Type 0
-StillFrom f a mark ts i m out n start = Holds IsFine (all a) (trees ts)
-    → (out ++ separated_from i mark (chain f (drop i ts) m) ≡ start ++ separated mark (chain f ts n)) × (m + length (bound_all (trees (drop i ts))) ≡ n + length (bound_all (trees ts)))
+-- the same where the next variable has this number, which counts the `d` variables in scope too
+abbrev pub StillFrom : (Tree → ℕ → List ℕ) → Sort → List ℕ → List Tree → ℕ → ℕ → List ℕ → ℕ → ℕ → List ℕ → Type 0
+StillFrom f a mark ts i m out d n start = d ≤ n → Holds IsFine (all a) (trees ts)
+    → (d ≤ m) × (out ++ separated_from i mark (chain f (drop i ts) m) ≡ start ++ separated mark (chain f ts n)) × (m + length (bound_all (trees (drop i ts))) ≡ n + length (bound_all (trees ts)))
 
 -- a mark stands before each text but the first
 pub before_some : (i : ℕ) (mark : List ℕ) → before (suc i) mark ≡ mark
@@ -92,32 +92,35 @@ at_end f a mark ts i out start w e h n =
     let k = w h n in
     at_last f mark (drop i ts) i k.0 out (start ++ separated mark (chain f ts n)) e k.1
 
-pub at_start_from : (f : Tree → ℕ → List ℕ) (a : Sort) (mark : List ℕ) (ts : List Tree) (n : ℕ) (out : List ℕ) → StillFrom f a mark ts 0 n out n out
-at_start_from f a mark ts n out h = (ap (λ (x : List ℕ). out ++ x) (separated_zero mark (chain f ts n)), refl)
+pub at_start_from : (f : Tree → ℕ → List ℕ) (a : Sort) (mark : List ℕ) (ts : List Tree) (d n : ℕ) (out : List ℕ) → StillFrom f a mark ts 0 n out d n out
+at_start_from f a mark ts d n out l h = (l, ap (λ (x : List ℕ). out ++ x) (separated_zero mark (chain f ts n)), refl)
 
 bound_more : (t : Tree) (us vs : List Tree) (m k whole : ℕ) → vs ≡ t ∷ us → k ≡ m + length (bound t) → m + length (bound_all (trees vs)) ≡ whole → k + length (bound_all (trees us)) ≡ whole
 bound_more t us vs m k whole e p h =
     let q : m + length (bound_all (trees (t ∷ us))) ≡ whole = ap (λ (xs : List Tree). m + length (bound_all (trees xs))) (sym e) ∙ h in
     omega (arith, q, p, length-append (bound t) (bound_all (trees us)))
 
-pub goes_on_from : (f : Tree → ℕ → List ℕ) (a : Sort) (mark : List ℕ) (ts : List Tree) (i m k n : ℕ) (t : Tree) (out mid new start : List ℕ)
-    → StillFrom f a mark ts i m out n start → drop i ts ≡ t ∷ drop (suc i) ts → mid ≡ out ++ before i mark
-    → (Formed IsFine a t → new ≡ mid ++ f t m) → (Formed IsFine a t → k ≡ m + length (bound t))
-    → StillFrom f a mark ts (i + 1) k new n start
-goes_on_from f a mark ts i m k n t out mid new start w e p q r h =
+pub goes_on_from : (f : Tree → ℕ → List ℕ) (a : Sort) (mark : List ℕ) (ts : List Tree) (i m k d n : ℕ) (t : Tree) (out mid new start : List ℕ)
+    → StillFrom f a mark ts i m out d n start → drop i ts ≡ t ∷ drop (suc i) ts → mid ≡ out ++ before i mark
+    → GoesOn (Formed IsFine a t) d m (f t m) (length (bound t)) k mid new
+    → StillFrom f a mark ts (i + 1) k new d n start
+goes_on_from f a mark ts i m k d n t out mid new start w e p q l h =
     let us = drop (suc i) ts in
-    let g = holds_at a ts us i t e h in
+    let v = w l h in
+    let g = q v.0 (holds_at a ts us i t e h) in
     let whole = start ++ separated mark (chain f ts n) in
-    let more = one_more f mark (drop i ts) us i m t out mid new whole e p (q g) (w h).0 in
+    let more = one_more f mark (drop i ts) us i m t out mid new whole e p g.0 v.1 in
+    let above : d ≤ k = omega (arith, v.0, g.1) in
     rw (add-one i) (
-      subst (λ (j : ℕ). new ++ separated_from (suc i) mark (chain f us j) ≡ whole) (sym (r g)) more,
-      bound_more t us (drop i ts) m k (n + length (bound_all (trees ts))) e (r g) (w h).1,
+      above,
+      subst (λ (j : ℕ). new ++ separated_from (suc i) mark (chain f us j) ≡ whole) (sym g.1) more,
+      bound_more t us (drop i ts) m k (n + length (bound_all (trees ts))) e g.1 v.2,
     )
 
-pub at_end_from : (f : Tree → ℕ → List ℕ) (a : Sort) (mark : List ℕ) (ts : List Tree) (i m n : ℕ) (out start : List ℕ)
-    → StillFrom f a mark ts i m out n start → drop i ts ≡ [] → Holds IsFine (all a) (trees ts)
-    → (out ≡ start ++ separated mark (chain f ts n)) × (m ≡ n + length (bound_all (trees ts)))
-at_end_from f a mark ts i m n out start w e h =
-    let k = w h in
+pub at_end_from : (f : Tree → ℕ → List ℕ) (a : Sort) (mark : List ℕ) (ts : List Tree) (i m d n : ℕ) (out start : List ℕ)
+    → StillFrom f a mark ts i m out d n start → drop i ts ≡ []
+    → GoesOn (Holds IsFine (all a) (trees ts)) d n (separated mark (chain f ts n)) (length (bound_all (trees ts))) m start out
+at_end_from f a mark ts i m d n out start w e l h =
+    let k = w l h in
     let z : length (bound_all (trees (drop i ts))) ≡ 0 = ap (λ (xs : List Tree). length (bound_all (trees xs))) e in
-    (at_last f mark (drop i ts) i m out (start ++ separated mark (chain f ts n)) e k.0, omega (arith, k.1, z))
+    (at_last f mark (drop i ts) i m out (start ++ separated mark (chain f ts n)) e k.1, omega (arith, k.2, z))

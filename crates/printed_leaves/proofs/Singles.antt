@@ -1,5 +1,5 @@
 -- Processes and patterns of one part, and of other numbers of parts.
-use Rattle.std.proofs.Common.{◌≡◌, ℕ, ◌+◌, ◌-◌, Bool, false, cond, List, [], ◌∷◌, ◌++◌, length, drop, refl, sym, ap, ◌∙◌, codes}
+use Rattle.std.proofs.Common.{◌≡◌, ℕ, ◌+◌, ◌-◌, Bool, true, false, cond, List, [], ◌∷◌, ◌++◌, length, drop, refl, sym, ap, ◌∙◌, append_assoc, append-nil, codes}
 use Rattle.calculus.specs.Tree.{Tree}
 use Rattle.calculus.specs.Texts.{to_hex}
 use Rattle.calculus.specs.Shape.{held, label_of, only}
@@ -12,7 +12,7 @@ use Rattle.rho_term.specs.Parts.{part_tree, ground_tree, term_tree, pat_tree}
 use Rattle.rho_term.specs.declared.term.Part.{Part}
 use Rattle.rho_term.specs.declared.term.Part.TheVariants as parts
 use Rattle.rho_term.specs.declared.term.PatPart.{PatPart}
-use Rattle.printed_leaves.specs.Texts.{text_of}
+use Rattle.printed_leaves.specs.Texts.{text_of, WritesName, WritesAs}
 use Rattle.printed_leaves.proofs.BindForms.{single-text}
 
 pub operand-others : (ps : List Part) (t : Tree) → t ≡ term_tree ps → (length ps ≡ 1 → ⊥) → (x : List ℕ) → operand_text (held t) x ≡ braced x
@@ -65,3 +65,26 @@ pub fresh_name-text : (x : Digest) (p : Part) (t : Tree) (d n : ℕ) → t ≡ o
 fresh_name-text x p t d n e f =
     let g = e ∙ ap (λ (q : Part). only (part_tree q)) f in
     ap (λ (u : Tree). name_text (held u) (text_of term u d n)) g ∙ ap (drop 1) (single-text (parts.Fresh x) (only (part_tree (parts.Fresh x))) d n refl)
+
+-- the sign of a name, behind which an operand completes it
+pub sign_written : (b : Bool) (t : Tree) (d : ℕ) (old new : List ℕ) → b ≡ false → new ≡ old ++ codes "@" → ((x : List ℕ) → name_text (held t) x ≡ codes "@" ++ operand_text (held t) x)
+    → WritesName (λ x. cond b [] (operand_text (held t) x)) t d old new
+sign_written b t d old new z p e n =
+    let x = operand_text (held t) (text_of term t d n) in
+    ap (λ (c : Bool). new ++ cond c [] x) z ∙ ap (λ (u : List ℕ). u ++ x) p ∙ append_assoc old (codes "@") x ∙ ap (λ (u : List ℕ). old ++ u) (sym (e (text_of term t d n)))
+
+-- a whole name
+pub whole_written : (t : Tree) (d : ℕ) (old new : List ℕ) → ((n : ℕ) → new ≡ old ++ name_text (held t) (text_of term t d n)) → WritesName (λ x. []) t d old new
+whole_written t d old new e n = append-nil new ∙ e n
+
+-- a name that was whole, and one that an operand completed
+pub name_whole : (b : Bool) (t : Tree) (d : ℕ) (old new : List ℕ) → b ≡ true → WritesName (λ x. cond b [] (operand_text (held t) x)) t d old new → WritesAs (name_text (held t)) t d old new
+name_whole b t d old new z e h n =
+    let x = operand_text (held t) (text_of term t d n) in
+    sym (append-nil new) ∙ ap (λ (c : Bool). new ++ cond c [] x) (sym z) ∙ e n
+
+pub name_completed : (b : Bool) (t : Tree) (d : ℕ) (old mid new : List ℕ) → b ≡ false → WritesName (λ x. cond b [] (operand_text (held t) x)) t d old mid → WritesAs (operand_text (held t)) t d mid new
+    → WritesAs (name_text (held t)) t d old new
+name_completed b t d old mid new z e w h n =
+    let x = operand_text (held t) (text_of term t d n) in
+    w h n ∙ ap (λ (c : Bool). mid ++ cond c [] x) (sym z) ∙ e n

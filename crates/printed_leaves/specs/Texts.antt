@@ -1,17 +1,18 @@
 -- What is written of a text so far.
-use Rattle.std.specs.Prelude.{◌≡◌, ℕ, suc, ◌+◌, List, [], ◌∷◌, ◌++◌, ◌≤◌, ⊤, length, map as each, codes}
+use Rattle.std.specs.Prelude.{◌≡◌, ℕ, suc, ◌+◌, false, List, [], ◌∷◌, ◌++◌, ◌≤◌, ⊤, length, map as each, codes}
 use Rattle.calculus.specs.declared.plain.Kind.{Kind}
 use Rattle.calculus.specs.declared.plain.TermRest.{TermRest}
-use Rattle.calculus.specs.Tree.{Tree, trees, rest}
-use Rattle.calculus.specs.Shape.{held, leaf}
+use Rattle.calculus.specs.Tree.{Tree, trees}
+use Rattle.calculus.specs.Shape.{held}
 use Rattle.calculus.specs.Variables.{bound, bound_all}
 use Rattle.calculus.specs.Form.{Sort, term, a_bind, pat, name_pat, pat_part, name_part, all}
-use Rattle.calculus.specs.Printed.{first_text, separated, bind_texts, rest_text, with_commas, with_rest, operand_text}
+use Rattle.calculus.specs.Printed.{first_text, separated, bind_texts, rest_text, with_commas, with_rest, operand_text, name_text}
 use Rattle.calculus.specs.Formed.{IsFine, Formed, Holds}
 use Rattle.printed_words.specs.Words.{before}
 use Rattle.rho_term.specs.declared.term.Part.{Part}
 use Rattle.rho_term.specs.declared.term.Part.TheVariants as parts
 use Rattle.calculus.specs.Printed.{printed}
+use Rattle.printed_leaves.specs.declared.page.Page.{Page}
 
 -- the text of a tree that prints one text
 abbrev pub text_of : Sort → Tree → ℕ → ℕ → List ℕ
@@ -60,9 +61,21 @@ IsClosedForm (parts.New os b) = ⊤
 IsClosedForm (parts.Match t cs) = ⊤
 IsClosedForm _ = ⊥
 
--- the next number is no less than the number of variables in scope, and no greater than the length of what has been written
-abbrev pub HasRoom : ℕ → ℕ → List ℕ → Type 0
-HasRoom d n out = (d ≤ n) × (n ≤ length out)
+-- where memory sufficed for the new page, it had sufficed for the old one, and this is so of their texts
+abbrev pub Wrote : Page → Page → (List ℕ → List ℕ → Type 0) → Type 0
+Wrote old new done = new.failed ≡ false → (old.failed ≡ false) × done old.bytes.items new.bytes.items
+
+-- this text has been added
+abbrev pub Adds : List ℕ → List ℕ → List ℕ → Type 0
+Adds text old new = new ≡ old ++ text
+
+-- this text has been added, and the next number is `k`
+abbrev pub AddsTo : List ℕ → ℕ → ℕ → List ℕ → List ℕ → Type 0
+AddsTo text k m old new = (new ≡ old ++ text) × (m ≡ k)
+
+-- where the numbers go on from `n`, which counts the `d` variables in scope too, and this is so, a text has been added that takes so many of them
+abbrev pub GoesOn : Type 0 → ℕ → ℕ → List ℕ → ℕ → ℕ → List ℕ → List ℕ → Type 0
+GoesOn fine d n text k m old new = d ≤ n → fine → AddsTo text (n + k) m old new
 
 -- a process of this sort has been written after this text
 abbrev pub Writes : Sort → Tree → ℕ → List ℕ → List ℕ → Type 0
@@ -80,42 +93,34 @@ WritesMembers opening ts closing d old new = Holds IsFine (all term) (trees ts) 
 abbrev pub WritesAs : (List ℕ → List ℕ) → Tree → ℕ → List ℕ → List ℕ → Type 0
 WritesAs form t d old new = Formed IsFine term t → (n : ℕ) → new ≡ old ++ form (text_of term t d n)
 
--- what is of this sort has been written after this text, its variables numbered from `n` on
-abbrev pub WritesFrom : Sort → Tree → ℕ → ℕ → List ℕ → List ℕ → Type 0
-WritesFrom s t d n old new = Formed IsFine s t → new ≡ old ++ text_of s t d n
+-- of a name this has been written but for what is left
+abbrev pub WritesName : (List ℕ → List ℕ) → Tree → ℕ → List ℕ → List ℕ → Type 0
+WritesName left t d old new = (n : ℕ) → new ++ left (text_of term t d n) ≡ old ++ name_text (held t) (text_of term t d n)
 
--- the same of these, with a comma between each two
-abbrev pub WritesListed : Sort → List Tree → ℕ → ℕ → List ℕ → List ℕ → Type 0
-WritesListed s ts d n old new = Holds IsFine (all s) (trees ts) → new ≡ old ++ separated (codes ", ") (texts_of s ts d n)
+-- what is of this sort has been written after this text, its variables numbered from `n` on, and the next number is `m`
+abbrev pub WritesFrom : Sort → Tree → ℕ → ℕ → ℕ → List ℕ → List ℕ → Type 0
+WritesFrom s t d n m = GoesOn (Formed IsFine s t) d n (text_of s t d n) (length (bound t)) m
+
+-- the same of a pattern, in such a form of its own text
+abbrev pub WritesPattern : (List ℕ → List ℕ) → Tree → ℕ → ℕ → ℕ → List ℕ → List ℕ → Type 0
+WritesPattern form t d n m = GoesOn (Formed IsFine name_pat t) d n (form (text_of pat t d n)) (length (bound t)) m
 
 -- the same of a part of a pattern
-abbrev pub WritesPart : Tree → ℕ → ℕ → List ℕ → List ℕ → Type 0
-WritesPart t d n old new = Formed IsFine name_part t → new ≡ old ++ text_of pat_part t d n
+abbrev pub WritesPart : Tree → ℕ → ℕ → ℕ → List ℕ → List ℕ → Type 0
+WritesPart t d n m = GoesOn (Formed IsFine name_part t) d n (text_of pat_part t d n) (length (bound t)) m
 
--- the same of the parts of a pattern, with a bar between each two
-abbrev pub WritesParts : List Tree → ℕ → ℕ → List ℕ → List ℕ → Type 0
-WritesParts ts d n old new = Holds IsFine (all name_part) (trees ts) → new ≡ old ++ separated (codes " | ") (texts_of pat_part ts d n)
+-- the same of two patterns with a sign between them
+abbrev pub WritesJoined : Tree → List ℕ → Tree → ℕ → ℕ → ℕ → List ℕ → List ℕ → Type 0
+WritesJoined t sign u d n m = GoesOn (Formed IsFine pat t × Formed IsFine pat u) d n (joined_text t sign u d n) (length (bound t) + length (bound u)) m
+
+-- the same of all of these, with a comma between each two
+abbrev pub WritesListed : Sort → List Tree → ℕ → ℕ → ℕ → List ℕ → List ℕ → Type 0
+WritesListed s ts d n m = GoesOn (Holds IsFine (all s) (trees ts)) d n (separated (codes ", ") (texts_of s ts d n)) (length (bound_all (trees ts))) m
 
 -- the same of a bind of a receive of this kind
-abbrev pub WritesBind : Kind → Tree → ℕ → ℕ → List ℕ → List ℕ → Type 0
-WritesBind k t d n old new = Formed IsFine a_bind t → new ≡ old ++ bind_text_of k t d n
+abbrev pub WritesBind : Kind → Tree → ℕ → ℕ → ℕ → List ℕ → List ℕ → Type 0
+WritesBind k t d n m = GoesOn (Formed IsFine a_bind t) d n (bind_text_of k t d n) (length (bound t)) m
 
 -- the same of its binds
-abbrev pub WritesBinds : Kind → List Tree → ℕ → List ℕ → List ℕ → Type 0
-WritesBinds k ts d old new = Holds IsFine (all a_bind) (trees ts) → new ≡ old ++ separated (codes " & ") (binds_texts k ts d d)
-
--- where each of these is of this sort, this has been written after the old text
-abbrev pub WritesIfFine : Sort → List Tree → List ℕ → List ℕ → List ℕ → Type 0
-WritesIfFine s ts text old new = Holds IsFine (all s) (trees ts) → new ≡ old ++ text
-
--- behind what is of this sort, numbered from `n` on, the next number is `m`
-abbrev pub NumbersPast : Sort → Tree → ℕ → ℕ → Type 0
-NumbersPast s t n m = Formed IsFine s t → m ≡ n + length (bound t)
-
--- the same behind all of these
-abbrev pub NumbersPastAll : Sort → List Tree → ℕ → ℕ → Type 0
-NumbersPastAll s ts n m = Holds IsFine (all s) (trees ts) → m ≡ n + length (bound_all (trees ts))
-
--- the same behind all of these and a remainder
-abbrev pub NumbersPastRest : Sort → List Tree → TermRest → ℕ → ℕ → Type 0
-NumbersPastRest s ts r n m = Holds IsFine (all s) (trees ts) → m ≡ n + length (bound_all (trees ts)) + length (bound (leaf (rest r)))
+abbrev pub WritesBinds : Kind → List Tree → ℕ → ℕ → List ℕ → List ℕ → Type 0
+WritesBinds k ts d m = GoesOn (Holds IsFine (all a_bind) (trees ts)) d d (separated (codes " & ") (binds_texts k ts d d)) (length (bound_all (trees ts))) m

@@ -5,7 +5,7 @@ use Rattle.calculus.specs.Unfolding.{Unfolds}
 use Rattle.calculus.specs.Steps.{differ, meeting}
 use Rattle.calculus.specs.Candidates.{IsLeastAllowed}
 use Rattle.calculus.specs.Runs.{Deploy, source_seed, Work, verdict, done, made_digests}
-use Rattle.events.specs.Events.{built_in_digests}
+use Rattle.events.specs.Events.{built_in_ids}
 use Rattle.fresh_digests.specs.Premises.{FitsInTexts, Shares, Collides}
 use Rattle.replays.specs.Replays.{Given, no_run, reducible, Outcome, refused, replayed, header_refusal, outcome_of, deploy_under, Answers}
 use Rattle.racing_replays.specs.Replaying.{Replay, done_steps, Replays}
@@ -24,9 +24,9 @@ ReplaysTellAnswers = (g : Given) (h : Header) (w : Work) (ss : List Step) (k r :
     → Unfolds g.prices h.limit g.process (source_seed (deploy_under h.limit g)) w → FreshWalk (deploy_under h.limit g) w ss k → FullReplay (deploy_under h.limit g) w ss r
     → TellsAnswer g h w ss r
 
--- a row's id is built in or made in a replay, or two of the texts that are hashed for its steps have one digest
+-- a row's id is a built-in receiver's or made in a replay, or two of the texts that are hashed for its steps have one digest
 abbrev pub Clashes : Deploy → Work → Replay → Type 0
-Clashes deploy w r = Shares (each (λ x. x.id) deploy.rows) (built_in_digests ++ made_digests (state_of w r)) ⊎ Collides deploy (done_steps r.done)
+Clashes deploy w r = Shares (each (λ x. x.id) deploy.rows) (built_in_ids ++ made_digests (state_of w r)) ⊎ Collides deploy (done_steps r.done)
 
 -- the digests of some replay of a log clash
 abbrev pub SomeClash : Deploy → Work → List Step → Type 0

@@ -1,6 +1,6 @@
 // The digests of nodes, and the half bytes of keys.
 
-ghost use Rattle.std.specs.Prelude.{◌≡◌, ◌<◌, ◌∷◌, ◌++◌, length, map, IfOk};
+ghost use Rattle.std.specs.Prelude.{◌≡◌, ◌<◌, ◌∷◌, ◌++◌, ◌+◌, length, map, IfOk};
 ghost use Rattle.sha2.specs.Sha256.{sha256};
 ghost use Rattle.calculus.specs.Bytes.{be32, joined};
 ghost use Rattle.calculus.specs.Root.{sixteen};
@@ -8,9 +8,10 @@ ghost use Rattle.radix_root.specs.Leaves.{half_of};
 ghost use Rattle.radix_root.specs.Nodes.{digest_under};
 
 use crate::node::{Node, place_of};
-use calculus::Digest;
+use calculus::{Digest, Steps};
 use sha2::{Digest as _, Sha256};
 use std::alloc::{AllocError, Global};
+use std::sync::ledger::Ledger;
 
 /// The digest of no group.
 pub(crate) const NO_GROUP: Digest = Digest([0; 32]);
@@ -27,10 +28,12 @@ fn four_bytes(n: usize) -> [u8; 4]
     ((n % 0x1_0000_0000) as u32).to_be_bytes()
 }
 
-/// The digest of a group with this key and these codes of rows, in this order.
-pub(crate) fn leaf_digest(key: &Digest, rows: &[&[u8]]) -> Digest
-    ensures { result.0 ≡ sha256 (0x10 ∷ (key.now.0 ++ (be32 (length rows.now) ++ joined (map (λ r. r.now) rows.now)))) }
+/// The digest of a group with this key and these codes of rows, in this order. It is one more step.
+pub(crate) fn leaf_digest<L: Ledger>(key: &Digest, rows: &[&[u8]], steps: &mut Steps<L>) -> Digest
+    ensures digest { result.0 ≡ sha256 (0x10 ∷ (key.now.0 ++ (be32 (length rows.now) ++ joined (map (λ r. r.now) rows.now)))) }
+    ensures counted { steps.new ≡ steps.old + 1 }
 {
+    steps.tick();
     let mut hasher = Sha256::new();
     hasher.update(&[ONE_GROUP]);
     hasher.update(&key.0);
@@ -52,10 +55,12 @@ pub fn slices_of(alloc: Global, rows: &[Vec<u8>]) -> Result<Vec<&[u8]>, AllocErr
     Ok(slices)
 }
 
-/// The digest of several groups, from the digests that the nodes of their half bytes keep.
-pub(crate) fn fork_digest(children: &[Node]) -> Digest
-    ensures { result.0 ≡ sha256 (0x11 ∷ joined (map (digest_under children.now) sixteen)) }
+/// The digest of several groups, from the digests that the nodes of their half bytes keep. It is one more step.
+pub(crate) fn fork_digest<L: Ledger>(children: &[Node], steps: &mut Steps<L>) -> Digest
+    ensures digest { result.0 ≡ sha256 (0x11 ∷ joined (map (digest_under children.now) sixteen)) }
+    ensures counted { steps.new ≡ steps.old + 1 }
 {
+    steps.tick();
     let mut hasher = Sha256::new();
     hasher.update(&[SEVERAL_GROUPS]);
     for half in 0..16u8 {

@@ -8,81 +8,91 @@ ghost use Rattle.radix_root.specs.Groups.{AllGroups, ShareAll, digest_after};
 use crate::digests::half_at;
 use crate::group::Group;
 use crate::node::{Node, place_of};
+use calculus::Steps;
 use std::alloc::{AllocError, Global};
+use std::sync::ledger::Ledger;
 
-/// Gives each of these groups its digest, one after another, and says how many digests of nodes were made.
+/// Gives each of these groups its digest, one after another. Each digest of a node is one more step.
 #[cycle(give_all)]
-pub(crate) fn give_all(node: &mut Node, alloc: Global, groups: &[Group]) -> Result<u64, AllocError>
+pub(crate) fn give_all<L: Ledger>(
+    node: &mut Node,
+    alloc: Global,
+    groups: &[Group],
+    steps: &mut Steps<L>,
+) -> Result<(), AllocError>
     requires node { IsNode node.old.depth node.old }
     requires shared { ShareAll node.old.depth node.old.leaves groups.now }
     ensures node { OnOk result (IsNode node.old.depth node.new) }
     ensures half { OnOk result (node.new.half ≡ node.old.half) }
     ensures groups { OnOk result ((k : List ℕ) → digest_at node.new.leaves k ≡ digest_after groups.now (digest_at node.old.leaves k) k) }
-    ensures made { IfOk result (λ n. n ≤ (64 - node.old.depth) * length groups.now) }
+    ensures counted { steps.new ≤ steps.old + (64 - node.old.depth) * length groups.now }
 {
     let depth = node.depth();
     if groups.len() <= 1 || depth >= 64 {
-        return give_each(node, alloc, groups);
+        return give_each(node, alloc, groups, steps);
     }
     let mut children = node.open(alloc, groups.len().min(16))?;
-    let below = give_runs(alloc, &mut children, depth, groups)?;
-    let own = node.settle(children);
-    Ok(below.saturating_add(own))
+    give_runs(alloc, &mut children, depth, groups, steps)?;
+    node.settle(children, steps);
+    Ok(())
 }
 
 // The same, each by itself.
-fn give_each(node: &mut Node, alloc: Global, groups: &[Group]) -> Result<u64, AllocError>
+fn give_each<L: Ledger>(
+    node: &mut Node,
+    alloc: Global,
+    groups: &[Group],
+    steps: &mut Steps<L>,
+) -> Result<(), AllocError>
     requires node { IsNode node.old.depth node.old }
     requires shared { ShareAll node.old.depth node.old.leaves groups.now }
     ensures node { OnOk result (IsNode node.old.depth node.new) }
     ensures half { OnOk result (node.new.half ≡ node.old.half) }
     ensures groups { OnOk result ((k : List ℕ) → digest_at node.new.leaves k ≡ digest_after groups.now (digest_at node.old.leaves k) k) }
-    ensures made { IfOk result (λ n. n ≤ (64 - node.old.depth) * length groups.now) }
+    ensures counted { steps.new ≤ steps.old + (64 - node.old.depth) * length groups.now }
 {
-    let mut made: u64 = 0;
     for group in groups {
-        let more = node.put(alloc, group)?;
-        made = made.saturating_add(u64::from(more));
+        node.put(alloc, group, steps)?;
     }
-    Ok(made)
+    Ok(())
 }
 
-// Gives each of these groups its digest, under a node at this depth, and says how many digests of nodes were made.
+// Gives each of these groups its digest, under a node at this depth.
 #[cycle(give_all)]
-fn give_runs(
+fn give_runs<L: Ledger>(
     alloc: Global,
     children: &mut Vec<Node>,
     depth: u32,
     groups: &[Group],
-) -> Result<u64, AllocError>
+    steps: &mut Steps<L>,
+) -> Result<(), AllocError>
     requires fork { IsFork depth children.old.items }
     requires shared { ShareAll depth (leaves_of children.old.items) groups.now }
     ensures fork { OnOk result (IsFork depth children.new.items) }
     ensures groups { OnOk result ((k : List ℕ) → digest_at (leaves_of children.new.items) k ≡
         digest_after groups.now (digest_at (leaves_of children.old.items) k) k) }
-    ensures made { IfOk result (λ n. n ≤ (63 - depth) * length groups.now) }
+    ensures counted { steps.new ≤ steps.old + (63 - depth) * length groups.now }
 {
-    let mut made: u64 = 0;
     let mut rest = groups;
     while !rest.is_empty() {
         let (half, len) = first_run(rest, depth);
         let (run, others) = rest.split_at(len);
-        let more = give_run(alloc, children, depth, half, run)?;
-        made = made.saturating_add(more);
+        give_run(alloc, children, depth, half, run, steps)?;
         rest = others;
     }
-    Ok(made)
+    Ok(())
 }
 
 // The same, where the keys of all have this half byte.
 #[cycle(give_all)]
-fn give_run(
+fn give_run<L: Ledger>(
     alloc: Global,
     children: &mut Vec<Node>,
     depth: u32,
     half: u8,
     run: &[Group],
-) -> Result<u64, AllocError>
+    steps: &mut Steps<L>,
+) -> Result<(), AllocError>
     requires fork { IsFork depth children.old.items }
     requires shared { ShareAll depth (leaves_of children.old.items) run.now }
     requires half { AllGroups (λ k. half_of depth k ≡ half) run.now }
@@ -90,10 +100,10 @@ fn give_run(
     ensures fork { OnOk result (IsFork depth children.new.items) }
     ensures groups { OnOk result ((k : List ℕ) → digest_at (leaves_of children.new.items) k ≡
         digest_after run.now (digest_at (leaves_of children.old.items) k) k) }
-    ensures made { IfOk result (λ n. n ≤ (63 - depth) * length run.now) }
+    ensures counted { steps.new ≤ steps.old + (63 - depth) * length run.now }
 {
     let place = place_for(alloc, children, depth, half)?;
-    give_all(&mut children[place], alloc, run)
+    give_all(&mut children[place], alloc, run, steps)
 }
 
 // Where the node of a half byte stands, which is put there without groups where there was none.

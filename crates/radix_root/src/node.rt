@@ -10,10 +10,11 @@ ghost use Rattle.radix_root.specs.Holding.{IsHeld};
 use crate::digests::{NO_GROUP, fork_digest, half_at, known_length};
 use crate::group::Group;
 use crate::held::{Held, held_by};
-use calculus::Digest;
+use calculus::{Digest, Steps};
 use std::alloc::{AllocError, Global};
 use std::marker::Model;
 use std::mem;
+use std::sync::ledger::Ledger;
 
 /// The groups whose keys share their first half bytes.
 #[derive(Drop)]
@@ -117,14 +118,15 @@ impl Node {
         }
     }
 
-    /// Gives the group of this key this digest, and says how many digests of nodes were made.
+    /// Gives the group of this key this digest. Each digest of a node is one more step.
     #[cycle(set)]
-    pub(crate) fn set(
+    pub(crate) fn set<L: Ledger>(
         &mut self,
         alloc: Global,
         key: &Digest,
         digest: &Digest,
-    ) -> Result<u32, AllocError>
+        steps: &mut Steps<L>,
+    ) -> Result<(), AllocError>
         requires shared { AllShare self.old.depth key.now.0 self.old.leaves }
         requires sizes { (length key.now.0 ≡ 32) × (length digest.now.0 ≡ 32) }
         ensures node { OnOk result (IsNode self.old.depth self.new) }
@@ -132,34 +134,35 @@ impl Node {
         ensures groups { OnOk result ((k : List ℕ) → digest_at self.new.leaves k ≡
             cond (bytes_eq k key.now.0) digest.now.0 (digest_at self.old.leaves k)) }
         ensures err { OnErr result (self.new ≡ self.old) }
-        ensures made { IfOk result (λ n. n + self.old.depth ≤ 64) }
+        ensures counted { steps.new + self.old.depth ≤ steps.old + 64 }
     {
         if !self.children.is_empty() {
-            let made = set_below(alloc, &mut self.children, self.depth, key, digest)?;
-            let whole = fork_digest(self.children.as_slice());
+            set_below(alloc, &mut self.children, self.depth, key, digest, steps)?;
+            let whole = fork_digest(self.children.as_slice(), steps);
             self.digest = whole;
-            return Ok(made + 1);
+            return Ok(());
         }
         let current = self.key;
         match current {
-            Some(own) if own != *key => self.split(alloc, &own, key, digest),
+            Some(own) if own != *key => self.split(alloc, &own, key, digest, steps),
             _ => {
                 self.key = Some(*key);
                 self.digest = *digest;
-                Ok(0)
+                Ok(())
             }
         }
     }
 
     /// Makes a node of one group one of two groups, the other with this key and this digest.
     #[cycle(set)]
-    fn split(
+    fn split<L: Ledger>(
         &mut self,
         alloc: Global,
         own: &Digest,
         key: &Digest,
         digest: &Digest,
-    ) -> Result<u32, AllocError>
+        steps: &mut Steps<L>,
+    ) -> Result<(), AllocError>
         requires one { self.old.leaves ≡ (own.now.0, self.old.digest) ∷ [] }
         requires other { bytes_eq own.now.0 key.now.0 ≡ false }
         requires shared { AllShare self.old.depth key.now.0 self.old.leaves }
@@ -169,22 +172,22 @@ impl Node {
         ensures groups { OnOk result ((k : List ℕ) → digest_at self.new.leaves k ≡
             cond (bytes_eq k key.now.0) digest.now.0 (digest_at self.old.leaves k)) }
         ensures err { OnErr result (self.new ≡ self.old) }
-        ensures made { IfOk result (λ n. n + self.old.depth ≤ 64) }
+        ensures counted { steps.new + self.old.depth ≤ steps.old + 64 }
     {
         let mut children = forked(alloc, 2, self.depth, own, &self.digest)?;
-        let made = set_below(alloc, &mut children, self.depth, key, digest)?;
-        self.digest = fork_digest(children.as_slice());
+        set_below(alloc, &mut children, self.depth, key, digest, steps)?;
+        self.digest = fork_digest(children.as_slice(), steps);
         self.key = None;
         self.children = children;
-        Ok(made + 1)
+        Ok(())
     }
 
-    /// Takes the group of this key out, and says how many digests of nodes were made.
-    pub(crate) fn remove(&mut self, key: &Digest) -> u32
+    /// Takes the group of this key out. Each digest of a node is one more step.
+    pub(crate) fn remove<L: Ledger>(&mut self, key: &Digest, steps: &mut Steps<L>)
         ensures node { IsNode self.old.depth self.new }
         ensures half { self.new.half ≡ self.old.half }
         ensures groups { (k : List ℕ) → digest_at self.new.leaves k ≡ cond (bytes_eq k key.now.0) [] (digest_at self.old.leaves k) }
-        ensures made { result + self.old.depth ≤ 64 }
+        ensures counted { steps.new + self.old.depth ≤ steps.old + 64 }
     {
         if self.children.is_empty() {
             let current = self.key;
@@ -195,46 +198,52 @@ impl Node {
                 }
                 _ => {}
             }
-            return 0;
+            return;
         }
         let half = half_at(key, self.depth);
         let place = match place_of(self.children.as_slice(), half) {
             Some(place) => place,
-            None => return 0,
+            None => return,
         };
-        let made = self.children[place].remove(key);
+        self.children[place].remove(key, steps);
         match held_by(self.children.as_slice()) {
             Held::One(last, digest) => {
                 self.children.clear();
                 self.key = Some(last);
                 self.digest = digest;
-                made
             }
             Held::Several => {
-                self.digest = fork_digest(self.children.as_slice());
-                made + 1
+                self.digest = fork_digest(self.children.as_slice(), steps);
             }
             Held::Nothing => unreachable!(),
         }
     }
 
-    /// Gives a group its digest, or takes it out where it has none, and says how many digests of nodes were made.
-    pub(crate) fn put(&mut self, alloc: Global, group: &Group) -> Result<u32, AllocError>
+    /// Gives a group its digest, or takes it out where it has none. Each digest of a node is one more step.
+    pub(crate) fn put<L: Ledger>(
+        &mut self,
+        alloc: Global,
+        group: &Group,
+        steps: &mut Steps<L>,
+    ) -> Result<(), AllocError>
         requires shared { AllShare self.old.depth group.now.key.0 self.old.leaves }
         ensures node { OnOk result (IsNode self.old.depth self.new) }
         ensures half { self.new.half ≡ self.old.half }
         ensures groups { OnOk result ((k : List ℕ) → digest_at self.new.leaves k ≡
             cond (bytes_eq k group.now.key.0) (given group.now.digest) (digest_at self.old.leaves k)) }
-        ensures made { IfOk result (λ n. n + self.old.depth ≤ 64) }
+        ensures counted { steps.new + self.old.depth ≤ steps.old + 64 }
     {
         let found = group.digest;
         match found {
             Some(digest) => {
                 known_length(&group.key.0);
                 known_length(&digest.0);
-                self.set(alloc, &group.key, &digest)
+                self.set(alloc, &group.key, &digest, steps)
             }
-            None => Ok(self.remove(&group.key)),
+            None => {
+                self.remove(&group.key, steps);
+                Ok(())
+            }
         }
     }
 
@@ -258,32 +267,29 @@ impl Node {
         Ok(children)
     }
 
-    /// Puts these nodes under it, in place of what it holds, and says how many digests of nodes were made.
-    pub(crate) fn settle(&mut self, children: Vec<Node>) -> u64
+    /// Puts these nodes under it, in place of what it holds. The digest of several groups is one more step.
+    pub(crate) fn settle<L: Ledger>(&mut self, children: Vec<Node>, steps: &mut Steps<L>)
         requires { IsFork self.old.depth children.items }
         ensures node { IsNode self.old.depth self.new }
         ensures half { self.new.half ≡ self.old.half }
         ensures groups { (k : List ℕ) → digest_at self.new.leaves k ≡ digest_at (leaves_of children.items) k }
-        ensures made { result ≤ 1 }
+        ensures counted { steps.new ≤ steps.old + 1 }
     {
         match held_by(children.as_slice()) {
             Held::Nothing => {
                 self.children.clear();
                 self.key = None;
                 self.digest = NO_GROUP;
-                0
             }
             Held::One(last, digest) => {
                 self.children.clear();
                 self.key = Some(last);
                 self.digest = digest;
-                0
             }
             Held::Several => {
-                self.digest = fork_digest(children.as_slice());
+                self.digest = fork_digest(children.as_slice(), steps);
                 self.key = None;
                 self.children = children;
-                1
             }
         }
     }
@@ -341,13 +347,14 @@ fn forked(
 
 /// Gives the group of this key this digest, under a node at this depth.
 #[cycle(set)]
-fn set_below(
+fn set_below<L: Ledger>(
     alloc: Global,
     children: &mut Vec<Node>,
     depth: u32,
     key: &Digest,
     digest: &Digest,
-) -> Result<u32, AllocError>
+    steps: &mut Steps<L>,
+) -> Result<(), AllocError>
     requires fork { IsFork depth children.old.items }
     requires shared { AllShare depth key.now.0 (leaves_of children.old.items) }
     requires sizes { (length key.now.0 ≡ 32) × (length digest.now.0 ≡ 32) }
@@ -355,14 +362,14 @@ fn set_below(
     ensures groups { OnOk result ((k : List ℕ) → digest_at (leaves_of children.new.items) k ≡
         cond (bytes_eq k key.now.0) digest.now.0 (digest_at (leaves_of children.old.items) k)) }
     ensures err { OnErr result (children.new.items ≡ children.old.items) }
-    ensures made { IfOk result (λ n. n + (depth + 1) ≤ 64) }
+    ensures counted { steps.new + (depth + 1) ≤ steps.old + 64 }
 {
     let half = half_at(key, depth);
     match place_of(children.as_slice(), half) {
-        Some(place) => children[place].set(alloc, key, digest),
+        Some(place) => children[place].set(alloc, key, digest, steps),
         None => {
             children.push(Node::leaf(alloc, half, depth + 1, key, digest))?;
-            Ok(0)
+            Ok(())
         }
     }
 }

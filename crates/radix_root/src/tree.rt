@@ -1,4 +1,4 @@
-ghost use Rattle.std.specs.Prelude.{◌≡◌, ◌≤◌, ◌*◌, ℕ, List, [], length, map, IfOk, OnOk, OnErr};
+ghost use Rattle.std.specs.Prelude.{◌≡◌, ◌≤◌, ◌+◌, ◌*◌, ℕ, List, [], length, map, IfOk, OnOk, OnErr};
 ghost use Rattle.calculus.specs.Rows.{Row};
 ghost use Rattle.calculus.specs.Root.{root};
 ghost use Rattle.radix_root.specs.Leaves.{Keeps, changed, digest_at, groups_of};
@@ -8,9 +8,10 @@ use crate::digests::{known_length, leaf_digest, slices_of};
 use crate::group::Group;
 use crate::many::give_all;
 use crate::node::Node;
-use calculus::Digest;
+use calculus::{Digest, Steps};
 use std::alloc::{AllocError, Global};
 use std::marker::Model;
+use std::sync::ledger::Ledger;
 
 /// The groups of the rows of a state, by their keys, with the root of these rows.
 ///
@@ -57,46 +58,49 @@ impl RadixTree {
         self.root.digest()
     }
 
-    /// Makes these the codes of the rows of this key, and says how many digests of nodes were made. The codes ascend,
-    /// and where there are none, the key has no rows from then on.
+    /// Makes these the codes of the rows of this key. The codes ascend, and where there are none, the key has no rows
+    /// from then on. Each digest of a node that is made is one more step, and at most 65 are.
     ///
     /// The only error is want of memory, and the tree is then as it was.
-    pub fn change(
+    pub fn change<L: Ledger>(
         &mut self,
         alloc: Global,
         key: &Digest,
         rows: &[Vec<u8>],
-    ) -> Result<u32, AllocError>
+        steps: &mut Steps<L>,
+    ) -> Result<(), AllocError>
         ensures rows { OnOk result ((f : List ℕ → List (List ℕ)) → Keeps self.old f →
             Keeps self.new (changed f key.now.0 (map (λ r. r.items) rows.now))) }
         ensures err { OnErr result (self.new ≡ self.old) }
-        ensures made { IfOk result (λ n. n ≤ 65) }
+        ensures counted { steps.new ≤ steps.old + 65 }
     {
         if rows.is_empty() {
-            return Ok(self.root.remove(key));
+            self.root.remove(key, steps);
+            return Ok(());
         }
         known_length(&key.0);
         let codes = slices_of(alloc, rows)?;
-        let digest = leaf_digest(key, codes.as_slice());
-        let made = self.root.set(alloc, key, &digest)?;
-        Ok(made + 1)
+        let digest = leaf_digest(key, codes.as_slice(), steps);
+        self.root.set(alloc, key, &digest, steps)?;
+        Ok(())
     }
 
     /// The tree after these groups are given, one after another: each key has the digest that was given last, and none
-    /// where the group given last has none. And how many digests of nodes above the groups were made, at most 64 for
-    /// each group. Want of memory is the one error.
+    /// where the group given last has none. Each digest of a node above the groups is one more step, and at most 64 are
+    /// made for each group. Want of memory is the one error.
     ///
     /// Where groups ascend in their keys, the digest of each node above them is made once.
-    pub fn with_groups(
+    pub fn with_groups<L: Ledger>(
         self,
         alloc: Global,
         groups: &[Group],
-    ) -> Result<(RadixTree, u64), AllocError>
-        ensures groups { IfOk result (λ p. (k : List ℕ) → digest_at p.0 k ≡ digest_after groups.now (digest_at self k) k) }
-        ensures made { IfOk result (λ p. p.1 ≤ 64 * length groups.now) }
+        steps: &mut Steps<L>,
+    ) -> Result<RadixTree, AllocError>
+        ensures groups { IfOk result (λ t. (k : List ℕ) → digest_at t k ≡ digest_after groups.now (digest_at self k) k) }
+        ensures counted { steps.new ≤ steps.old + 64 * length groups.now }
     {
         let mut root = self.root;
-        let made = give_all(&mut root, alloc, groups)?;
-        Ok((RadixTree { root }, made))
+        give_all(&mut root, alloc, groups, steps)?;
+        Ok(RadixTree { root })
     }
 }

@@ -133,7 +133,7 @@ module _ (steps : ℕ) (p : Left) (play : IsLeftBySource [] (made_task steps) ma
           is = a;
         }
 
-    -- digests clash along some steps of its log
+    -- the digests of some replay of its log clash
     replay-clash : Clashes (deploy_under replay.header.limit (given_in replay.rows (made_task steps) replay.process)) l.steps → ShowsClash steps p.steps
     replay-clash c =
         inr (record {

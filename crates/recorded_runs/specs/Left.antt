@@ -17,7 +17,7 @@ use Rattle.run_status.specs.declared.status.Status.TheVariants.{Replay}
 use Rattle.sources.specs.Sources.{IsSourceOf}
 use Rattle.recorded_runs.specs.Made.{made_deploy, made_limit, made_log, made_replay, made_task}
 
--- digests are shown to clash in a play of the made input with these steps: along them, or along some steps of their log
+-- digests are shown to clash in a play of the made input with these steps: along them, or in some replay of their log
 abbrev pub ShowsClash : ℕ → List Step → Type 0
 ShowsClash steps ss = ((t : Tree) × (IsSourceOf (made_text steps) t × ShowsAClash (made_deploy steps t) ss)) ⊎ HasClash (made_replay steps ss)
 

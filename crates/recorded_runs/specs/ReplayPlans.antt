@@ -38,7 +38,7 @@ header_in r = header_of r.log.header
 abbrev pub steps_in : ReplayInputs → List Step
 steps_in r = map step_of r.log.steps.items
 
--- digests clash along some of the log's steps, which are legal in some order
+-- the digests of some replay of the log clash
 abbrev pub ClashIn : List Row → ReplayInputs → Type 0
 ClashIn rows r = Clashes (deploy_under (header_in r).limit (given_of rows r)) (steps_in r)
 

@@ -49,7 +49,7 @@ pub record IsAnswerTo (inputs : Task × List ℕ) (answer : Answer) : Type 0 whe
   pub read : AreReadAs inputs rows process header steps
   pub is : Answers (given_in rows inputs.0 process) header steps answer
 
--- the header of their log is right, and digests clash along some of its steps, which are legal in some order
+-- the header of their log is right, and the digests of some replay of it clash
 pub record HasClash (inputs : Task × List ℕ) : Type 0 where
   pub rows : List Row
   pub process : Tree

@@ -59,7 +59,7 @@ pub record IsLeftByRun (deploy : Deploy) (left : Left) : Type 0 where
   pub next_is : left.next ≡ state_text (next_rows deploy.rows (verdict deploy.prices deploy.limit state) state.bag)
   pub output_is : left.output ≡ printed (verdict deploy.prices deploy.limit state) state.output
 
--- an id of the rows that a deploy begins with is built in or made again along these steps, or two of the texts that it hashes with them have one digest
+-- an id of the rows that a deploy begins with is a built-in receiver's or made again along these steps, or two of the texts that it hashes with them have one digest
 abbrev pub ShowsAClash : Deploy → List Step → Type 0
 ShowsAClash deploy ss = ShowsAnId deploy ss ⊎ Collides deploy ss
 

@@ -1,24 +1,20 @@
 -- What a replay came to.
-use Rattle.std.specs.Prelude.{◌≡◌, ◌≢◌, ◌⊎◌, List, [], ◌++◌, Result, Ok, Err, IfSome, IsPermutation}
+use Rattle.std.specs.Prelude.{◌≡◌, ◌≢◌, List, [], Result, Ok, Err, IfSome, IsPermutation}
 use Rattle.calculus.specs.Log.{Step, Header}
-use Rattle.calculus.specs.Runs.{Deploy, State, Leads, done, made_digests}
-use Rattle.events.specs.Events.{built_in_digests}
-use Rattle.fresh_digests.specs.Premises.{Shares, Collides}
+use Rattle.calculus.specs.Runs.{Deploy, Work, source_seed, done}
+use Rattle.calculus.specs.Unfolding.{Unfolds}
+use Rattle.racing_replays.specs.Answering.{SomeClash}
 use Rattle.replays.specs.Replays.{Given, Outcome, refused, replayed, Answers}
 use Rattle.run_verdict.specs.View.{verdict_of}
 use Rattle.replay_faults.specs.Refusals.{refusal_of}
 use Rattle.replay_faults.specs.declared.fault.ReplayFault.{ReplayFault}
-use Rattle.replay_answers.specs.Bases.{ids_of}
 use Rattle.replay_answers.specs.declared.replayed.Replayed.{Replayed}
 
--- the digests along some of the steps of a log clash, which are legal in this order: a row of the checkpoint has an id that is built in or made there, or two of the texts that are hashed there have one digest
+-- the digests of a replay of a log clash: the source comes to this work, and from there some of the log's steps may be done, in an order that each row's uses allow, so that a row of the checkpoint has the id of a built-in receiver or one that is made there, or two of the texts that are hashed there have one digest
 pub record Clashes (deploy : Deploy) (ss : List Step) : Type 0 where
-  pub made : List Step
-  pub others : List Step
-  pub are : IsPermutation (made ++ others) ss
-  pub state : State
-  pub leads : Leads deploy made state
-  pub clash : Shares (ids_of deploy.rows) (built_in_digests ++ made_digests state) ⊎ Collides deploy made
+  pub source : Work
+  pub unfolds : Unfolds deploy.prices deploy.limit deploy.process (source_seed deploy) source
+  pub clash : SomeClash deploy source ss
 
 -- a replay came to the answer of its log: an outcome with this verdict, cost and output, whose rows are these, in any order, where it is done, and else the checkpoint's
 pub record IsReplayed (g : Given) (h : Header) (ss : List Step) (r : Replayed) : Type 0 where

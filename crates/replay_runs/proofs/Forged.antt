@@ -1,19 +1,19 @@
 -- Rows of which one has the id of a built-in receiver, or none.
 use Rattle.std.proofs.Common.{◌≡◌, ◌≤◌, ℕ, ◌+◌, Bool, true, false, ◌||◌, List, [], ◌∷◌, ◌++◌, refl, sym, ap, subst, ◌∙◌, arith, inl}
 use Rattle.std.specs.Str.{bytes_eq}
-use Rattle.calculus.proofs.Permutations.{unmoved}
 use Rattle.calculus.specs.Form.{IsClosed}
 use Rattle.calculus.specs.Log.{Step}
 use Rattle.calculus.specs.Rows.{Row, stdout, stdout_ack}
-use Rattle.calculus.specs.Runs.{source_seed, Deploy, begun, made_digests}
+use Rattle.calculus.specs.Runs.{source_seed, Deploy, made_digests}
 use Rattle.calculus.specs.Steps.{differ, is_one_of}
 use Rattle.calculus.proofs.Opened.{hashing}
-use Rattle.events.specs.Events.{first_ids, built_in_digests, built_in_names}
+use Rattle.events.specs.Events.{first_ids, built_in_ids}
 use Rattle.events.proofs.Counts.{ids, one_if, times, bytes_same, same_bytes, differ-distinct, distinct-differ}
-use Rattle.events.proofs.Legal.{leads-none}
 use Rattle.events.proofs.Standing.{built_ins, ids-times}
 use Rattle.fresh_digests.specs.Premises.{Shares}
 use Rattle.unfolding_laws.proofs.Closed.{each_process_unfolds}
+use Rattle.racing_replays.specs.Laws.{first_bag, state_of}
+use Rattle.racing_replays.specs.Replaying.{first_replay, none_yet, Replay}
 use Rattle.replay_answers.specs.Answers.{Clashes}
 use Rattle.replay_answers.specs.Bases.{ids_of}
 use Rattle.replay_runs.specs.Racing.{any_built_in_id, has_built_in_id}
@@ -22,9 +22,9 @@ or-true : (a b : Bool) → b ≡ true → a || b ≡ true
 or-true true b e = refl
 or-true false b e = e
 
--- an id that is built in is one of the built-in digests
-built-there : (x : List ℕ) (ys : List (List ℕ)) → bytes_eq x stdout.id || bytes_eq x stdout_ack.id ≡ true → is_one_of x (built_in_digests ++ ys) ≡ true
-built-there x ys e = go (bytes_eq x stdout.id) (bytes_eq x stdout_ack.id) (is_one_of x (built_in_names ++ ys)) e
+-- an id that is built in is one of the built-in receivers' ids
+built-there : (x : List ℕ) (ys : List (List ℕ)) → bytes_eq x stdout.id || bytes_eq x stdout_ack.id ≡ true → is_one_of x (built_in_ids ++ ys) ≡ true
+built-there x ys e = go (bytes_eq x stdout.id) (bytes_eq x stdout_ack.id) (is_one_of x ys) e
   where
     go : (a b c : Bool) → a || b ≡ true → a || (b || c) ≡ true
     go true b c e = refl
@@ -32,7 +32,7 @@ built-there x ys e = go (bytes_eq x stdout.id) (bytes_eq x stdout_ack.id) (is_on
     go false false c e = cc e
 
 -- so it is shown
-pub forged-shares : (rows : List Row) (ys : List (List ℕ)) → any_built_in_id rows ≡ true → Shares (ids_of rows) (built_in_digests ++ ys)
+pub forged-shares : (rows : List Row) (ys : List (List ℕ)) → any_built_in_id rows ≡ true → Shares (ids_of rows) (built_in_ids ++ ys)
 forged-shares [] ys e = cc e
 forged-shares (r ∷ rows) ys e = go (forged-shares rows ys) (has_built_in_id r) refl e
   where
@@ -42,7 +42,7 @@ forged-shares (r ∷ rows) ys e = go (forged-shares rows ys) (has_built_in_id r)
         own : (x : List ℕ) (xs : List (List ℕ)) → is_one_of x (x ∷ xs) ≡ true
         own x xs = ap (λ b. b || is_one_of x xs) (same_bytes x x refl)
 
-    go : (any_built_in_id rows ≡ true → Shares (ids_of rows) (built_in_digests ++ ys)) → (b : Bool) → has_built_in_id r ≡ b → b || any_built_in_id rows ≡ true → Shares (ids_of (r ∷ rows)) (built_in_digests ++ ys)
+    go : (any_built_in_id rows ≡ true → Shares (ids_of rows) (built_in_ids ++ ys)) → (b : Bool) → has_built_in_id r ≡ b → b || any_built_in_id rows ≡ true → Shares (ids_of (r ∷ rows)) (built_in_ids ++ ys)
     go next true f k = record { digest = r.id; among = self; too = built-there r.id ys f }
     go next false f k = let s = next k in record { digest = s.digest; among = or-true (bytes_eq s.digest r.id) (is_one_of s.digest (ids_of rows)) s.among; too = s.too }
 
@@ -50,14 +50,8 @@ forged-shares (r ∷ rows) ys e = go (forged-shares rows ys) (has_built_in_id r)
 pub forged-clash : (deploy : Deploy) (ss : List Step) → IsClosed deploy.process → any_built_in_id deploy.rows ≡ true → Clashes deploy ss
 forged-clash deploy ss c e =
     let u = each_process_unfolds deploy.prices deploy.limit deploy.process (source_seed deploy) c in
-    record {
-      made = [];
-      others = ss;
-      are = unmoved ss;
-      state = begun deploy.rows u.0;
-      leads = leads-none deploy u.0 u.1;
-      clash = inl (forged-shares deploy.rows (made_digests (begun deploy.rows u.0)) e);
-    }
+    let q : Replay = first_replay (first_bag deploy.rows u.0) in
+    record { source = u.0; unfolds = u.1; clash = (q, (none_yet, inl (forged-shares deploy.rows (made_digests (state_of u.0 q)) e))) }
 
 -- the built-in receivers have two ids
 two-ids : differ (ids built_ins) ≡ true

@@ -44,7 +44,7 @@ sound g h ss right storable ids closed numberable few bytes = record {
 abbrev did : Raced → List DidStep
 did r = did_by (map (entry_of (λ (q : Row). q) (λ (t : Tree). t)) r.entries.items)
 
--- what workers left, with a clash as one along steps of the log
+-- what workers left, with a clash as one of the log
 pub has-raced : (g : Given) (h : Header) (ss : List Step) (r : Raced) → IsRaced (deploy_under h.limit g) ss r → HasRaced g h ss r
 has-raced g h ss r x = record { work = x.work; price = x.price; fault = x.fault; decides = go x.decides }
   where

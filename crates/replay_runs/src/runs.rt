@@ -91,9 +91,8 @@ fn replay_steps<R: Threads + Wait + Sync, G: Gate + Sync>(
 /// its data differ, its receiver's binds match them in order, and its repeat number is how often it stands in the log before
 /// itself, and 0 unless no row leaves. Where all steps are made and the run is done, no step may be allowed.
 ///
-/// So the answer is that to the log, whatever the number of workers and whatever they did, or else the digests along some steps of
-/// the log clash that are legal in some order. Where a row of the base has a built-in receiver's id, which is such a clash, no step
-/// is made.
+/// So the answer is that to the log, whatever the number of workers and whatever they did, or else the digests of some replay of
+/// the log clash. Where a row of the base has a built-in receiver's id, which is such a clash, no step is made.
 pub fn replay<R: Threads + Wait + Sync, G: Gate + Sync>(
     rt: &R,
     alloc: Global,

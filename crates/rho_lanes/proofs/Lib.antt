@@ -1,2 +1,4 @@
 pub mod Lanes
 pub mod Ends
+pub mod ClassLanes
+pub mod Runs

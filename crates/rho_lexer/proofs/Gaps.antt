@@ -1,11 +1,14 @@
 -- Blanks and comments.
-use Rattle.std.proofs.Common.{◌≡◌, ◌<◌, ◌+◌, ℕ, zero, suc, true, false, List, [], ◌∷◌, length, drop, get_or, refl, ap, arith}
+use Rattle.std.proofs.Common.{◌≡◌, ◌≤◌, ◌<◌, ◌+◌, ℕ, zero, suc, true, false, List, [], ◌∷◌, length, drop, get_or, refl, ap, subst, arith}
 use Rattle.std.specs.Prelude.{Option, Some, None, nat_eq, codes}
-use Rattle.std.specs.List.{starts_with, position_or_len}
+use Rattle.std.specs.List.{starts_with, position_or_len, prefix_len}
+use Rattle.std.proofs.lemmas.List.Sums.{prefix_len-le-length, prefix_len_passes}
 use Rattle.tokens.specs.Bytes.{is_blank, line_feed}
 use Rattle.tokens.specs.Fronts.{place_of}
-use Rattle.tokens.specs.Reading.{step, token_step, gap, block_comment}
+use Rattle.tokens.specs.Reading.{Outcome, Reads, over_gap, step, token_step, gap, block_comment}
 use Rattle.tokens.specs.Token.{source}
+use Rattle.tokens.proofs.Within.{gap_within}
+use Rattle.rho_lexer.specs.Meaning.{AreGaps}
 
 -- the first place from which a text goes on with the needle
 pub place_some : (needle text : List ℕ) (n : ℕ) → n < length text → starts_with nat_eq (drop n text) needle ≡ true
@@ -50,3 +53,30 @@ pub no_gap_step : (at : ℕ) (text : List ℕ) → 0 < length text → is_blank 
 unfolding step
 no_gap_step at [] some e f g = absurd (omega arith)
 no_gap_step at (b ∷ bs) some e f g = rw (e, f, g) refl
+
+-- a gap alone
+pub one_gap : (at : ℕ) (text : List ℕ) (len : ℕ) → step source at text ≡ gap len → AreGaps at text len
+one_gap at text len e =
+    let there = gap_within source at text len e in
+    record { some = there.0; within = there.1; passed = λ o h. over_gap e h }
+
+over_blanks : (n at : ℕ) (text : List ℕ) → n ≤ length text → ((k : ℕ) → k < n → is_blank (get_or text k 0) ≡ true)
+    → (o : Outcome) → Reads source (at + n) (drop n text) o → Reads source at text o
+over_blanks zero at text within all o h = let here : at + 0 ≡ at = omega arith in subst (λ i. Reads source i text o) here h
+over_blanks (suc n) at [] within all o h = absurd (omega arith)
+over_blanks (suc n) at (b ∷ bs) within all o h =
+    let first = blank_step at (b ∷ bs) (omega arith) (all 0 (omega arith)) in
+    let next : at + suc n ≡ at + 1 + n = omega arith in
+    over_gap first (over_blanks n (at + 1) bs (omega arith) (λ k low. all (suc k) (omega arith)) o (subst (λ i. Reads source i (drop n bs) o) next h))
+
+some_blank : (text : List ℕ) → 0 < length text → is_blank (get_or text 0 0) ≡ true → 0 < prefix_len is_blank text
+some_blank [] some e = absurd (omega arith)
+some_blank (b ∷ bs) some e = rw e (omega arith)
+
+-- all blanks at the front
+pub blanks : (at : ℕ) (text : List ℕ) (n : ℕ) → n ≡ prefix_len is_blank text → 0 < length text → is_blank (get_or text 0 0) ≡ true → AreGaps at text n
+blanks at text n len some e = record {
+  some = omega (arith, some_blank text some e);
+  within = omega (arith, prefix_len-le-length is_blank text);
+  passed = over_blanks n at text (omega (arith, prefix_len-le-length is_blank text)) (λ k low. prefix_len_passes is_blank text k 0 (omega arith));
+}

@@ -3,10 +3,10 @@ use Rattle.std.proofs.Common.{◌≡◌, ◌≤◌, ◌<◌, ◌+◌, ◌-◌, �
 use Rattle.std.specs.Prelude.{Option, Some, None, IfSome, IsErrAnd, MatchResult}
 use Rattle.std.proofs.lemmas.List.{drop-drop}
 use Rattle.std.proofs.Math.Seq.{drop-length}
-use Rattle.tokens.specs.Reading.{Outcome, Reads, at_end, over_gap, over_token, refused, after_tokens, step, token_step, gap, takes, HasTokens, IsRefused}
+use Rattle.tokens.specs.Reading.{Outcome, Reads, at_end, over_token, refused, after_tokens, step, token_step, takes, HasTokens, IsRefused}
 use Rattle.tokens.specs.Token.{source, Token as Form, Spanned, Refusal, end_of_text, spanned}
 use Rattle.tokens.proofs.OneReading.{same_outcome}
-use Rattle.rho_lexer.specs.Meaning.{IsFault, IsGap, refusal_of}
+use Rattle.rho_lexer.specs.Meaning.{AreGaps, IsFault, IsGap, refusal_of}
 use Rattle.rho_lexer.specs.declared.token.LexFault.{LexFault}
 use Rattle.rho_lexer.specs.declared.token.LexFault.TheVariants as faults
 use Rattle.rho_lexer.proofs.Steps.{rest_is}
@@ -19,13 +19,13 @@ pub nothing_read : (text : List ℕ) → SoFar text 0 []
 nothing_read text (Ok more) h = h
 nothing_read text (Err r) h = h
 
--- over a gap
-pub over_a_gap : (text : List ℕ) (at len : ℕ) (tokens : List Spanned) → SoFar text at tokens → step source at (take (length text - at) (drop at text)) ≡ gap len
+-- over gaps
+pub over_gaps : (text : List ℕ) (at len : ℕ) (tokens : List Spanned) → SoFar text at tokens → AreGaps at (take (length text - at) (drop at text)) len
     → SoFar text (at + len) tokens
-over_a_gap text at len tokens h e o g =
-    let here : step source at (drop at text) ≡ gap len = ap (step source at) (sym (rest_is at text)) ∙ e in
+over_gaps text at len tokens h e o g =
+    let here : AreGaps at (drop at text) len = subst (λ bs. AreGaps at bs len) (rest_is at text) e in
     let cut : drop len (drop at text) ≡ drop (at + len) text = drop-drop len at text in
-    h o (over_gap here (subst (λ bs. Reads source (at + len) bs o) (sym cut) g))
+    h o (here.passed o (subst (λ bs. Reads source (at + len) bs o) (sym cut) g))
 
 both_after : (xs ys : List Spanned) (o : Outcome) → after_tokens xs (after_tokens ys o) ≡ after_tokens (xs ++ ys) o
 both_after xs ys (Ok more) = ap Ok (sym (append_assoc xs ys more))
@@ -61,9 +61,12 @@ refused_at text at tokens fault h e = by_fault fault (subst (λ bs. IsFault (ste
     by_fault faults.NoMemory g = tt
 
 -- what a gap's test says
-pub gap_some : (at : ℕ) (text : List ℕ) (o : Option ℕ) (len : ℕ) → IsGap at text (Ok o) → o ≡ Some len → step source at text ≡ gap len
+pub gap_some : (at : ℕ) (text : List ℕ) (o : Option ℕ) (len : ℕ) → IsGap at text (Ok o) → o ≡ Some len → AreGaps at text len
 gap_some at text None len h e = cc
-gap_some at text (Some m) len h e = h ∙ ap gap (cc)
+gap_some at text (Some m) len h e = let same : m ≡ len = cc in subst (AreGaps at text) same h
+
+pub gap_within : (at : ℕ) (text : List ℕ) (o : Option ℕ) (len : ℕ) → IsGap at text (Ok o) → o ≡ Some len → (0 < len) × (len ≤ length text)
+gap_within at text o len h e = let gaps = gap_some at text o len h e in (gaps.some, gaps.within)
 
 pub gap_none : (at : ℕ) (text : List ℕ) (o : Option ℕ) → IsGap at text (Ok o) → o ≡ None → step source at text ≡ token_step source at text
 gap_none at text None h e = h

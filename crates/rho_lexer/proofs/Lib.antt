@@ -1,4 +1,5 @@
 pub mod Ascii
+pub mod Classes
 pub mod Contents
 pub mod Escapes
 pub mod Faults

@@ -1,10 +1,10 @@
 -- What the tokens and faults of the lexer mean.
 use Rattle.std.specs.Str.{IsUtf8, IsValidUpTo}
-use Rattle.std.specs.Prelude.{◌≡◌, ℕ, ◌+◌, Bool, false, not, ◌&&◌, ◌==◌, if◌then◌else◌, List, [], ◌∷◌, map, string_bytes, Result, Ok, Err, Option, Some, None}
+use Rattle.std.specs.Prelude.{◌≡◌, ◌≤◌, ◌<◌, ℕ, ◌+◌, Bool, false, not, ◌&&◌, ◌==◌, if◌then◌else◌, List, [], ◌∷◌, length, drop, map, string_bytes, Result, Ok, Err, Option, Some, None}
 use Rattle.tokens.specs.Bytes.{is_word_start, is_word_byte, underscore, quote, back_quote, backslash}
 use Rattle.tokens.specs.Token as tokens
 use Rattle.tokens.specs.Token.{source, refusal}
-use Rattle.tokens.specs.Reading.{Step, gap, takes, refuses, step, token_step}
+use Rattle.tokens.specs.Reading.{Step, Outcome, Reads, takes, refuses, step, token_step}
 use Rattle.rho_lexer.specs.declared.token.Token.{Token}
 use Rattle.rho_lexer.specs.declared.token.TokenKind.{TokenKind}
 use Rattle.rho_lexer.specs.declared.token.TokenKind.TheVariants as kinds
@@ -56,11 +56,17 @@ begins_word [] = false
 begins_word (b ∷ []) = is_word_start b
 begins_word (b ∷ c ∷ bs) = if b == underscore then is_word_byte c else is_word_start b
 
--- the bytes of a gap that a text begins with at this place, where one does, or a fault, as the step
--- has them
+-- so many bytes at this place are gaps: what the text comes to behind them it comes to from here on
+pub record AreGaps (at : ℕ) (text : List ℕ) (len : ℕ) : Type 0 where
+  pub some : 0 < len
+  pub within : len ≤ length text
+  pub passed : (outcome : Outcome) → Reads source (at + len) (drop len text) outcome → Reads source at text outcome
+
+-- the bytes of gaps that a text begins with at this place, where one does, or a fault, as the step has
+-- them
 abbrev pub IsGap : ℕ → List ℕ → Result (Option ℕ) LexFault → Type 0
 IsGap at text (Ok None) = step source at text ≡ token_step source at text
-IsGap at text (Ok (Some len)) = step source at text ≡ gap len
+IsGap at text (Ok (Some len)) = AreGaps at text len
 IsGap at text (Err fault) = IsFault (step source at text) fault
 
 -- a byte that stands for itself in a string

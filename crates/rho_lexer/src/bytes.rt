@@ -5,6 +5,8 @@ ghost use Rattle.std.specs.Str.{bytes_eq};
 ghost use Rattle.tokens.specs.Bytes.{line_feed, is_blank, is_digit, is_word_start, is_word_byte};
 ghost use Rattle.tokens.specs.Tables.{keys, signs, is_among};
 
+use rho_lanes::{ByteClass, class_run};
+
 /// The keys.
 const KEYS: [&[u8]; 23] = [
     b"Nil",
@@ -67,28 +69,25 @@ pub fn is_word_byte(byte: u8) -> bool
     is_word_start(byte) || is_digit(byte) || byte == b'_'
 }
 
+/// How many bytes at the front are spaces, tabs, line feeds or carriage returns.
+pub fn blank_run(bytes: &[u8]) -> usize
+    ensures { result ≡ prefix_len is_blank bytes.now }
+{
+    class_run(bytes, 0, ByteClass::Space)
+}
+
 /// How many bytes at the front a word may go on with.
 pub fn word_run(bytes: &[u8]) -> usize
     ensures { result ≡ prefix_len is_word_byte bytes.now }
 {
-    for (i, byte) in bytes.iter().enumerate() {
-        if !is_word_byte(*byte) {
-            return i;
-        }
-    }
-    bytes.len()
+    class_run(bytes, 0, ByteClass::Word)
 }
 
 /// How many bytes at the front are digits.
 pub fn digit_run(bytes: &[u8]) -> usize
     ensures { result ≡ prefix_len is_digit bytes.now }
 {
-    for (i, byte) in bytes.iter().enumerate() {
-        if !is_digit(*byte) {
-            return i;
-        }
-    }
-    bytes.len()
+    class_run(bytes, 0, ByteClass::Digit)
 }
 
 fn contains(table: &[&[u8]], bytes: &[u8]) -> bool

@@ -5,7 +5,7 @@ ghost use Rattle.std.specs.Prelude.{◌≡◌, ◌==◌, ◌+◌, ◌<◌, ◌�
 ghost use Rattle.tokens.specs.Bytes.{line_feed};
 ghost use Rattle.tokens.specs.Fronts.{place_of};
 
-use crate::bytes::is_blank;
+use crate::bytes::{blank_run, is_blank};
 use crate::token::LexFault;
 
 /// How many bytes come before the first line feed, or all of them.
@@ -33,13 +33,13 @@ fn place_of(needle: &[u8], text: &[u8]) -> Option<usize>
     None
 }
 
-/// How many bytes the blank or comment takes that a text begins with, or `None` where neither does.
+/// How many bytes the blanks or the comment take that a text begins with, or `None` where neither does.
 pub fn gap(text: &[u8], at: usize) -> Result<Option<usize>, LexFault>
     requires { 0 < length text.now }
     ensures { IsGap at text.now result }
 {
     if is_blank(text[0]) {
-        return Ok(Some(1));
+        return Ok(Some(blank_run(text)));
     }
     if text.starts_with(b"//") {
         return Ok(Some(line_len(text)));

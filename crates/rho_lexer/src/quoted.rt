@@ -1,7 +1,7 @@
 //! Strings and Uris.
 ghost use Rattle.rho_lexer.specs.Meaning.{IsIllFormed, IsRead, IsRefusal, is_inside, is_plain};
 ghost use Rattle.std.specs.List.{prefix_len};
-ghost use Rattle.std.specs.Prelude.{◌≡◌, ◌+◌, ◌-◌, ◌<◌, ◌≤◌, ◌^◌, ◌∷◌, IfErr, IfOk, MatchResult, None, Some, length, slice_index};
+ghost use Rattle.std.specs.Prelude.{◌≡◌, ◌+◌, ◌-◌, ◌<◌, ◌≤◌, ◌^◌, ◌∷◌, ℕ, IfErr, IfOk, MatchResult, None, Some, length, slice_index, true};
 ghost use Rattle.std.specs.Str.{IsUtf8};
 ghost use Rattle.tokens.specs.Bytes.{back_quote, quote};
 ghost use Rattle.tokens.specs.Quoted.{after_backslash, begins_character, escaped};
@@ -9,20 +9,43 @@ ghost use Rattle.tokens.specs.Reading.{token_step};
 ghost use Rattle.tokens.specs.Token.{source};
 
 use crate::token::{LexFault, TokenKind};
+use rho_lanes::{ByteClass, class_run};
 use std::alloc::Global;
 use std::str;
+
+/// Whether the byte stands for itself in a string.
+fn is_plain(byte: u8) -> bool
+    ensures { result ≡ is_plain byte }
+{
+    byte != b'"' && byte != b'\\'
+}
+
+/// How many bytes from a plain one on are plain too: all up to the first beyond ASCII, or it alone.
+fn plain_piece(bytes: &[u8], from: usize) -> usize
+    requires inside { from < length bytes.now }
+    requires plain { is_plain (slice_index bytes.now from) ≡ true }
+    ensures some { 0 < result }
+    ensures within { from + result ≤ length bytes.now }
+    ensures each { (k : ℕ) → from ≤ k → k < from + result
+        → is_plain (slice_index bytes.now k) ≡ true }
+{
+    if bytes[from].is_ascii() {
+        class_run(bytes, from, ByteClass::Plain)
+    } else {
+        1
+    }
+}
 
 /// How many bytes at the front stand for themselves in a string.
 fn plain_run(bytes: &[u8]) -> usize
     ensures value { result ≡ prefix_len is_plain bytes.now }
     ensures within { result ≤ length bytes.now }
 {
-    for (i, byte) in bytes.iter().enumerate() {
-        if *byte == b'"' || *byte == b'\\' {
-            return i;
-        }
+    let mut len = 0;
+    while len < bytes.len() && is_plain(bytes[len]) {
+        len += plain_piece(bytes, len);
     }
-    bytes.len()
+    len
 }
 
 /// How many bytes at the front come before a back quote.

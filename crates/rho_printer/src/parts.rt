@@ -1,212 +1,125 @@
 // The texts of the parts of processes.
-ghost use Rattle.std.specs.Prelude.{◌≤◌, map, length, OnOk};
-ghost use Rattle.calculus.specs.Form.{part};
-ghost use Rattle.calculus.specs.Shape.{one, two, many};
-ghost use Rattle.calculus.specs.Tree.{row, dict, send, receive, new, match, bundle, unary, binary, method};
+ghost use Rattle.calculus.specs.Form.{part as a_part};
+ghost use Rattle.calculus.specs.Shape.{one};
+ghost use Rattle.calculus.specs.Tree.{unary};
 ghost use Rattle.rho_term.specs.Normal.{IsOrdered};
-ghost use Rattle.rho_term.specs.Parts.{part_tree, pair_tree, bind_tree, case_tree};
-ghost use Rattle.printed_leaves.specs.Texts.{Writes, WritesMembers};
+ghost use Rattle.rho_term.specs.Parts.{part_tree};
+ghost use Rattle.printed_leaves.specs.Texts.{Wrote, Writes};
 
 use crate::binds::{put_binds, put_cases};
-use crate::terms::{put_block, put_braced, put_name, put_operand, put_pairs, put_term, put_terms};
-use calculus::{BinaryOp, Kind, Origin, Rights, UnaryOp};
-use printed_leaves::{put_declared, put_ground, put_past, put_then};
-use printed_words::{
-    number_of, op_word, put, put_fresh, put_variable, rights_word, send_marks, tuple_end,
-};
-use rho_term::{Part, Term, TermBind, TermCase};
-use std::alloc::AllocError;
+use crate::terms::{put_name, put_operand, put_pairs, put_term, put_terms};
+use calculus::UnaryOp;
+use printed_leaves::Page;
+use printed_words::{number_of, op_word, rights_word, send_marks, tuple_end};
+use rho_term::{Part, Term};
 
 #[cycle(print)]
-pub(crate) fn put_part(out: &mut Vec<u8>, p: &Part, depth: usize) -> Result<(), AllocError>
-    requires room { depth ≤ length out.old.items }
-    requires ordered { IsOrdered (part_tree p.now) }
-    ensures text { OnOk result (Writes part (part_tree p.now) depth out.old.items out.new.items) }
-    ensures grows { OnOk result (length out.old.items ≤ length out.new.items) }
+pub(crate) fn put_part(page: &mut Page, part: &Part, depth: usize)
+    requires { IsOrdered (part_tree part.now) }
+    ensures { Wrote page.old page.new (Writes a_part (part_tree part.now) depth) }
 {
-    match p {
-        Part::Ground(g) => put_ground(out, g),
+    match part {
+        Part::Ground(value) => page.ground(value),
         Part::Fresh(name) => {
-            put(out, b"*")?;
-            put_fresh(out, name)
+            page.word(b"*");
+            page.fresh(name);
         }
-        Part::Var(i) => put_variable(out, number_of(depth, *i)),
-        Part::NameVar(i) => {
-            put(out, b"*")?;
-            put_variable(out, number_of(depth, *i))
+        Part::Var(index) => page.variable(number_of(depth, *index)),
+        Part::NameVar(index) => {
+            page.word(b"*");
+            page.variable(number_of(depth, *index));
         }
-        Part::List(members) => put_members(out, b"[", members, b"]", depth),
-        Part::Tuple(members) => put_members(out, b"(", members, tuple_end(members.len()), depth),
-        Part::Set(members) => put_members(out, b"Set(", members, b")", depth),
-        Part::Map(pairs) => put_map(out, pairs, depth),
+        Part::List(members) => {
+            page.word(b"[");
+            put_terms(page, members, depth);
+            page.word(b"]");
+        }
+        Part::Tuple(members) => {
+            page.word(b"(");
+            put_terms(page, members, depth);
+            page.word(tuple_end(members.len()));
+        }
+        Part::Set(members) => {
+            page.word(b"Set(");
+            put_terms(page, members, depth);
+            page.word(b")");
+        }
+        Part::Map(pairs) => {
+            page.word(b"{");
+            put_pairs(page, pairs, depth);
+            page.word(b"}");
+        }
         Part::Send {
             channel,
             args,
             persistent,
-        } => put_send(out, channel, args, *persistent, depth),
-        Part::Receive { kind, binds, body } => put_receive(out, *kind, binds, body, depth),
-        Part::New { names, body } => put_new(out, names, body, depth),
-        Part::Match { target, cases } => put_match(out, target, cases, depth),
-        Part::Bundle { rights, body } => put_bundle(out, *rights, body, depth),
-        Part::Unary { op, arg } => put_unary(out, *op, arg, depth),
-        Part::Binary { op, left, right } => put_binary(out, *op, left, right, depth),
-        Part::Method { name, target, args } => put_method(out, name.as_str(), target, args, depth),
+        } => {
+            put_name(page, channel, depth);
+            page.word(send_marks(*persistent));
+            put_terms(page, args, depth);
+            page.word(b")");
+        }
+        Part::Receive { kind, binds, body } => {
+            page.word(b"for (");
+            let inner = put_binds(page, *kind, binds, depth);
+            page.word(b") { ");
+            put_term(page, body, inner);
+            page.word(b" }");
+        }
+        Part::New { names, body } => {
+            page.word(b"new ");
+            let inner = page.declared(names, depth);
+            page.word(b" in { ");
+            put_term(page, body, inner);
+            page.word(b" }");
+        }
+        Part::Match { target, cases } => {
+            page.word(b"match (");
+            put_term(page, target, depth);
+            page.word(b") { ");
+            put_cases(page, cases, depth);
+            page.word(b" }");
+        }
+        Part::Bundle { rights, body } => {
+            page.word(rights_word(*rights));
+            page.word(b"{ ");
+            put_term(page, body, depth);
+            page.word(b" }");
+        }
+        Part::Unary { op, arg } => put_unary(page, *op, arg, depth),
+        Part::Binary { op, left, right } => {
+            page.word(b"(");
+            put_operand(page, left, depth);
+            page.word(op_word(*op));
+            put_operand(page, right, depth);
+            page.word(b")");
+        }
+        Part::Method { name, target, args } => {
+            page.word(b"(");
+            put_operand(page, target, depth);
+            page.word(b").");
+            page.word(name.as_bytes());
+            page.word(b"(");
+            put_terms(page, args, depth);
+            page.word(b")");
+        }
     }
 }
 
-// Members between two words.
 #[cycle(print)]
-fn put_members(
-    out: &mut Vec<u8>,
-    opening: &[u8],
-    members: &[Term],
-    closing: &[u8],
-    depth: usize,
-) -> Result<(), AllocError>
-    requires { depth ≤ length out.old.items }
-    ensures text { OnOk result (WritesMembers opening.now members.now closing.now depth out.old.items out.new.items) }
-    ensures grows { OnOk result (length out.old.items ≤ length out.new.items) }
-{
-    put(out, opening)?;
-    put_then(put_terms(out, members, depth), out, closing)
-}
-
-#[cycle(print)]
-fn put_map(out: &mut Vec<u8>, pairs: &[(Term, Term)], depth: usize) -> Result<(), AllocError>
-    requires room { depth ≤ length out.old.items }
-    requires ordered { IsOrdered (many dict (map pair_tree pairs.now)) }
-    ensures text { OnOk result (Writes part (many dict (map pair_tree pairs.now)) depth out.old.items out.new.items) }
-    ensures grows { OnOk result (length out.old.items ≤ length out.new.items) }
-{
-    put(out, b"{")?;
-    put_then(put_pairs(out, pairs, depth), out, b"}")
-}
-
-#[cycle(print)]
-fn put_send(
-    out: &mut Vec<u8>,
-    channel: &Term,
-    args: &[Term],
-    persistent: bool,
-    depth: usize,
-) -> Result<(), AllocError>
-    requires { depth ≤ length out.old.items }
-    ensures text { OnOk result (Writes part (two (send persistent) channel.now (many row args.now)) depth out.old.items out.new.items) }
-    ensures grows { OnOk result (length out.old.items ≤ length out.new.items) }
-{
-    put_then(put_name(out, channel, depth), out, send_marks(persistent))?;
-    put_then(put_terms(out, args, depth), out, b")")
-}
-
-#[cycle(print)]
-fn put_receive(
-    out: &mut Vec<u8>,
-    kind: Kind,
-    binds: &[TermBind],
-    body: &Term,
-    depth: usize,
-) -> Result<(), AllocError>
-    requires { depth ≤ length out.old.items }
-    ensures text { OnOk result (Writes part (two (receive kind) (many row (map bind_tree binds.now)) body.now) depth
-        out.old.items out.new.items) }
-    ensures grows { OnOk result (length out.old.items ≤ length out.new.items) }
-{
-    put(out, b"for (")?;
-    let inner = put_past(put_binds(out, kind, binds, depth), out, b") ")?;
-    put_block(out, body, inner)
-}
-
-#[cycle(print)]
-fn put_new(out: &mut Vec<u8>, names: &[Origin], body: &Term, depth: usize) -> Result<(), AllocError>
-    requires { depth ≤ length out.old.items }
-    ensures text { OnOk result (Writes part (one (new names.now) body.now) depth out.old.items out.new.items) }
-    ensures grows { OnOk result (length out.old.items ≤ length out.new.items) }
-{
-    put(out, b"new ")?;
-    let inner = put_past(put_declared(out, names, depth), out, b" in ")?;
-    put_block(out, body, inner)
-}
-
-#[cycle(print)]
-fn put_match(
-    out: &mut Vec<u8>,
-    target: &Term,
-    cases: &[TermCase],
-    depth: usize,
-) -> Result<(), AllocError>
-    requires { depth ≤ length out.old.items }
-    ensures text { OnOk result (Writes part (two match target.now (many row (map case_tree cases.now))) depth out.old.items out.new.items) }
-    ensures grows { OnOk result (length out.old.items ≤ length out.new.items) }
-{
-    put(out, b"match (")?;
-    put_then(put_term(out, target, depth), out, b") { ")?;
-    put_then(put_cases(out, cases, depth), out, b" }")
-}
-
-#[cycle(print)]
-fn put_bundle(
-    out: &mut Vec<u8>,
-    rights: Rights,
-    body: &Term,
-    depth: usize,
-) -> Result<(), AllocError>
-    requires { depth ≤ length out.old.items }
-    ensures text { OnOk result (Writes part (one (bundle rights) body.now) depth out.old.items out.new.items) }
-    ensures grows { OnOk result (length out.old.items ≤ length out.new.items) }
-{
-    put(out, rights_word(rights))?;
-    put_block(out, body, depth)
-}
-
-#[cycle(print)]
-fn put_unary(out: &mut Vec<u8>, op: UnaryOp, arg: &Term, depth: usize) -> Result<(), AllocError>
-    requires { depth ≤ length out.old.items }
-    ensures text { OnOk result (Writes part (one (unary op) arg.now) depth out.old.items out.new.items) }
-    ensures grows { OnOk result (length out.old.items ≤ length out.new.items) }
+fn put_unary(page: &mut Page, op: UnaryOp, arg: &Term, depth: usize)
+    ensures { Wrote page.old page.new (Writes a_part (one (unary op) arg.now) depth) }
 {
     match op {
         UnaryOp::Not => {
-            put(out, b"(not ")?;
-            put_then(put_operand(out, arg, depth), out, b")")
+            page.word(b"(not ");
+            put_operand(page, arg, depth);
+            page.word(b")");
         }
         UnaryOp::Neg => {
-            put(out, b"(-")?;
-            put_then(put_braced(out, arg, depth), out, b")")
+            page.word(b"(-{");
+            put_term(page, arg, depth);
+            page.word(b"})");
         }
     }
-}
-
-#[cycle(print)]
-fn put_binary(
-    out: &mut Vec<u8>,
-    op: BinaryOp,
-    left: &Term,
-    right: &Term,
-    depth: usize,
-) -> Result<(), AllocError>
-    requires { depth ≤ length out.old.items }
-    ensures text { OnOk result (Writes part (two (binary op) left.now right.now) depth out.old.items out.new.items) }
-    ensures grows { OnOk result (length out.old.items ≤ length out.new.items) }
-{
-    put(out, b"(")?;
-    put_then(put_operand(out, left, depth), out, op_word(op))?;
-    put_then(put_operand(out, right, depth), out, b")")
-}
-
-#[cycle(print)]
-fn put_method(
-    out: &mut Vec<u8>,
-    name: &str,
-    target: &Term,
-    args: &[Term],
-    depth: usize,
-) -> Result<(), AllocError>
-    requires { depth ≤ length out.old.items }
-    ensures text { OnOk result (Writes part (two (method name.now) target.now (many row args.now)) depth out.old.items out.new.items) }
-    ensures grows { OnOk result (length out.old.items ≤ length out.new.items) }
-{
-    put(out, b"(")?;
-    put_then(put_operand(out, target, depth), out, b").")?;
-    put_then(put(out, name.as_bytes()), out, b"(")?;
-    put_then(put_terms(out, args, depth), out, b")")
 }

@@ -4,6 +4,7 @@ ghost use Rattle.calculus.specs.Form.{IsClosed};
 ghost use Rattle.calculus.specs.Printed.{printed_text};
 
 use crate::terms::put_term;
+use printed_leaves::Page;
 use rho_term::Term;
 use std::alloc::{AllocError, Global};
 
@@ -16,7 +17,7 @@ use std::alloc::{AllocError, Global};
 pub fn print_term(alloc: Global, t: &Term) -> Result<Vec<u8>, AllocError>
     ensures { IfOk result (λ v. IsClosed t.now → v.items ≡ printed_text t.now) }
 {
-    let mut out = Vec::new(alloc);
-    put_term(&mut out, t, 0)?;
-    Ok(out)
+    let mut page = Page::new(alloc);
+    put_term(&mut page, t, 0);
+    page.text()
 }

@@ -90,7 +90,7 @@ rows-removed x (e ∷ es) s u = go (is_key x e.0) refl (rows-removed x es (sorte
         no : false ≡ true → ⊥
         no z = cc z
 
-module _ {S : Type 0} (sends receivers sends' receivers' : Index S) where
+module _ (sends receivers sends' receivers' : Index) where
   -- what is filed stays filed where its id stays in its groups
   pub still-filed : (e : List ℕ × Filed) → IsFiled sends receivers e → ((k : Vec ℕ Global) → HasId sends k.items e.1.row.id → HasId sends' k.items e.1.row.id) → ((k : Vec ℕ Global) → HasId receivers k.items e.1.row.id → HasId receivers' k.items e.1.row.id)
       → IsFiled sends' receivers' e
@@ -264,7 +264,7 @@ each-each f g [] = refl
 each-each f g (x ∷ xs) = ap (λ l. f (g x) ∷ l) (each-each f g xs)
 
 -- a row with the codes of its channels, in whose groups its id is
-pub new-filed : {S : Type 0} (sends receivers : Index S) (x : List ℕ) (f : Filed) → x ≡ f.row.id → IsStorable f.row → each (λ k. k.items) f.keys.items ≡ each code (channels f.row.part)
+pub new-filed : (sends receivers : Index) (x : List ℕ) (f : Filed) → x ≡ f.row.id → IsStorable f.row → each (λ k. k.items) f.keys.items ≡ each code (channels f.row.part)
     → ((k : Vec ℕ Global) → IsIn k f.keys.items → HasId (cond (is_send f.row) sends receivers) k.items x) → AreCounted f.row f.counted → IsFiled sends receivers (x, f)
 new-filed sends receivers x f e s k h n = record {
   id = e;

@@ -43,7 +43,7 @@ looked-up-found rows r (x ∷ xs) e h = go (looked-up-found rows r xs e) (bytes_
 abbrev pub AreUnderIds : List (List ℕ × Filed) → Type 0
 AreUnderIds es = AllByRecursion (λ e. e.0 ≡ e.1.row.id) es
 
-pub under-ids : {S : Type 0} (sends receivers : Index S) (es : List (List ℕ × Filed)) → AllByRecursion (IsFiled sends receivers) es → AreUnderIds es
+pub under-ids : (sends receivers : Index) (es : List (List ℕ × Filed)) → AllByRecursion (IsFiled sends receivers) es → AreUnderIds es
 under-ids sends receivers [] h = tt
 under-ids sends receivers (e ∷ es) h = (h.0.id, under-ids sends receivers es h.1)
 
@@ -86,7 +86,7 @@ and-both : (a b : Bool) → a && b ≡ true → (a ≡ true) × (b ≡ true)
 and-both true b e = (refl, e)
 and-both false b e = cc e
 
-module _ {S : Type 0} (rows : List (List ℕ × Filed)) (sends receivers : Index S) (shards : ShardCounts) (t : IsTable rows sends receivers shards) (tells : (r : Row) → Among r (rows_in rows) → row_with r.id (rows_in rows) ≡ Some r) where
+module _ (rows : List (List ℕ × Filed)) (sends receivers : Index) (shards : ShardCounts) (t : IsTable rows sends receivers shards) (tells : (r : Row) → Among r (rows_in rows) → row_with r.id (rows_in rows) ≡ Some r) where
   -- the entry of a row
   entry-of : (es : List (List ℕ × Filed)) → AllByRecursion (IsFiled sends receivers) es → (r : Row) → Among r (rows_in es) → (e : List ℕ × Filed) × IsFiled sends receivers e × (e.1.row ≡ r)
   entry-of [] h r a = absurd a
@@ -104,15 +104,15 @@ module _ {S : Type 0} (rows : List (List ℕ × Filed)) (sends receivers : Index
       subst (λ z. HasId (cond (is_send e.0.1.row) sends receivers) z e.0.1.row.id) (q.2 ∙ sym d.2) (e.1.found q.0 q.1))
       h
 
-  pub sends-found : (c : Tree) → Ready term c → HasSends (rows_in rows) c (each (λ d. d.0) (group sends (code c)))
+  pub sends-found : (c : Tree) → Ready term c → HasSends (rows_in rows) c (group sends (code c))
   sends-found c k r a h =
       let s = and-both (is_some (as_datum r.part)) (is_one_channel c (channels r.part)) h in
-      looked-up-found (rows_in rows) r (each (λ d. d.0) (group sends (code c))) (tells r a) (subst (λ b. HasId (cond b sends receivers) (code c) r.id) s.0 (in-group c k r a s.1))
+      looked-up-found (rows_in rows) r (group sends (code c)) (tells r a) (subst (λ b. HasId (cond b sends receivers) (code c) r.id) s.0 (in-group c k r a s.1))
 
-  pub receivers-found : (c : Tree) → Ready term c → HasReceivers (rows_in rows) c (each (λ d. d.0) (group receivers (code c)))
+  pub receivers-found : (c : Tree) → Ready term c → HasReceivers (rows_in rows) c (group receivers (code c))
   receivers-found c k r a h =
       let s = and-both (is_some (as_receiver r.part)) (is_one_channel c (channels r.part)) h in
-      looked-up-found (rows_in rows) r (each (λ d. d.0) (group receivers (code c))) (tells r a)
+      looked-up-found (rows_in rows) r (group receivers (code c)) (tells r a)
       (subst (λ b. HasId (cond b sends receivers) (code c) r.id) (no-datum r.part s.0) (in-group c k r a s.1))
     where
       no-datum : (u : Tree) → is_some (as_receiver u) ≡ true → is_some (as_datum u) ≡ false

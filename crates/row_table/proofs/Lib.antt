@@ -1,3 +1,4 @@
+pub mod Standing
 pub mod Grouping
 pub mod Filing
 pub mod Changing

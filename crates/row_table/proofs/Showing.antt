@@ -118,7 +118,7 @@ module _ (c : Tree) (ready : Ready term c) (k : ℕ) where
         ap (λ b. is_one_channel c (channels r.part) && b) (o.1 k lt) ∙ sym (ap (λ b. (b && is_one_channel c (channels r.part)) && stands_in k r) o.0)
 
     -- what all filed rows are counted for
-    pub rows-shown : {S : Type 0} (sends receivers : Index S) (es : List (List ℕ × Filed)) → AllByRecursion (IsFiled sends receivers) es → not (eqb (total es (code c) k) 0) ≡ heard_on (rows_in es) c k
+    pub rows-shown : (sends receivers : Index) (es : List (List ℕ × Filed)) → AllByRecursion (IsFiled sends receivers) es → not (eqb (total es (code c) k) 0) ≡ heard_on (rows_in es) c k
     rows-shown sends receivers [] h = refl
     rows-shown sends receivers (e ∷ es) h =
         let r = e.1.row in

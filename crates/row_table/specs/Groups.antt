@@ -1,12 +1,10 @@
 -- Ids in groups, each found by its key.
-use Rattle.std.specs.Prelude.{◌≡◌, ◌≢◌, ℕ, Bool, true, List, [], map as each, Option, Some, None, is_some}
+use Rattle.std.specs.Prelude.{◌≡◌, ◌≢◌, ℕ, Bool, true, List, [], Option, Some, None, is_some}
 use Rattle.std.specs.Map.{lookup}
 use Rattle.std.specs.Ordering.{nat_cmp, is_eq}
 use Rattle.std.specs.Cmp.Lexicographic.{slice_cmp}
-use Rattle.std.specs.HashSet.{HashSet}
 use Rattle.std.specs.declared.alloc.Global.{Global}
 use Rattle.std.specs.declared.vec.Vec.{Vec}
-use Rattle.calculus.specs.declared.ids.Digest.{Digest}
 use Rattle.calculus.specs.Rows.{Row}
 use Rattle.calculus.specs.Steps.{as_datum, is_one_of}
 use Rattle.row_search.specs.Rows.{IsIn}
@@ -19,31 +17,31 @@ is_send r = is_some (as_datum r.part)
 abbrev pub is_key : List ℕ → List ℕ → Bool
 is_key k q = is_eq (slice_cmp nat_cmp k q)
 
--- the ids of a set, where there is one
-abbrev pub ids_in : {S : Type 0} → Option (HashSet Digest S) → List Digest
+-- the ids of a group, where there is one
+abbrev pub ids_in : Option (List (List ℕ)) → List (List ℕ)
 ids_in None = []
-ids_in (Some s) = s.keys
+ids_in (Some xs) = xs
 
 -- groups by their keys
-abbrev pub Index : Type 0 → Type 0
-Index S = List (Vec ℕ Global × HashSet Digest S)
+abbrev pub Index : Type 0
+Index = List (Vec ℕ Global × List (List ℕ))
 
 -- the ids of the group with this key
-abbrev pub group : {S : Type 0} → Index S → List ℕ → List Digest
+abbrev pub group : Index → List ℕ → List (List ℕ)
 group es k = ids_in (lookup (λ (q : Vec ℕ Global). is_key k q.items) es)
 
 -- the group with this key has an id
-abbrev pub HasId : {S : Type 0} → Index S → List ℕ → List ℕ → Type 0
-HasId es k x = is_one_of x (each (λ d. d.0) (group es k)) ≡ true
+abbrev pub HasId : Index → List ℕ → List ℕ → Type 0
+HasId es k x = is_one_of x (group es k) ≡ true
 
 -- each group keeps its ids
-abbrev pub KeepIds : {S : Type 0} → Index S → Index S → Type 0
+abbrev pub KeepIds : Index → Index → Type 0
 KeepIds old new = (k : Vec ℕ Global) (x : List ℕ) → HasId old k.items x → HasId new k.items x
 
 -- each group keeps its ids but this one
-abbrev pub KeepIdsBut : {S : Type 0} → List ℕ → Index S → Index S → Type 0
+abbrev pub KeepIdsBut : List ℕ → Index → Index → Type 0
 KeepIdsBut id old new = (k : Vec ℕ Global) (x : List ℕ) → x ≢ id → HasId old k.items x → HasId new k.items x
 
 -- each group with one of these keys has this id
-abbrev pub HaveId : {S : Type 0} → List (Vec ℕ Global) → Index S → List ℕ → Type 0
+abbrev pub HaveId : List (Vec ℕ Global) → Index → List ℕ → Type 0
 HaveId keys es id = (k : Vec ℕ Global) → IsIn k keys → HasId es k.items id

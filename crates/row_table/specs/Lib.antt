@@ -1,3 +1,4 @@
+pub mod Ids
 pub mod Groups
 pub mod Tables
 pub mod Shown

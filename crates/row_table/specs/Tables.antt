@@ -23,7 +23,7 @@ abbrev pub rows_in : List (List ℕ × Filed) → List Row
 rows_in es = each (λ e. e.1.row) es
 
 -- a row, which may be stored, stands under its id, with the codes of its channels as keys, and each of their groups has its id: those of sends for a send, and else those of receivers; and the shards are known that it is counted for
-pub record IsFiled {S : Type 0} (sends receivers : Index S) (e : List ℕ × Filed) : Type 0 where
+pub record IsFiled (sends receivers : Index) (e : List ℕ × Filed) : Type 0 where
   pub id : e.0 ≡ e.1.row.id
   pub storable : IsStorable e.1.row
   pub keys : each (λ k. k.items) e.1.keys.items ≡ each code (channels e.1.row.part)
@@ -36,7 +36,7 @@ total [] k s = 0
 total (e ∷ es) k s = added e.1.keys.items e.1.counted k s + total es k s
 
 -- each row is filed and counted, and no two have one id
-pub record IsTable {S : Type 0} (rows : List (List ℕ × Filed)) (sends receivers : Index S) (shards : ShardCounts) : Type 0 where
+pub record IsTable (rows : List (List ℕ × Filed)) (sends receivers : Index) (shards : ShardCounts) : Type 0 where
   pub ordered : IsStrictlySortedBy (slice_cmp nat_cmp) (keys_of rows)
   pub filed : AllByRecursion (IsFiled sends receivers) rows
   pub counted : (k : Vec ℕ Global) (s : ℕ) → s < 64 → count_of shards k.items s ≡ total rows k.items s

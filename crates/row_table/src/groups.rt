@@ -2,19 +2,20 @@
 ghost use Rattle.std.specs.Prelude.{◌≡◌, [], true, false, cond, IfOk, OnOk};
 ghost use Rattle.std.specs.declared.alloc.Global.{Global};
 ghost use Rattle.row_table.specs.Groups.{group, HasId, HaveId, KeepIds, KeepIdsBut};
+ghost use Rattle.row_table.specs.Ids.{bytes_of};
 
+use crate::ids::Ids;
 use calculus::Digest;
-use indexmap::IndexSet;
 use shard_counts::Key;
 use std::alloc::{AllocError, Global};
 use std::collections::BTreeMap;
 
 /// Groups of ids by their keys; none is empty.
-pub(crate) type Groups = BTreeMap<Key, IndexSet<Digest>>;
+pub(crate) type Groups = BTreeMap<Key, Ids>;
 
 /// The ids of the group with this key.
 pub(crate) fn ids_of<'a>(groups: &'a Groups, key: &Key) -> &'a [Digest]
-    ensures { result.now ≡ group groups.now.entries key.now.items }
+    ensures { bytes_of result.now ≡ group groups.now.entries key.now.items }
 {
     match groups.get(key) {
         Some(ids) => ids.as_slice(),
@@ -45,7 +46,7 @@ fn add_group(alloc: Global, groups: &mut Groups, key: Key, id: Digest) -> Result
     ensures there { OnOk result (HasId groups.new.entries key.items id.0) }
     ensures kept { KeepIds groups.old.entries groups.new.entries }
 {
-    let mut ids = IndexSet::new(alloc);
+    let mut ids = Ids::new(alloc);
     ids.insert(id)?;
     groups.insert(key, ids)?;
     Ok(())
@@ -101,7 +102,7 @@ fn drop_id(groups: &mut Groups, key: &Key, id: &Digest) -> bool
 {
     match groups.get_mut(key) {
         Some(ids) => {
-            ids.swap_remove(id);
+            ids.remove(id);
             ids.is_empty()
         }
         None => false,

@@ -5,6 +5,7 @@
 #![tactic(auto)]
 
 mod groups;
+mod ids;
 mod keys;
 pub mod table;
 

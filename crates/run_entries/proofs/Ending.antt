@@ -5,7 +5,7 @@ use Rattle.std.proofs.lemmas.List.Sums.{sum_by-cons}
 use Rattle.calculus.specs.Log.{Step}
 use Rattle.calculus.specs.Steps.{differ, stored_rows}
 use Rattle.calculus.specs.Runs.{deploy_of, Deploy, Work, work_price, work_fault, Leads, total, Verdict, exhausted, done, faulted, fault_verdict, at_fault, verdict, next_rows, IsRun, made_digests}
-use Rattle.events.specs.Events.{AreFresh, built_in_digests}
+use Rattle.events.specs.Events.{AreFresh, built_in_ids}
 use Rattle.events.specs.Laws.{Follows}
 use Rattle.events.proofs.Counts.{ids}
 use Rattle.events.proofs.Ending.{ended_events_are_a_run}
@@ -94,7 +94,7 @@ module _ (deploy : Deploy) (source : Work) where
         leads : Leads deploy (steps_of es) h.kept.state
         leads = subst (λ ss. Leads deploy ss h.kept.state) h.made h.kept.leads
 
-        go : AreFresh deploy (steps_of es) ⊎ (Shares (ids deploy.rows) (built_in_digests ++ made_digests h.kept.state) ⊎ Collides deploy (steps_of es)) → AreFresh deploy space.made ⊎ Fails (steps_of es)
+        go : AreFresh deploy (steps_of es) ⊎ (Shares (ids deploy.rows) (built_in_ids ++ made_digests h.kept.state) ⊎ Collides deploy (steps_of es)) → AreFresh deploy space.made ⊎ Fails (steps_of es)
         go (inl f) = inl (subst (AreFresh deploy) (sym h.made) f)
         go (inr (inl s)) = inr (inl (record { first = steps_of es; rest = []; is = sym (append-nil (steps_of es)); state = h.kept.state; leads = leads; shares = s }))
         go (inr (inr c)) = inr (inr c)

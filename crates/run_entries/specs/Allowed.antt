@@ -5,7 +5,7 @@ use Rattle.calculus.specs.Rows.{Row, stdout, stdout_ack}
 use Rattle.calculus.specs.Unfolding.{rows_of}
 use Rattle.calculus.specs.Steps.{Meeting, differ, stored_rows}
 use Rattle.calculus.specs.Runs.{Deploy, Work, work_products, work_price, work_fault, body_work, State, Leads, total, done, verdict, cost, next_rows, IsRun, made_digests}
-use Rattle.events.specs.Events.{Core, started, Event, Events, AreFresh, built_in_digests}
+use Rattle.events.specs.Events.{Core, started, Event, Events, AreFresh, built_in_ids}
 use Rattle.events.specs.Found.{met, Among, AreAtHand, leaving_rows, printed_by, step_of}
 use Rattle.events.specs.Laws.{Begins}
 use Rattle.fresh_digests.specs.Premises.{Shares}
@@ -103,11 +103,11 @@ pub record ComesTo (deploy : Deploy) (source : Work) (entries : List Entry) (spa
   pub ends : (space.pending ≡ []) ⊎ (verdict_of deploy source entries ≢ done) → IsRun deploy (steps_of entries) state
   pub leaves : (space.pending ≡ []) ⊎ (verdict_of deploy source entries ≢ done) → IsPermutation (next_rows deploy.rows (verdict_of deploy source entries) state.bag) (left_rows deploy (verdict_of deploy source entries) space)
 
--- the first of these steps lead to a state in which an id of the checkpoint is built in or made again
+-- the first of these steps lead to a state in which an id of the checkpoint is a built-in receiver's or made again
 pub record ShowsAnId (deploy : Deploy) (ss : List Step) : Type 0 where
   pub first : List Step
   pub rest : List Step
   pub is : ss ≡ first ++ rest
   pub state : State
   pub leads : Leads deploy first state
-  pub shares : Shares (each (λ r. r.id) deploy.rows) (built_in_digests ++ made_digests state)
+  pub shares : Shares (each (λ r. r.id) deploy.rows) (built_in_ids ++ made_digests state)

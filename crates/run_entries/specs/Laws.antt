@@ -111,7 +111,7 @@ AllowedEntriesAreARunOrCollide = (p : Prices) (cap : ℕ) (t : Tree) (digest : L
     → AreAllowed (deploy_of p cap [] t digest) source entries space → FitsInTexts (deploy_of p cap [] t digest) (steps_of entries)
     → ComesTo (deploy_of p cap [] t digest) source entries space ⊎ Collides (deploy_of p cap [] t digest) (steps_of entries)
 
--- from a checkpoint of rows whose ids differ: what they come to, or a row's id is built in or made again, or texts collide
+-- from a checkpoint of rows whose ids differ: what they come to, or a row's id is a built-in receiver's or made again, or texts collide
 abbrev pub AllowedEntriesAreARunOrShowAnId : Type 0
 AllowedEntriesAreARunOrShowAnId = (deploy : Deploy) (source : Work) (entries : List Entry) (space : Space)
     → AreAllowed deploy source entries space → FitsInTexts deploy (steps_of entries) → differ (each (λ r. r.id) deploy.rows) ≡ true

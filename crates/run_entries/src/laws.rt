@@ -87,7 +87,7 @@ pub fn allowed_entries_are_a_run_or_collide()
     ensures law { AllowedEntriesAreARunOrCollide }
 {}
 
-/// From a checkpoint they do so too, or a row's id is built in or made again, or texts collide.
+/// From a checkpoint they do so too, or a row's id is a built-in receiver's or made again, or texts collide.
 pub fn allowed_entries_are_a_run_or_show_an_id()
     ensures law { AllowedEntriesAreARunOrShowAnId }
 {}

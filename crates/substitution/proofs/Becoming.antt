@@ -130,9 +130,9 @@ new-becomes F n a b e t u m f g =
     subst (λ x. Becomes F n (one (new a) t) (one (new x) u)) (sym e) (one-bind F n (new a) tt refl t u (length a) (length-map a (λ o. a_name)) m f g)
 
 -- a whole process and a whole pattern, from what their parts become
-pub process-becomes : (F : Change) (n : ℕ) (ts us ws : List Tree) (t u : Tree) → t ≡ many par ts → u ≡ many par ws → ws ≡ ascending us → AllBecome F n ts us → Becomes F n t u
-process-becomes F n ts us ws t u e f o a =
-    subst (λ x. Becomes F n x u) (sym e) (subst (Becomes F n (many par ts)) (sym f) (bag F n par (tt, λ xs. refl) refl ts us ws a o))
+pub process-becomes : (F : Change) (n : ℕ) (ts us : List Tree) (t u : Tree) → t ≡ many par ts → u ≡ many par (ascending us) → AllBecome F n ts us → Becomes F n t u
+process-becomes F n ts us t u e f a =
+    subst (λ x. Becomes F n x u) (sym e) (subst (Becomes F n (many par ts)) (sym f) (bag F n par (tt, λ xs. refl) refl ts us (ascending us) a refl))
 
 pub pattern-becomes : (F : Change) (n : ℕ) (ts us : List Tree) (t u : Tree) → t ≡ many pattern ts → u ≡ many pattern us → AllBecome F n ts us → Becomes F n t u
 pattern-becomes F n ts us t u e f a =

@@ -1,175 +1,107 @@
--- What forms of constituents that were made, or not, become.
-use Rattle.std.proofs.Common.{Result, Ok, Err, ◌≡◌, ℕ, ◌+◌, ◌<◌, ◌≤◌, ◌^◌, false, true, Bool, List, [], ◌∷◌, ◌++◌, length, get_or, drop, map, All, refl, ap, sym, ◌∙◌, subst, append_assoc, append-nil}
-use Rattle.std.specs.Prelude.{IfOk, IsOkAnd, OnOk, Vec, String}
-use Rattle.std.specs.declared.alloc.Global.{Global}
+-- What is made of forms one after another, where memory was never wanting.
+use Rattle.std.proofs.Common.{Result, Ok, Err, ◌≡◌, ℕ, ◌+◌, ◌<◌, ◌≤◌, ◌^◌, false, true, Bool, List, [], ◌∷◌, ◌++◌, length, get_or, drop, map, All, refl, ap, sym, ◌∙◌, subst, append_assoc, append-nil, arith}
+use Rattle.std.specs.Prelude.{IfOk}
 use Rattle.std.proofs.lemmas.List.{drop_more, drop_all, map-append}
-use Rattle.calculus.specs.declared.plain.Origin.{Origin}
-use Rattle.calculus.specs.declared.plain.Kind.{Kind}
-use Rattle.calculus.specs.declared.plain.Rights.{Rights}
-use Rattle.calculus.specs.declared.plain.UnaryOp.{UnaryOp}
-use Rattle.calculus.specs.declared.plain.BinaryOp.{BinaryOp}
-use Rattle.calculus.specs.Tree.{Label, row, method, new, fresh, Tree, trees, Trees}
-use Rattle.calculus.specs.Shape.{one, two, three, many}
+use Rattle.calculus.specs.Tree.{Label, Tree}
+use Rattle.calculus.specs.Shape.{many}
 use Rattle.calculus.specs.Congruence.{is_bag}
 use Rattle.calculus.specs.Normal.{ascending}
-use Rattle.calculus.specs.Variables.{bound_all, binders}
 use Rattle.calculus.specs.Substitution.{Change}
 use Rattle.rho_term.specs.Normal.{IsOrdered}
-use Rattle.rho_term.specs.Parts.{part_tree}
-use Rattle.rho_term.specs.Sizes.{in_u64}
+use Rattle.rho_term.specs.Parts.{part_tree, pat_part_tree}
 use Rattle.rho_term.specs.declared.term.Part.{Part}
-use Rattle.rho_term.specs.declared.term.Part.TheVariants as part
-use Rattle.rho_term.specs.declared.term.TermBind.{TermBind}
-use Rattle.rho_term.specs.declared.term.TermCase.{TermCase}
+use Rattle.rho_term.specs.declared.term.PatPart.{PatPart}
+use Rattle.rho_term.specs.declared.term.PatPart.TheVariants as pat
 use Rattle.code_order.proofs.Made.{push-ordered}
-use Rattle.term_bounds.specs.Bound.{bound_counts}
-use Rattle.term_bounds.specs.Filled.{filled, all_filled, IsFormLabel, IsForm}
+use Rattle.term_bounds.specs.Filled.{filled, all_filled, IsForm}
 use Rattle.term_bounds.proofs.Filling.{IsFlat}
-use Rattle.substitution.specs.Becoming.{Becomes, AllBecome, Adds}
-use Rattle.substitution.proofs.Becoming.{bag, rows, two-becomes, three-becomes, two-bind, new-becomes, method-becomes, leaf-becomes, ground-becomes, becomes-ordered}
+use Rattle.substitution.specs.Becoming.{Becomes, AllBecome, BecomeWith, Adds, Grows, Joins}
+use Rattle.substitution.proofs.Becoming.{bag, becomes-ordered}
 
--- what is known of a value that was made
-pub if-made : {A E : Type 0} {r : Result A E} (P : A → Type 0) (x : A) → r ≡ Ok x → IfOk r P → P x
-if-made {A} {E} {r} P x e h = subst (λ (y : Result A E). IfOk y P) e h
+-- what was made where memory was never wanting is as is known of it
+pub made-known : {T E : Type 0} (P : T → Type 0) (b o : Bool) (x : T) (r : Result T E) → IfOk r (λ v. (b ≡ false) × (v ≡ x)) → (b ≡ false → (o ≡ false) × P x) → IfOk r P
+made-known P b o x (Ok v) p q = subst P (sym p.1) (q p.0).1
+made-known P b o x (Err e) p q = tt
 
--- what holds of any value holds under a condition
-pub formed : {A E : Type 0} (Z : Type 0) (R : A → Type 0) (r : Result A E) → IfOk r R → IfOk r (λ x. Z → R x)
-formed Z R (Ok x) h = λ z. h
-formed Z R (Err e) h = tt
+-- what follows from what is known of a value that was made
+pub made-so : {T E : Type 0} (P Q : T → Type 0) (r : Result T E) → ((v : T) → P v → Q v) → IfOk r P → IfOk r Q
+made-so P Q (Ok v) h p = h v p
+made-so P Q (Err e) h p = tt
 
--- what follows of a value from what is known of the one or the two that it was made of
-pub of-one : {A C E : Type 0} (x : Result A E) (r : Result C E) (P : A → Type 0) (S : A → C → Type 0) (R : C → Type 0)
-    → IfOk x P → IfOk r (λ c. IsOkAnd x (λ a. S a c)) → ((a : A) (c : C) → P a → S a c → R c) → IfOk r R
-of-one (Ok a) (Ok c) P S R p s k = k a c p s
-of-one (Err e) (Ok c) P S R p s k = absurd s
-of-one x (Err e) P S R p s k = tt
-
-pub of-two : {A B C E : Type 0} (x : Result A E) (y : Result B E) (r : Result C E) (P : A → Type 0) (Q : B → Type 0) (S : A → B → C → Type 0) (R : C → Type 0)
-    → IfOk x P → IfOk y Q → IfOk r (λ c. IsOkAnd x (λ a. IsOkAnd y (λ b. S a b c))) → ((a : A) (b : B) (c : C) → P a → Q b → S a b c → R c) → IfOk r R
-of-two (Ok a) (Ok b) (Ok c) P Q S R p q s k = k a b c p q s
-of-two (Ok a) (Err e) (Ok c) P Q S R p q s k = absurd s
-of-two (Err e) y (Ok c) P Q S R p q s k = absurd s
-of-two x y (Err e) P Q S R p q s k = tt
-
-module _ (F : Change) (n : ℕ) where
-  pub row-made : {V E : Type 0} (x : Result V E) (h : V → List Tree) (ts : List Tree) → IfOk x (λ v. AllBecome F n ts (h v)) → IfOk x (λ v. Becomes F n (many row ts) (many row (h v)))
-  row-made (Ok v) h ts a = rows F n ts (h v) a
-  row-made (Err e) h ts a = tt
-
-  -- an equal form
-  pub copied : {A E Z : Type 0} (r : Result A E) (k : A → Tree) (t : Tree) → (Z → Becomes F n t t) → IfOk r (λ x. k x ≡ t) → IfOk r (λ x. Z → Becomes F n t (k x))
-  copied (Ok x) k t b e = λ z. subst (Becomes F n t) (sym e) (b z)
-  copied (Err d) k t b e = tt
-
-  pub bag-made : {C E : Type 0} (l : Label) → IsFlat l → is_bag l ≡ true → (r : Result C E) (k : C → Tree) (ts us : List Tree) → AllBecome F n ts us → IfOk r (λ c. k c ≡ many l (ascending us)) → IfOk r (λ c. Becomes F n (many l ts) (k c))
-  bag-made l h b (Ok c) k ts us a e = subst (Becomes F n (many l ts)) (sym e) (bag F n l h b ts us (ascending us) a refl)
-  bag-made l h b (Err d) k ts us a e = tt
-
-  -- two that stand in a pair
-  pub pair-made : {A B E : Type 0} (x : Result A E) (y : Result B E) (c : Result (A × B) E) (f : A → Tree) (g : B → Tree) (t v : Tree) (l : Label) → IsFlat l → is_bag l ≡ false
-      → IfOk x (λ a. Becomes F n t (f a)) → IfOk y (λ b. Becomes F n v (g b)) → IfOk c (λ p. (x ≡ Ok p.0) × (y ≡ Ok p.1)) → IfOk c (λ p. Becomes F n (two l t v) (two l (f p.0) (g p.1)))
-  pair-made x y (Ok p) f g t v l h b i j e = two-becomes F n l h b t (f p.0) v (g p.1) (if-made (λ a. Becomes F n t (f a)) p.0 e.0 i) (if-made (λ z. Becomes F n v (g z)) p.1 e.1 j)
-  pair-made x y (Err d) f g t v l h b i j e = tt
-
-  -- a body under declared names
-  pub new-made : {B C E : Type 0} (y : Result B E) (r : Result C E) (g : B → Tree) (k : C → Tree) (t : Tree) (a o : List Origin) → o ≡ a → (m : ℕ) → m ≡ in_u64 (n + length a)
-      → IfOk y (λ b. Becomes F m t (g b)) → IfOk r (λ c. IsOkAnd y (λ b. k c ≡ one (new o) (g b))) → IfOk r (λ c. Becomes F n (one (new a) t) (k c))
-  new-made y r g k t a o w m u q s =
-      of-one y r (λ z. Becomes F m t (g z)) (λ z c. k c ≡ one (new o) (g z)) (λ c. Becomes F n (one (new a) t) (k c)) q s
-      (λ z c j e. subst (Becomes F n (one (new a) t)) (sym e) (new-becomes F n a o w t (g z) m u j))
-
-  module _ {A B C E : Type 0} (x : Result A E) (y : Result B E) (r : Result C E) (f : A → Tree) (g : B → Tree) (k : C → Tree) (t v : Tree) where
-    pub two-made : (l : Label) → IsFlat l → is_bag l ≡ false → IfOk x (λ a. Becomes F n t (f a)) → IfOk y (λ b. Becomes F n v (g b))
-        → IfOk r (λ c. IsOkAnd x (λ a. IsOkAnd y (λ b. k c ≡ two l (f a) (g b)))) → IfOk r (λ c. Becomes F n (two l t v) (k c))
-    two-made l h b p q s =
-        of-two x y r (λ a. Becomes F n t (f a)) (λ z. Becomes F n v (g z)) (λ a z c. k c ≡ two l (f a) (g z)) (λ c. Becomes F n (two l t v) (k c)) p q s
-        (λ a z c i j e. subst (Becomes F n (two l t v)) (sym e) (two-becomes F n l h b t (f a) v (g z) i j))
-
-    pub method-made : (m o : List ℕ) → o ≡ m → IfOk x (λ a. Becomes F n t (f a)) → IfOk y (λ b. Becomes F n v (g b))
-        → IfOk r (λ c. IsOkAnd x (λ a. IsOkAnd y (λ b. k c ≡ two (method o) (f a) (g b)))) → IfOk r (λ c. Becomes F n (two (method m) t v) (k c))
-    method-made m o w p q s =
-        of-two x y r (λ a. Becomes F n t (f a)) (λ z. Becomes F n v (g z)) (λ a z c. k c ≡ two (method o) (f a) (g z)) (λ c. Becomes F n (two (method m) t v) (k c)) p q s
-        (λ a z c i j e. subst (Becomes F n (two (method m) t v)) (sym e) (method-becomes F n m o w t (f a) v (g z) i j))
-
-    pub three-made : (l : Label) → IsFlat l → is_bag l ≡ false → (z : Tree) → Becomes F n z z → IfOk x (λ a. Becomes F n t (f a)) → IfOk y (λ b. Becomes F n v (g b))
-        → IfOk r (λ c. IsOkAnd x (λ a. IsOkAnd y (λ b. k c ≡ three l (f a) (g b) z))) → IfOk r (λ c. Becomes F n (three l t v z) (k c))
-    three-made l h b z w p q s =
-        of-two x y r (λ a. Becomes F n t (f a)) (λ u. Becomes F n v (g u)) (λ a u c. k c ≡ three l (f a) (g u) z) (λ c. Becomes F n (three l t v z) (k c)) p q s
-        (λ a u c i j e. subst (Becomes F n (three l t v z)) (sym e) (three-becomes F n l h b t (f a) v (g u) z z i j w))
-
-    -- the second constituent stands under variables that the first and the second bind
-    pub two-bound : (l : Label) → IsFormLabel l → is_bag l ≡ false → ((ts : Trees) → binders l ts ≡ bound_all ts) → (d : ℕ) → d ≡ in_u64 (bound_counts (trees (t ∷ v ∷ []))) → (m : ℕ) → m ≡ in_u64 (n + d)
-        → IfOk x (λ a. Becomes F n t (f a)) → IfOk y (λ b. Becomes F m v (g b)) → IfOk r (λ c. IsOkAnd x (λ a. IsOkAnd y (λ b. k c ≡ two l (f a) (g b)))) → IfOk r (λ c. Becomes F n (two l t v) (k c))
-    two-bound l h b o d w m u p q s =
-        of-two x y r (λ a. Becomes F n t (f a)) (λ z. Becomes F m v (g z)) (λ a z c. k c ≡ two l (f a) (g z)) (λ c. Becomes F n (two l t v) (k c)) p q s
-        (λ a z c i j e. subst (Becomes F n (two l t v)) (sym e) (two-bind F n l h b o t (f a) v (g z) d w m u i j))
-
--- forms one after another
-module _ (F : Change) (n : ℕ) where
-  pub added : {B E : Type 0} (r : Result B E) (k : B → Tree) (t : Tree) (o w : List B) → IfOk r (λ y. Becomes F n t (k y)) → IsOkAnd r (λ y. w ≡ o ++ y ∷ []) → Adds F n t (map k o) (map k w)
-  added (Ok y) k t o w b e = λ d i. ap (map k) e ∙ map-append k o (y ∷ []) ∙ ap (λ z. map k o ++ z) (sym (b d i))
-  added (Err d) k t o w b e = absurd e
-
-  pub added-tree : {E : Type 0} (r : Result Tree E) (t : Tree) (o w : List Tree) → IfOk r (λ y. Becomes F n t y) → IsOkAnd r (λ y. w ≡ o ++ y ∷ []) → Adds F n t o w
-  added-tree (Ok y) t o w b e = λ d i. e ∙ ap (λ z. o ++ z) (sym (b d i))
-  added-tree (Err d) t o w b e = absurd e
-
-  -- a turn of a loop over these
-  pub turn : (o w rest more all : List Tree) (t : Tree) → rest ≡ t ∷ more → Adds F n t o w → ((d : ℕ) → in_u64 d ≡ n → o ++ all_filled F d rest ≡ all_filled F d all) → (d : ℕ) → in_u64 d ≡ n → w ++ all_filled F d more ≡ all_filled F d all
-  turn o w rest more all t m a h =
-      λ d e. ap (λ z. z ++ all_filled F d more) (a d e) ∙ append_assoc o (filled F d t) (all_filled F d more) ∙ ap (λ z. o ++ all_filled F d z) (sym m) ∙ h d e
-
-  pub turn-map : {A : Type 0} (g : A → Tree) (o w : List Tree) (xs : List A) (i : ℕ) (x : A) → drop i xs ≡ x ∷ drop (i + 1) xs → Adds F n (g x) o w
-      → ((d : ℕ) → in_u64 d ≡ n → o ++ all_filled F d (map g (drop i xs)) ≡ all_filled F d (map g xs)) → (d : ℕ) → in_u64 d ≡ n → w ++ all_filled F d (map g (drop (i + 1) xs)) ≡ all_filled F d (map g xs)
-  turn-map g o w xs i x m a h = turn o w (map g (drop i xs)) (map g (drop (i + 1) xs)) (map g xs) (g x) (ap (map g) m) a h
-
-  -- the end of one
-  pub all-made : (o rest all : List Tree) → rest ≡ [] → ((d : ℕ) → in_u64 d ≡ n → o ++ all_filled F d rest ≡ all_filled F d all) → AllBecome F n all o
-  all-made o rest all z h = λ d e. sym (h d e) ∙ ap (λ r. o ++ all_filled F d r) z ∙ append-nil o
-
--- what a loop has before it
+-- what a loop over things has before it, and that it has nothing before it
 pub next-one : {A : Type 0} (xs ys : List A) (i : ℕ) (x : A) → ys ≡ xs → i < length ys → x ≡ get_or ys i x → drop i xs ≡ x ∷ drop (i + 1) xs
 next-one xs ys i x e h g = subst (λ zs. drop i zs ≡ x ∷ drop (i + 1) zs) e (drop_more ys i x h ∙ ap (λ z. z ∷ drop (i + 1) ys) (sym g))
 
 pub no-more : {A : Type 0} (xs ys : List A) (i : ℕ) → ys ≡ xs → length ys ≤ i → drop i xs ≡ []
 no-more xs ys i e h = subst (λ zs. drop i zs ≡ []) e (drop_all i ys h)
 
--- an item was added to a list
-module _ {A B E : Type 0} (F : Change) (n : ℕ) (k : B → Tree) (t : Tree) (o w : List B) where
-  pub adds-made : (a : Result A E) (r : Result B E) → IfOk r (λ y. Becomes F n t (k y)) → OnOk a (IsOkAnd r (λ y. w ≡ o ++ y ∷ [])) → OnOk a (Adds F n t (map k o) (map k w))
-  adds-made (Ok u) r b e = added F n r k t o w b e
-  adds-made (Err d) r b e = tt
-
-  pub ordered-made : (a : Result A E) (r : Result B E) → IsForm t → n < 2 ^ 64 → IfOk r (λ y. Becomes F n t (k y)) → OnOk a (IsOkAnd r (λ y. w ≡ o ++ y ∷ []))
-      → OnOk a (All (λ y. IsOrdered (k y)) o → All (λ y. IsOrdered (k y)) w)
-  ordered-made (Ok u) (Ok y) h l b e = λ c. push-ordered k o w y e c (becomes-ordered F n t (k y) h l b)
-  ordered-made (Ok u) (Err d) h l b e = absurd e
-  ordered-made (Err d) r h l b e = tt
-
--- what holds of a value under a condition that is met
-pub met : {A E Z : Type 0} (R : A → Type 0) (r : Result A E) → Z → IfOk r (λ x. Z → R x) → IfOk r R
-met R (Ok x) z h = h z
-met R (Err d) z h = tt
-
--- a part without constituents stays as it is
 module _ (F : Change) (n : ℕ) where
-  pub leaf-stays : (p : Part) → ((ts : Vec Tree Global) → p ≡ part.List ts → ⊥) → ((ts : Vec Tree Global) → p ≡ part.Tuple ts → ⊥) → ((ts : Vec Tree Global) → p ≡ part.Set ts → ⊥) → ((ps : Vec (Tree × Tree) Global) → p ≡ part.Map ps → ⊥)
-      → ((c : Tree) (xs : Vec Tree Global) (q : Bool) → p ≡ part.Send c xs q → ⊥) → ((k : Kind) (bs : Vec TermBind Global) (b : Tree) → p ≡ part.Receive k bs b → ⊥) → ((os : Vec Origin Global) (b : Tree) → p ≡ part.New os b → ⊥)
-      → ((u : Tree) (cs : Vec TermCase Global) → p ≡ part.Match u cs → ⊥) → ((r : Rights) (b : Tree) → p ≡ part.Bundle r b → ⊥) → ((o : UnaryOp) (a : Tree) → p ≡ part.Unary o a → ⊥) → ((o : BinaryOp) (a b : Tree) → p ≡ part.Binary o a b → ⊥)
-      → ((m : String Global) (u : Tree) (xs : Vec Tree Global) → p ≡ part.Method m u xs → ⊥) → IsForm (part_tree p) → Becomes F n (part_tree p) (part_tree p)
-  leaf-stays (part.Ground g) _ _ _ _ _ _ _ _ _ _ _ _ h = ground-becomes F n g
-  leaf-stays (part.Fresh x) _ _ _ _ _ _ _ _ _ _ _ _ h = leaf-becomes F n (fresh x.0) (tt, λ ts. refl) refl
-  leaf-stays (part.Var i) _ _ _ _ _ _ _ _ _ _ _ _ h = absurd h
-  leaf-stays (part.NameVar i) _ _ _ _ _ _ _ _ _ _ _ _ h = absurd h
-  leaf-stays (part.List ts) a _ _ _ _ _ _ _ _ _ _ _ h = absurd (a ts refl)
-  leaf-stays (part.Tuple ts) _ a _ _ _ _ _ _ _ _ _ _ h = absurd (a ts refl)
-  leaf-stays (part.Set ts) _ _ a _ _ _ _ _ _ _ _ _ h = absurd (a ts refl)
-  leaf-stays (part.Map ps) _ _ _ a _ _ _ _ _ _ _ _ h = absurd (a ps refl)
-  leaf-stays (part.Send c xs q) _ _ _ _ a _ _ _ _ _ _ _ h = absurd (a c xs q refl)
-  leaf-stays (part.Receive k bs b) _ _ _ _ _ a _ _ _ _ _ _ h = absurd (a k bs b refl)
-  leaf-stays (part.New os b) _ _ _ _ _ _ a _ _ _ _ _ h = absurd (a os b refl)
-  leaf-stays (part.Match u cs) _ _ _ _ _ _ _ a _ _ _ _ h = absurd (a u cs refl)
-  leaf-stays (part.Bundle r b) _ _ _ _ _ _ _ _ a _ _ _ h = absurd (a r b refl)
-  leaf-stays (part.Unary o x) _ _ _ _ _ _ _ _ _ a _ _ h = absurd (a o x refl)
-  leaf-stays (part.Binary o x y) _ _ _ _ _ _ _ _ _ _ a _ h = absurd (a o x y refl)
-  leaf-stays (part.Method m u xs) _ _ _ _ _ _ _ _ _ _ _ a h = absurd (a m u xs refl)
+  -- what a tree becomes was added
+  pub adds-tree : (t u : Tree) (o w : List Tree) → Becomes F n t u → w ≡ o ++ u ∷ [] → Adds F n t o w
+  adds-tree t u o w b e = λ d i. e ∙ ap (λ z. o ++ z) (sym (b d i))
+
+  pub adds : {B : Type 0} (k : B → Tree) (t : Tree) (y : B) (o w : List B) → Becomes F n t (k y) → w ≡ o ++ y ∷ [] → Adds F n t (map k o) (map k w)
+  adds k t y o w b e = λ d i. ap (map k) e ∙ map-append k o (y ∷ []) ∙ ap (λ z. map k o ++ z) (sym (b d i))
+
+  -- a turn of a loop over trees, and of one over things that stand for trees
+  pub turn : (o w xs rest more : List Tree) (t : Tree) → rest ≡ t ∷ more → Adds F n t o w → BecomeWith F n xs o rest → BecomeWith F n xs w more
+  turn o w xs rest more t m a h =
+      λ d e. ap (λ z. z ++ all_filled F d more) (a d e) ∙ append_assoc o (filled F d t) (all_filled F d more) ∙ ap (λ z. o ++ all_filled F d z) (sym m) ∙ h d e
+
+  pub turn-tree : (o w xs : List Tree) (i : ℕ) (t u : Tree) → drop i xs ≡ t ∷ drop (i + 1) xs → w ≡ o ++ u ∷ [] → Becomes F n t u
+      → BecomeWith F n xs o (drop i xs) → BecomeWith F n xs w (drop (i + 1) xs)
+  turn-tree o w xs i t u m e b h = turn o w xs (drop i xs) (drop (i + 1) xs) t m (adds-tree t u o w b e) h
+
+  module _ {A : Type 0} (k : A → Tree) where
+    pub turn-map : (o w xs : List A) (i : ℕ) (x : A) → drop i xs ≡ x ∷ drop (i + 1) xs → Adds F n (k x) (map k o) (map k w)
+        → BecomeWith F n (map k xs) (map k o) (map k (drop i xs)) → BecomeWith F n (map k xs) (map k w) (map k (drop (i + 1) xs))
+    turn-map o w xs i x m a h = turn (map k o) (map k w) (map k xs) (map k (drop i xs)) (map k (drop (i + 1) xs)) (k x) (ap (map k) m) a h
+
+    pub turn-thing : (o w xs : List A) (i : ℕ) (x y : A) → drop i xs ≡ x ∷ drop (i + 1) xs → w ≡ o ++ y ∷ [] → Becomes F n (k x) (k y)
+        → BecomeWith F n (map k xs) (map k o) (map k (drop i xs)) → BecomeWith F n (map k xs) (map k w) (map k (drop (i + 1) xs))
+    turn-thing o w xs i x y m e b h = turn-map o w xs i x m (adds k (k x) y o w b e) h
+
+  -- the end of one
+  pub all-become : (xs o rest : List Tree) → rest ≡ [] → BecomeWith F n xs o rest → AllBecome F n xs o
+  all-become xs o rest z h = λ d e. sym (h d e) ∙ ap (λ r. o ++ all_filled F d r) z ∙ append-nil o
+
+  -- a form that was added to things in order
+  pub grows : {B : Type 0} (k : B → Tree) (t : Tree) (y : B) (o w : List B) → IsForm t → n < 2 ^ 64 → Becomes F n t (k y) → w ≡ o ++ y ∷ [] → Grows k F n t o w
+  grows k t y o w h l b e = (adds k t y o w b e, λ a. push-ordered k o w y e a (becomes-ordered F n t (k y) h l b))
+
+  -- what a closed form becomes was added to the parts of a pattern
+  pub grows-closed : (t : Tree) (zs parts : List Part) (o w : List PatPart) → zs ≡ [] → Grows part_tree F n t zs parts
+      → (All (λ p. IsOrdered (part_tree p)) parts → Joins pat_part_tree (map part_tree parts) o w) → Grows pat_part_tree F n t o w
+  grows-closed t zs parts o w z g j =
+      let a : All (λ p. IsOrdered (part_tree p)) zs = subst (All (λ p. IsOrdered (part_tree p))) (sym z) (λ k d l. absurd (omega arith)) in
+      let c = j (g.1 a) in
+      (λ d e. c.0 ∙ ap (λ ts. map pat_part_tree o ++ ts) (g.0 d e ∙ ap (λ ts. map part_tree ts ++ filled F d t) z), c.1)
+
+  -- a set or a map
+  pub bag-made : (l : Label) → IsFlat l → is_bag l ≡ true → (ts us : List Tree) (v : Tree) → AllBecome F n ts us → v ≡ many l (ascending us) → Becomes F n (many l ts) v
+  bag-made l h b ts us v a e = subst (Becomes F n (many l ts)) (sym e) (bag F n l h b ts us (ascending us) a refl)
+
+-- a thing that was added to things in order
+pub joins : {A : Type 0} (k : A → Tree) (t : Tree) (y : A) (o w : List A) → w ≡ o ++ y ∷ [] → k y ≡ t → IsOrdered (k y) → Joins k (t ∷ []) o w
+joins k t y o w e f h = (ap (map k) e ∙ map-append k o (y ∷ []) ∙ ap (λ z. map k o ++ z ∷ []) f, λ a. push-ordered k o w y e a h)
+
+-- a turn of a loop that adds parts as closed forms
+pub joins-closed : (ys : List Part) (p : Part) (o v w : List PatPart) → w ≡ v ++ pat.Closed p ∷ [] → Joins pat_part_tree (map part_tree ys) o v → IsOrdered (part_tree p)
+    → Joins pat_part_tree (map part_tree (ys ++ p ∷ [])) o w
+joins-closed ys p o v w e j h = (
+  ap (map pat_part_tree) e ∙ map-append pat_part_tree v (pat.Closed p ∷ []) ∙ ap (λ z. z ++ part_tree p ∷ []) j.0
+      ∙ append_assoc (map pat_part_tree o) (map part_tree ys) (part_tree p ∷ []) ∙ ap (λ z. map pat_part_tree o ++ z) (sym (map-append part_tree ys (p ∷ []))),
+  λ a. push-ordered pat_part_tree v w (pat.Closed p) e (j.1 a) h,
+)
+
+-- a turn of a loop that adds copies, and its end
+module _ {A : Type 0} (k : A → Tree) (xs : List A) where
+  pub copies-more : (all : List Tree) (o w : List A) (i : ℕ) (x y : A) → drop i xs ≡ x ∷ drop (i + 1) xs → w ≡ o ++ y ∷ [] → k y ≡ k x
+      → map k o ++ map k (drop i xs) ≡ all → map k w ++ map k (drop (i + 1) xs) ≡ all
+  copies-more all o w i x y m e f h =
+      ap (λ z. map k z ++ map k (drop (i + 1) xs)) e ∙ ap (λ z. z ++ map k (drop (i + 1) xs)) (map-append k o (y ∷ []))
+      ∙ append_assoc (map k o) (k y ∷ []) (map k (drop (i + 1) xs)) ∙ ap (λ z. map k o ++ z ∷ map k (drop (i + 1) xs)) f
+      ∙ ap (λ z. map k o ++ map k z) (sym m) ∙ h
+
+  pub copies-end : (ts us : List Tree) (w : List A) (i : ℕ) → drop i xs ≡ [] → us ≡ map k xs → map k w ++ map k (drop i xs) ≡ ts ++ map k xs → map k w ≡ ts ++ us
+  copies-end ts us w i z e h = sym (append-nil (map k w)) ∙ ap (λ r. map k w ++ map k r) (sym z) ∙ h ∙ ap (λ r. ts ++ r) (sym e)

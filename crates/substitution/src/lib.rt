@@ -1,7 +1,7 @@
 //! Normal terms of processes with values put in, or with their variables renumbered.
 #![tactic(auto)]
 
-mod forms;
+mod maker;
 pub mod renumbering;
 pub mod substitution;
 mod variable;

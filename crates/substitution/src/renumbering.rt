@@ -4,7 +4,7 @@ ghost use Rattle.std.specs.Prelude.{◌≡◌, ℕ, ◌^◌, ◌<◌, ◌≤◌,
 ghost use Rattle.calculus.specs.Substitution.{renumber};
 ghost use Rattle.calculus.specs.Unfolding.{new_index};
 
-use crate::substitution::put_term;
+use crate::substitution::replaced;
 use crate::variable::Replacement;
 use rho_term::Term;
 use std::alloc::{AllocError, Global};
@@ -20,10 +20,8 @@ pub fn renumber_body(alloc: Global, body: &Term, places: &[u32]) -> Result<Term,
     ensures { IfOk result (λ t. t ≡ renumber (new_index places.now) body.now) }
 {
     let indices = new_indices(alloc, places)?;
-    let depth = 0;
     let replacement = Replacement::Indices(indices.as_slice());
-    let term = put_term(alloc, body, &replacement, depth)?;
-    Ok(term)
+    replaced(alloc, body, &replacement)
 }
 
 // The new index of each variable by its index.

@@ -316,17 +316,6 @@ pub fn map(pairs: Part<Vec<(Proc, Proc)>>) -> Part<Proc>
     }
 }
 
-/// The process that a name quotes.
-pub fn dropped(name: Part<Name>) -> Part<Proc>
-    ensures tree { proc_written result.value ≡ drop_of (name_written name.value) }
-    ensures height { result.height ≡ name.height }
-{
-    Part {
-        height: name.height,
-        value: Proc::Drop(name.value),
-    }
-}
-
 /// A bind.
 pub fn bind(left: Part<Left>, channel: Part<Name>) -> Part<Bind>
     ensures tree { bind_written result.value ≡ (bind_of (of_left left) (of_name channel)).tree }

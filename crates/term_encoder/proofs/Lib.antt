@@ -1,1 +1,3 @@
+pub mod Channels
 pub mod Lengths
+mod Writing

@@ -6,7 +6,8 @@ ghost use Rattle.calculus.specs.Order.{IsAscending};
 ghost use Rattle.calculus.specs.Root.{group_code};
 ghost use Rattle.calculus.specs.Storing.{shard};
 
-use crate::encode::{encode_term, put_be32, put_term};
+use crate::encode::{encode_term, put_term};
+use crate::encoder::Encoder;
 use calculus::Digest;
 use rho_term::Term;
 use sha2::{Digest as Hasher, Sha256};
@@ -28,10 +29,11 @@ pub fn group_key(alloc: Global, channels: &[Term]) -> Result<Digest, AllocError>
     requires { IsAscending (map code channels.now) }
     ensures { IfOk result (λ d. d.0 ≡ sha256 (group_code (map code channels.now))) }
 {
-    let mut bytes = Vec::new(alloc);
-    put_be32(&mut bytes, channels.len())?;
+    let mut out = Encoder::new(alloc);
+    out.be32(channels.len());
     for channel in channels {
-        put_term(&mut bytes, channel)?;
+        put_term(&mut out, channel);
     }
+    let bytes = out.finish()?;
     Ok(Digest(Sha256::digest(bytes.as_slice())))
 }

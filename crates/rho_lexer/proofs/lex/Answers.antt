@@ -4,9 +4,9 @@ use Rattle.tokens.specs.Reading.{HasTokens}
 use Rattle.tokens.specs.Token.{source, end_of_text, spanned}
 use Rattle.tokens.proofs.OneReading.{same_outcome}
 use Rattle.tokens.proofs.Order.{tokens_in_order}
-use Rattle.tokens.proofs.Within.{gap_within, token_within}
+use Rattle.tokens.proofs.Within.{token_within}
 use Rattle.rho_lexer.specs.Meaning.{IsFault, kind_token, spanned_token, spanned_tokens}
-use Rattle.rho_lexer.proofs.Lexing.{over_a_gap, over_a_token, whole_text, refused_at, gap_some, gap_none, is_there, fault_excludes, only_fault, fault_exit}
+use Rattle.rho_lexer.proofs.Lexing.{over_gaps, over_a_token, whole_text, refused_at, gap_some, gap_none, gap_within, is_there, fault_excludes, only_fault, fault_exit}
 use Rattle.rho_lexer.proofs.lex.Goals as goal
 
 pub returns-in_err-len-clause-fault : goal.returns-in_err-len-clause-fault
@@ -37,15 +37,15 @@ returns-in_err-kind-in-None-clause-only_fault c r h = fault_exit _ _ c.from_resi
     (let none = gap_none c.loop-at.at (take (length c.args.text.now - c.loop-at.at) (drop c.loop-at.at c.args.text.now)) c.in_ok-len.field-0 c.in_ok-len.ensures c.in-None.is in subst (λ s. IsFault s c.in_err-kind-in-None.field-0.0) (sym none) c.in_err-kind-in-None.ensures)) r h)
 
 pub overflow_add-at : goal.overflow_add-at
-overflow_add-at c = let there = is_there c.args.text.now c.loop-at.at c.in-Some.len c.loop-at.invariant.within (gap_within source c.loop-at.at (take (length c.args.text.now - c.loop-at.at) (drop c.loop-at.at c.args.text.now)) c.in-Some.len (gap_some c.loop-at.at (take (length c.args.text.now - c.loop-at.at) (drop c.loop-at.at c.args.text.now)) c.in_ok-len.field-0 c.in-Some.len c.in_ok-len.ensures c.in-Some.is)) in omega arith
+overflow_add-at c = let there = is_there c.args.text.now c.loop-at.at c.in-Some.len c.loop-at.invariant.within (gap_within c.loop-at.at (take (length c.args.text.now - c.loop-at.at) (drop c.loop-at.at c.args.text.now)) c.in_ok-len.field-0 c.in-Some.len c.in_ok-len.ensures c.in-Some.is) in omega arith
 
 pub loop-at-smaller-in-Some : goal.loop-at-smaller-in-Some
-loop-at-smaller-in-Some c = let there = is_there c.args.text.now c.loop-at.at c.in-Some.len c.loop-at.invariant.within (gap_within source c.loop-at.at (take (length c.args.text.now - c.loop-at.at) (drop c.loop-at.at c.args.text.now)) c.in-Some.len (gap_some c.loop-at.at (take (length c.args.text.now - c.loop-at.at) (drop c.loop-at.at c.args.text.now)) c.in_ok-len.field-0 c.in-Some.len c.in_ok-len.ensures c.in-Some.is)) in omega arith
+loop-at-smaller-in-Some c = let there = is_there c.args.text.now c.loop-at.at c.in-Some.len c.loop-at.invariant.within (gap_within c.loop-at.at (take (length c.args.text.now - c.loop-at.at) (drop c.loop-at.at c.args.text.now)) c.in_ok-len.field-0 c.in-Some.len c.in_ok-len.ensures c.in-Some.is) in omega arith
 
 pub loop-at-preserved-in-Some : goal.loop-at-preserved-in-Some
 loop-at-preserved-in-Some c = record {
-  within = (is_there c.args.text.now c.loop-at.at c.in-Some.len c.loop-at.invariant.within (gap_within source c.loop-at.at (take (length c.args.text.now - c.loop-at.at) (drop c.loop-at.at c.args.text.now)) c.in-Some.len (gap_some c.loop-at.at (take (length c.args.text.now - c.loop-at.at) (drop c.loop-at.at c.args.text.now)) c.in_ok-len.field-0 c.in-Some.len c.in_ok-len.ensures c.in-Some.is))).1;
-  so_far = over_a_gap c.args.text.now c.loop-at.at c.in-Some.len (spanned_tokens c.loop-at.tokens.items) c.loop-at.invariant.so_far
+  within = (is_there c.args.text.now c.loop-at.at c.in-Some.len c.loop-at.invariant.within (gap_within c.loop-at.at (take (length c.args.text.now - c.loop-at.at) (drop c.loop-at.at c.args.text.now)) c.in_ok-len.field-0 c.in-Some.len c.in_ok-len.ensures c.in-Some.is)).1;
+  so_far = over_gaps c.args.text.now c.loop-at.at c.in-Some.len (spanned_tokens c.loop-at.tokens.items) c.loop-at.invariant.so_far
       (gap_some c.loop-at.at (take (length c.args.text.now - c.loop-at.at) (drop c.loop-at.at c.args.text.now)) c.in_ok-len.field-0 c.in-Some.len c.in_ok-len.ensures c.in-Some.is);
 }
 

@@ -1,5 +1,9 @@
+use Rattle.std.proofs.Common.{◌≤◌, ◌*◌, ◌-◌, length, arith}
 use Rattle.checkpoint.proofs.Apart.{made-for}
 use Rattle.checkpoint.proofs.groups.counted_tree.Goals as goal
 
 pub returns-clause-made : goal.returns-clause-made
-returns-clause-made c = made-for c.in_ok-groups.groups.items c.args.rows.now c.in_ok-counted.counted.1 c.in_ok-groups.ensures.apart c.in_ok-counted.ensures.made
+returns-clause-made g c =
+    let groups = c.in_ok-groups.groups.items in
+    let within : c.tree_with.new.steps - c.args.steps.now ≤ 65 * length groups = omega (arith, c.in_ok-groups.ensures.counted, c.in_ok-tree.ensures.counted) in
+    made-for groups c.args.rows.now (c.tree_with.new.steps - c.args.steps.now) c.in_ok-groups.ensures.apart within

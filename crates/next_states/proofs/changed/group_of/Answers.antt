@@ -13,7 +13,7 @@ use Rattle.checkpoint.proofs.Sorting.{low, ascending}
 use Rattle.next_states.proofs.changed.group_of.Goals as goal
 
 pub returns-clause-digest : goal.returns-clause-digest
-returns-clause-digest c =
+returns-clause-digest g c =
     let code : Vec ℕ Global → List ℕ = λ v. v.items in
     let up : IsSortedBy (low code) c.sort_by.new.self.items = c.in_ok-sort_by.ensures.sorted (low code) (ranks_by nat_list_cmp_total code) (answers_always _ _ _ (λ f a r h e. search rules)) in
     let same = ap (λ (ss : List (Bor (List ℕ))). map (λ s. s.now) ss) c.as_slice-2.ensures.value ∙ c.in_ok-slices.ensures ∙ ap (λ (vs : List (Vec ℕ Global)). map code vs) c.as_slice.ensures.value in

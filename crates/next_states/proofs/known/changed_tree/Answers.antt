@@ -9,15 +9,15 @@ use Rattle.next_states.proofs.Walking.{keeps-after}
 use Rattle.next_states.proofs.known.changed_tree.Goals as goal
 
 pub returns-clause-made : goal.returns-clause-made
-returns-clause-made c = record {
+returns-clause-made g c = record {
   keys = map (λ (g : Group). g.key.0) c.in_ok-groups.groups.items;
   once = c.in_ok-groups.ensures.once;
   so = λ k m. c.in_ok-gather.ensures.only k (c.in_ok-groups.ensures.only k m);
-  within = both-within c.in_ok-groups.groups.items _ _ c.in_ok-next.nodes c.digests_of.result c.saturating_add-made.result c.as_slice.ensures.value c.as_slice-2.ensures.value c.in_ok-next.ensures.made c.digests_of.ensures (omega (arith, c.saturating_add-made.ensures));
+  within = both-within c.in_ok-groups.groups.items _ c.args.steps.now c.into_groups.new.steps c.with_groups.new.steps c.as_slice.ensures.value c.in_ok-groups.ensures.counted c.in_ok-next.ensures.counted;
 }
 
 pub returns-clause-tree : goal.returns-clause-tree
-returns-clause-tree c = λ all keeps covers.
+returns-clause-tree g c = λ all keeps covers.
     let ps : List Pair = map pair_in c.args.keyed.now in
     keeps-after ps all c.in_ok-groups.groups.items c.args.tree c.in_ok-next.next c.args.changed
     (c.in_ok-groups.ensures.right ps (c.in_ok-gather.ensures.holds c.requires))

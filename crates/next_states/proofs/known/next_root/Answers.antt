@@ -12,14 +12,14 @@ use Rattle.next_states.proofs.Walking.{codes-kept}
 use Rattle.next_states.proofs.known.next_root.Goals as goal
 
 pub compared-requires : goal.compared-requires
-compared-requires c =
+compared-requires g c =
     let text : c.rest_of-codes.result.now ≡ drop 49 c.known.inside.text.items = c.rest_of-codes.ensures ∙ ap (drop 49) c.as_slice.ensures.value in
     let pairs : cut_by c.as_slice-3.result.now c.rest_of-codes.result.now ≡ cut_by c.known.inside.marks.items (drop 49 c.known.inside.text.items) =
     ap (λ (ms : List Mark). cut_by ms c.rest_of-codes.result.now) c.as_slice-3.ensures.value ∙ ap (cut_by c.known.inside.marks.items) text in
     subst (All TellsKey) (sym pairs) c.known.invariant.tell
 
 pub returns-clause-root : goal.returns-clause-root
-returns-clause-root c =
+returns-clause-root g c =
     let text : c.rest_of-codes.result.now ≡ drop 49 c.known.inside.text.items = c.rest_of-codes.ensures ∙ ap (drop 49) c.as_slice.ensures.value in
     let all : List Pair = cut_by c.as_slice-3.result.now c.rest_of-codes.result.now in
     let pairs : all ≡ cut_by c.known.inside.marks.items (drop 49 c.known.inside.text.items) =
@@ -32,13 +32,13 @@ returns-clause-root c =
     c.root.ensures c.args.rows.items (rows-kept c.args.rows.items (map pair_in keyed) c.in_ok-next.next rows next)
 
 pub returns-clause-codes : goal.returns-clause-codes
-returns-clause-codes c =
+returns-clause-codes g c =
     let keyed = c.in_ok-keyed.keyed.items in
     let rows : IsPermutation (map pair_of c.args.rows.items) (map pair_in keyed) = subst (λ (rs : List Row). IsPermutation (map pair_of rs) (map pair_in keyed)) c.as_slice-2.ensures.value c.in_ok-keyed.ensures.rows in
     codes-kept c.args.rows.items keyed rows c.in_ok-keyed.ensures.order
 
 pub returns-clause-made : goal.returns-clause-made
-returns-clause-made c = λ base kept e.
+returns-clause-made g c = λ base kept e.
     let text : c.rest_of-codes.result.now ≡ drop 49 c.known.inside.text.items = c.rest_of-codes.ensures ∙ ap (drop 49) c.as_slice.ensures.value in
     let all : List Pair = cut_by c.as_slice-3.result.now c.rest_of-codes.result.now in
     let pairs : all ≡ cut_by c.known.inside.marks.items (drop 49 c.known.inside.text.items) =

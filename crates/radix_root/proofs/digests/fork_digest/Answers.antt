@@ -6,7 +6,7 @@ use Rattle.radix_root.proofs.Grown.{tagged, sixteen-at}
 use Rattle.radix_root.proofs.digests.fork_digest.Goals as goal
 
 pub loop-half-preserved : goal.loop-half-preserved
-loop-half-preserved c =
+loop-half-preserved g c =
     let f = digest_under c.args.children.now in
     let half = c.loop-half.half in
     let h = c.update-in-loop-half.ensures _ c.loop-half.invariant in

@@ -7,4 +7,4 @@ use Rattle.radix_root.proofs.digests.fork_digest.Given as goal
 
 -- the hasher holds the tag and the digests so far
 abbrev pub invariant-loop-half : goal.invariant-loop-half
-invariant-loop-half l = Holds256 l.hasher (0x11 ∷ joined (map (digest_under l.children) (take l.half sixteen)))
+invariant-loop-half g l = Holds256 l.hasher (0x11 ∷ joined (map (digest_under l.children) (take l.half sixteen)))

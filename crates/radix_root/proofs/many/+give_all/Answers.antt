@@ -1,5 +1,5 @@
-use Rattle.std.proofs.Common.{rules, ◌≡◌, ◌<◌, ◌≤◌, ◌+◌, ◌-◌, ◌*◌, List, ◌++◌, length, length-append, take, sym, ap, subst, ◌∙◌, arith}
-use Rattle.std.proofs.lemmas.Result.{IfOk-weaker, on_ok_weaker}
+use Rattle.std.proofs.Common.{rules, ◌≡◌, ◌<◌, ◌+◌, ◌-◌, ◌*◌, List, ◌++◌, length, length-append, take, sym, ap, subst, ◌∙◌, arith}
+use Rattle.std.proofs.lemmas.Result.{on_ok_weaker}
 use Rattle.radix_root.specs.declared.group.Group.{Group}
 use Rattle.radix_root.specs.Leaves.{Leaves, digest_at, half_of}
 use Rattle.radix_root.specs.Nodes.{leaves_of, IsNode, Shares}
@@ -12,7 +12,7 @@ use Rattle.radix_root.proofs.Given.{run-shared, run-given, groups-first, groups-
 use Rattle.radix_root.proofs.many.+give_all.Goals as goal
 
 pub give_run-give_all-requires : goal.give_run-give_all-requires
-give_run-give_all-requires t c =
+give_run-give_all-requires g t c =
     let o = c.index_mut.result.now in
     let items = c.place_for.new.children.items in
     let found = c.in_ok-place.ensures in
@@ -20,20 +20,21 @@ give_run-give_all-requires t c =
     let node = (child-at c.args.depth c.in_ok-place.place items o found.fork.children found.within at_place).0 in
     let deep : o.depth ≡ c.args.depth + 1 = node.depth ∙ omega arith in
     let falls : 3 * (64 - o.depth) + 2 < 3 * (64 - c.args.depth) = omega (arith, deep, c.requires.fork.within) in
-    let shared = subst (λ (ls : Leaves). ShareAll c.args.depth ls c.args.run.now) (sym found.leaves) c.requires.shared in (
+    let shared = subst (λ (ls : Leaves). ShareAll c.args.depth ls c.args.run.now) (sym found.leaves) c.requires.shared in
+    λ κs b. (
       search rules,
-      (subst (λ m. IsNode m o) (sym node.depth) node, run-shared c.args.depth c.args.half c.in_ok-place.place items o c.args.run.now found.fork shared c.requires.half c.requires.some found.place at_place),
+      (b, (subst (λ m. IsNode m o) (sym node.depth) node, run-shared c.args.depth c.args.half c.in_ok-place.place items o c.args.run.now found.fork shared c.requires.half c.requires.some found.place at_place)),
     )
 
 pub give_run-returns-clause-fork : goal.give_run-returns-clause-fork
-give_run-returns-clause-fork t c =
+give_run-returns-clause-fork g t c =
     let found = c.in_ok-place.ensures in
     on_ok_weaker c.give_all.result
     (λ p. (run-given c.args.depth c.args.half c.in_ok-place.place c.place_for.new.children.items c.index_mut.result.now c.give_all.new.node c.args.run.now found.fork c.requires.half found.place (sym c.index_mut.ensures.value) p.0 p.1.0 p.1.1).0)
     (both-ok _ _ c.give_all.result c.give_all.ensures.node (both-ok _ _ c.give_all.result c.give_all.ensures.half c.give_all.ensures.groups))
 
 pub give_run-returns-clause-groups : goal.give_run-returns-clause-groups
-give_run-returns-clause-groups t c =
+give_run-returns-clause-groups g t c =
     let found = c.in_ok-place.ensures in
     on_ok_weaker c.give_all.result
     (λ p k. (run-given c.args.depth c.args.half c.in_ok-place.place c.place_for.new.children.items c.index_mut.result.now c.give_all.new.node c.args.run.now found.fork c.requires.half found.place (sym c.index_mut.ensures.value) p.0 p.1.0 p.1.1).1 k
@@ -41,19 +42,20 @@ give_run-returns-clause-groups t c =
     (both-ok _ _ c.give_all.result c.give_all.ensures.node (both-ok _ _ c.give_all.result c.give_all.ensures.half c.give_all.ensures.groups))
 
 pub give_runs-give_run-requires : goal.give_runs-give_run-requires
-give_runs-give_run-requires t c =
+give_runs-give_run-requires g t c =
     let inv = c.loop-rest.invariant in
     let first = c.first_run-half in
     let front = c.split_at.ensures.front in
     let falls : 3 * (64 - c.args.depth) < 3 * (64 - c.args.depth) + 1 = omega arith in
     let shared : ShareAll c.args.depth (leaves_of c.loop-rest.children.items) (take first.result.1 c.loop-rest.rest.now) =
-    record { one = inv.shared.one; leaves = inv.shared.leaves; groups = groups-first (Shares c.args.depth inv.shared.one) first.result.1 c.loop-rest.rest.now inv.shared.groups } in (
+    record { one = inv.shared.one; leaves = inv.shared.leaves; groups = groups-first (Shares c.args.depth inv.shared.one) first.result.1 c.loop-rest.rest.now inv.shared.groups } in
+    λ κs b. (
       search rules,
-      (inv.fork, (subst (ShareAll c.args.depth (leaves_of c.loop-rest.children.items)) (sym front) shared, (subst (AllGroups (λ k. half_of c.args.depth k ≡ first.result.0)) (sym front) first.ensures.half, omega (arith, c.split_at.ensures.front_len, first.ensures.some)))),
+      (b, (inv.fork, (subst (ShareAll c.args.depth (leaves_of c.loop-rest.children.items)) (sym front) shared, (subst (AllGroups (λ k. half_of c.args.depth k ≡ first.result.0)) (sym front) first.ensures.half, omega (arith, c.split_at.ensures.front_len, first.ensures.some))))),
     )
 
 pub give_runs-loop-rest-preserved : goal.give_runs-loop-rest-preserved
-give_runs-loop-rest-preserved t c =
+give_runs-loop-rest-preserved g t c =
     let inv = c.loop-rest.invariant in
     let len = c.first_run-half.result.1 in
     let rest = c.loop-rest.rest.now in
@@ -61,7 +63,7 @@ give_runs-loop-rest-preserved t c =
     let others = c.split_at.result.1.now in
     let old = c.loop-rest.children.items in
     let new = c.give_run.new.children.items in
-    let given = c.in_ok-more.ensures in
+    let given = c.in_ok-give_run.ensures in
     let one = inv.shared.one in
     let first = subst (AllGroups (Shares c.args.depth one)) (sym c.split_at.ensures.front) (groups-first (Shares c.args.depth one) len rest inv.shared.groups) in
     let last = subst (AllGroups (Shares c.args.depth one)) (sym c.split_at.ensures.back) (groups-last (Shares c.args.depth one) len rest inv.shared.groups) in
@@ -78,14 +80,14 @@ give_runs-loop-rest-preserved t c =
           ∙ sym (after-join run others (digest_at (leaves_of old) k) k)
           ∙ ap (λ (gs : List Group). digest_after gs (digest_at (leaves_of old) k) k) all
           ∙ inv.given k;
-      made = run-more (63 - c.args.depth) (length run) (length others) (length rest) (length c.args.groups.now) c.loop-rest.made c.in_ok-more.more c.saturating_add-made.result
-          (ap length (sym all) ∙ length-append run others) inv.made given.made (omega (arith, c.saturating_add-made.ensures));
+      counted = run-more (63 - c.args.depth) (length run) (length others) (length rest) (c.args.steps.now + (63 - c.args.depth) * length c.args.groups.now) c.loop-rest.steps c.give_run.new.steps
+          (ap length (sym all) ∙ length-append run others) inv.counted given.counted;
     }
 
-pub give_run-returns-clause-made : goal.give_run-returns-clause-made
-give_run-returns-clause-made t c =
+pub give_run-returns-clause-counted : goal.give_run-returns-clause-counted
+give_run-returns-clause-counted g t c =
     let o = c.index_mut.result.now in
     let found = c.in_ok-place.ensures in
     let node = (child-at c.args.depth c.in_ok-place.place c.place_for.new.children.items o found.fork.children found.within (sym c.index_mut.ensures.value)).0 in
     let deep : o.depth ≡ c.args.depth + 1 = node.depth ∙ omega arith in
-    IfOk-weaker c.give_all.result (λ n. n ≤ (64 - o.depth) * length c.args.run.now) (λ n. n ≤ (63 - c.args.depth) * length c.args.run.now) (λ n h. one-deeper c.args.depth o.depth (length c.args.run.now) n deep h) c.give_all.ensures.made
+    one-deeper c.args.depth o.depth (length c.args.run.now) c.args.steps.now c.give_all.new.steps deep c.give_all.ensures.counted

@@ -9,7 +9,7 @@ use Rattle.radix_root.proofs.Counting.{one-more}
 use Rattle.radix_root.proofs.many.give_each.Goals as goal
 
 pub put-requires : goal.put-requires
-put-requires c =
+put-requires g c =
     let none : Group = record { key = record { 0 = [] }; digest = None } in
     let inv = c.loop-group.invariant in
     let depth = c.args.node.now.depth in
@@ -18,7 +18,7 @@ put-requires c =
     record { shared = subst (λ m. AllShare m group.key.0 c.loop-group.node.leaves) (sym inv.node.depth) (all-shared depth inv.shared.one group.key.0 c.loop-group.node.leaves one inv.shared.leaves) }
 
 pub loop-group-preserved : goal.loop-group-preserved
-loop-group-preserved c =
+loop-group-preserved g c =
     let none : Group = record { key = record { 0 = [] }; digest = None } in
     let inv = c.loop-group.invariant in
     let depth = c.args.node.now.depth in
@@ -26,20 +26,20 @@ loop-group-preserved c =
     let i = c.loop-group.group-index in
     let group = get_or groups i none in
     let one = groups-at (Shares depth inv.shared.one) groups i none inv.shared.groups c.loop-group-test.true in
-    let node = subst (λ m. IsNode m c.put.new.self) inv.node.depth c.in_ok-more.ensures.node in
+    let node = subst (λ m. IsNode m c.put.new.self) inv.node.depth c.in_ok-put.ensures.node in
     let next : suc i ≡ i + 1 = omega arith in
     record {
       node = node;
-      half = c.in_ok-more.ensures.half ∙ inv.half;
+      half = c.in_ok-put.ensures.half ∙ inv.half;
       shared = record {
         one = inv.shared.one;
-        leaves = keys-after (Shares depth inv.shared.one) c.loop-group.node.leaves c.put.new.self.leaves (group ∷ []) node.leaves (one, tt) inv.shared.leaves c.in_ok-more.ensures.groups;
+        leaves = keys-after (Shares depth inv.shared.one) c.loop-group.node.leaves c.put.new.self.leaves (group ∷ []) node.leaves (one, tt) inv.shared.leaves c.in_ok-put.ensures.groups;
         groups = inv.shared.groups;
       };
       given = λ k.
-          c.in_ok-more.ensures.groups k
+          c.in_ok-put.ensures.groups k
           ∙ ap (λ v. cond (bytes_eq k group.key.0) (given group.digest) v) (inv.given k)
           ∙ sym (after-more groups i none (digest_at c.args.node.now.leaves k) k c.loop-group-test.true)
           ∙ ap (λ n. digest_after (take n groups) (digest_at c.args.node.now.leaves k) k) next;
-      made = one-more (64 - depth) i c.loop-group.made c.in_ok-more.more c.saturating_add-made.result inv.made (omega (arith, c.in_ok-more.ensures.made, inv.node.depth)) (omega (arith, c.saturating_add-made.ensures));
+      counted = one-more (64 - depth) i c.args.steps.now c.loop-group.steps c.put.new.steps inv.counted (omega (arith, c.in_ok-put.ensures.counted, inv.node.depth));
     }

@@ -2,7 +2,7 @@ use Rattle.std.proofs.Common.{refl, sym, ◌∙◌, ap, subst}
 use Rattle.std.specs.Prelude.{IsSome}
 use Rattle.std.specs.Option.{option_copied_mut}
 use Rattle.row_table.specs.Groups.{ids_in}
-use Rattle.row_table.proofs.Grouping.{adds-kept, adds-there, group-kept}
+use Rattle.row_table.proofs.Grouping.{is-there, group-kept}
 use Rattle.row_table.proofs.groups.add_to_group.Goals as goal
 
 pub returns-in_err-insert-in-Some-clause-kept : goal.returns-in_err-insert-in-Some-clause-kept
@@ -10,19 +10,18 @@ returns-in_err-insert-in-Some-clause-kept c =
     let w = c.insert.new.self in
     let e = sym c.get_mut.ensures.value ∙ ap option_copied_mut c.in-Some.is in
     let u = (c.get_mut.follows.holds w).3 (subst IsSome (sym e) refl) in
-    group-kept c.args.groups.now.entries (c.get_mut.follows.lender w).entries c.args.key.now.items c.in-Some.ids.now.keys w (sym (ap ids_in e)) u.1 c.in_err-insert-in-Some.ensures.err (λ q i. ap ids_in (u.2 q i))
+    group-kept c.args.groups.now.entries (c.get_mut.follows.lender w).entries c.args.key.now.items c.in-Some.ids.now w (sym (ap ids_in e)) u.1 c.insert.ensures.kept (λ q i. ap ids_in (u.2 q i))
 
 pub returns-in_ok-insert-in-Some-clause-there : goal.returns-in_ok-insert-in-Some-clause-there
 returns-in_ok-insert-in-Some-clause-there c =
     let w = c.insert.new.self in
     let e = sym c.get_mut.ensures.value ∙ ap option_copied_mut c.in-Some.is in
     let u = (c.get_mut.follows.holds w).3 (subst IsSome (sym e) refl) in
-    λ t. adds-there c.args.groups.now.entries (c.get_mut.follows.lender w).entries c.args.key.now.items w c.args.id.0 u.1 c.in_ok-insert-in-Some.ensures.updates.1
+    λ t. is-there c.args.groups.now.entries (c.get_mut.follows.lender w).entries c.args.key.now.items w c.args.id.0 u.1 c.in_ok-insert-in-Some.ensures.there
 
 pub returns-in_ok-insert-in-Some-clause-kept : goal.returns-in_ok-insert-in-Some-clause-kept
 returns-in_ok-insert-in-Some-clause-kept c =
     let w = c.insert.new.self in
     let e = sym c.get_mut.ensures.value ∙ ap option_copied_mut c.in-Some.is in
     let u = (c.get_mut.follows.holds w).3 (subst IsSome (sym e) refl) in
-    adds-kept c.args.groups.now.entries (c.get_mut.follows.lender w).entries c.args.key.now.items c.in-Some.ids.now.keys w c.args.id.0 (sym (ap ids_in e)) u.1
-    (λ y. c.in_ok-insert-in-Some.ensures.updates.0 (record { 0 = y })) (λ q i. ap ids_in (u.2 q i))
+    group-kept c.args.groups.now.entries (c.get_mut.follows.lender w).entries c.args.key.now.items c.in-Some.ids.now w (sym (ap ids_in e)) u.1 c.insert.ensures.kept (λ q i. ap ids_in (u.2 q i))

@@ -1,20 +1,14 @@
-use Rattle.std.proofs.Common.{◌≡◌, sym, ◌∙◌, ap, subst, map, List}
-use Rattle.std.proofs.lemmas.Result.{IfOk-weaker}
-use Rattle.sha2.specs.Sha256.{sha256}
+use Rattle.std.proofs.Common.{◌≡◌, sym, subst, map}
+use Rattle.std.specs.Prelude.{IfOk}
 use Rattle.calculus.specs.Code.{code}
 use Rattle.calculus.specs.Order.{IsAscending}
-use Rattle.calculus.specs.Root.{group_code, key}
-use Rattle.calculus.specs.Tree.{Tree}
+use Rattle.calculus.specs.Root.{key}
+use Rattle.calculus.specs.Rows.{channels}
 use Rattle.space_row.proofs.Codes.{rising-ascending}
 use Rattle.space_row.proofs.encoding.row_key.Goals as goal
 
-pub group_key-requires : goal.group_key-requires
-group_key-requires c =
-    let e = c.in_ok-channels.ensures in
-    subst (λ (ts : List Tree). IsAscending (map code ts)) (sym (c.as_slice.ensures.value ∙ e.channels)) (rising-ascending _ e.rising)
+pub op_key-requires : goal.op_key-requires
+op_key-requires c = subst (λ r. IsAscending (map code (channels r.part))) (sym c.op.ensures.is) (rising-ascending _ c.op.ensures.storable.rising)
 
 pub returns : goal.returns
-unfolding key
-returns c =
-    let channels = c.as_slice.ensures.value ∙ c.in_ok-channels.ensures.channels in
-    IfOk-weaker c.group_key.result _ _ (λ d h. h ∙ ap (λ (ts : List Tree). sha256 (group_code (map code ts))) channels) c.group_key.ensures
+returns c = subst (λ r. IfOk c.op_key.result (λ d. d.0 ≡ key r)) c.op.ensures.is c.op_key.ensures

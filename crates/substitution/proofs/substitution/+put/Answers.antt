@@ -1,15 +1,12 @@
-use Rattle.std.proofs.Common.{◌≤◌, ◌+◌, arith, rules, ap, sym, map, drop, subst, refl}
-use Rattle.calculus.specs.Tree.{weight, weights, trees, row, list, tuple, set, dict, pair, send, receive, bind, match, case, bundle, unary, binary, rest, any, some_process, some_name, simple, same, both, either, not_this, list_pattern, set_pattern, map_pattern}
+use Rattle.std.proofs.Common.{◌≤◌, arith, ap, sym, map, drop, subst, refl, rules}
+use Rattle.calculus.specs.Tree.{fresh, weight, weights, trees, list, tuple, set, dict, pair, send, receive, bind, match, case, bundle, unary, binary, rest, any, some_process, some_name, simple, same, both, either, not_this, list_pattern, set_pattern, map_pattern}
 use Rattle.rho_term.specs.Parts.{part_tree, pat_part_tree, pair_tree, bind_tree, case_tree, ground_tree}
-use Rattle.calculus.specs.Shape.{leaf, many}
-use Rattle.std.proofs.lemmas.List.Elements.{same_from_all_zip}
 use Rattle.rho_term.proofs.Trees.{weight-at, tree-at}
 use Rattle.term_bounds.specs.Filled.{IsForm}
-use Rattle.substitution.specs.Becoming.{Becomes, AllBecome, change_of}
-use Rattle.code_order.proofs.Made.{sorted-ordered}
+use Rattle.substitution.specs.Becoming.{Becomes, change_of}
 use Rattle.term_bounds.proofs.Filling.{part-form, pat_part-form}
-use Rattle.substitution.proofs.Becoming.{flat, rows, one-becomes, two-becomes, leaf-becomes, ground-becomes, process-becomes, pattern-becomes}
-use Rattle.substitution.proofs.Made.{formed, met, row-made, copied, bag-made, pair-made, new-made, two-made, method-made, three-made, two-bound, added, added-tree, turn, turn-map, all-made, next-one, no-more, adds-made, ordered-made, leaf-stays}
+use Rattle.substitution.proofs.Becoming.{flat, rows, one-becomes, two-becomes, three-becomes, two-bind, new-becomes, method-becomes, leaf-becomes, ground-becomes, process-becomes, pattern-becomes}
+use Rattle.substitution.proofs.Made.{next-one, no-more, turn-tree, turn-map, turn-thing, all-become, grows, grows-closed, bag-made}
 use Rattle.substitution.proofs.substitution.+put.Goals as goal
 
 pub put_term-put_part-requires : goal.put_term-put_part-requires
@@ -22,13 +19,13 @@ put_pat-put_pat_part-requires t c =
     let w : weight (pat_part_tree c.part-item.result) ≤ weights (trees (map pat_part_tree c.parts-part-items.result.now)) = rw c.part-item.is (weight-at pat_part_tree _ _ _ c.loop-part-test.true) in
     (omega (arith, w, ap weight c.parts-part-items.ensures.parts), tt)
 
-pub put_terms-put_term-requires : goal.put_terms-put_term-requires
-put_terms-put_term-requires t c =
+pub put_terms-put_term-made-requires : goal.put_terms-put_term-made-requires
+put_terms-put_term-made-requires t c =
     let w : weight c.term-item.result ≤ weights (trees c.deref-term-items.result.now) = rw c.term-item.is (tree-at _ _ _ c.loop-term-test.true) in
     (omega (arith, w, ap (λ xs. weights (trees xs)) c.deref-term-items.ensures.value), tt)
 
-pub put_pats-put_pat-requires : goal.put_pats-put_pat-requires
-put_pats-put_pat-requires t c =
+pub put_pats-put_pat-made-requires : goal.put_pats-put_pat-made-requires
+put_pats-put_pat-made-requires t c =
     let w : weight c.pat-item.result ≤ weights (trees c.deref-pat-items.result.now) = rw c.pat-item.is (tree-at _ _ _ c.loop-pat-test.true) in
     (omega (arith, w, ap (λ xs. weights (trees xs)) c.deref-pat-items.ensures.value), tt)
 
@@ -72,264 +69,345 @@ put_cases-put_term-body-requires t c =
     let w : weight (case_tree c.case-item.result) ≤ weights (trees (map case_tree c.deref-case-items.result.now)) = rw c.case-item.is (weight-at case_tree _ _ _ c.loop-case-test.true) in
     (omega (arith, w, ap (λ xs. weights (trees (map case_tree xs))) c.deref-case-items.ensures.value), tt)
 
-pub put_pairs-loop-pair-preserved : goal.put_pairs-loop-pair-preserved
-put_pairs-loop-pair-preserved t c =
-    let f = change_of c.args.replacement.now in let n = c.args.depth in
-    let b = pair-made f n c.put_term-key.result c.put_term-value.result c.both.result (λ u. u) (λ u. u) c.pair-item.result.0 c.pair-item.result.1 pair (tt, λ ts. refl) refl c.put_term-key.ensures c.put_term-value.ensures c.both.ensures in
-    turn-map f n pair_tree (map pair_tree c.loop-pair.filled.items) (map pair_tree c.add.new.out.items) c.args.pairs.now.items c.loop-pair.pair-index c.pair-item.result (next-one c.args.pairs.now.items c.deref-pair-items.result.now c.loop-pair.pair-index c.pair-item.result c.deref-pair-items.ensures.value c.loop-pair-test.true c.pair-item.is) (added f n c.both.result pair_tree (pair_tree c.pair-item.result) c.loop-pair.filled.items c.add.new.out.items b c.in_ok-add.ensures) c.loop-pair.invariant
-
-pub put_pairs-returns : goal.put_pairs-returns
-put_pairs-returns t c =
-    let f = change_of c.args.replacement.now in let n = c.args.depth in
-    all-made f n (map pair_tree c.loop-pair.filled.items) (map pair_tree (drop c.loop-pair.pair-index c.args.pairs.now.items)) (map pair_tree c.args.pairs.now.items) (ap (map pair_tree) (no-more c.args.pairs.now.items c.deref-pair-items.result.now c.loop-pair.pair-index c.deref-pair-items.ensures.value c.loop-pair-test.false)) c.loop-pair.invariant
-
-pub put_pat_pairs-loop-pair-preserved : goal.put_pat_pairs-loop-pair-preserved
-put_pat_pairs-loop-pair-preserved t c =
-    let f = change_of c.args.replacement.now in let n = c.args.depth in
-    let b = pair-made f n c.put_pat-key.result c.put_pat-value.result c.both.result (λ u. u) (λ u. u) c.pair-item.result.0 c.pair-item.result.1 pair (tt, λ ts. refl) refl c.put_pat-key.ensures c.put_pat-value.ensures c.both.ensures in
-    turn-map f n pair_tree (map pair_tree c.loop-pair.filled.items) (map pair_tree c.add.new.out.items) c.args.pairs.now.items c.loop-pair.pair-index c.pair-item.result (next-one c.args.pairs.now.items c.deref-pair-items.result.now c.loop-pair.pair-index c.pair-item.result c.deref-pair-items.ensures.value c.loop-pair-test.true c.pair-item.is) (added f n c.both.result pair_tree (pair_tree c.pair-item.result) c.loop-pair.filled.items c.add.new.out.items b c.in_ok-add.ensures) c.loop-pair.invariant
-
-pub put_pat_pairs-returns : goal.put_pat_pairs-returns
-put_pat_pairs-returns t c =
-    let f = change_of c.args.replacement.now in let n = c.args.depth in
-    all-made f n (map pair_tree c.loop-pair.filled.items) (map pair_tree (drop c.loop-pair.pair-index c.args.pairs.now.items)) (map pair_tree c.args.pairs.now.items) (ap (map pair_tree) (no-more c.args.pairs.now.items c.deref-pair-items.result.now c.loop-pair.pair-index c.deref-pair-items.ensures.value c.loop-pair-test.false)) c.loop-pair.invariant
-
-pub put_binds-loop-bind-preserved : goal.put_binds-loop-bind-preserved
-put_binds-loop-bind-preserved t c =
-    let f = change_of c.args.replacement.now in let n = c.args.depth in
-    let b = three-made f n c.put_term-channel.result c.put_pats-pats.result c.bind_of.result (λ u. u) (λ v. many row v.items) bind_tree c.bind-item.result.channel (many row c.bind-item.result.pats.items) bind (tt, λ ts. refl) refl (leaf (rest c.bind-item.result.rest)) (leaf-becomes f n (rest c.bind-item.result.rest) (tt, λ ts. refl) refl) c.put_term-channel.ensures (row-made f n c.put_pats-pats.result (λ v. v.items) c.bind-item.result.pats.items c.put_pats-pats.ensures) c.bind_of.ensures in
-    turn-map f n bind_tree (map bind_tree c.loop-bind.filled.items) (map bind_tree c.add.new.out.items) c.args.binds.now.items c.loop-bind.bind-index c.bind-item.result (next-one c.args.binds.now.items c.deref-bind-items.result.now c.loop-bind.bind-index c.bind-item.result c.deref-bind-items.ensures.value c.loop-bind-test.true c.bind-item.is) (added f n c.bind_of.result bind_tree (bind_tree c.bind-item.result) c.loop-bind.filled.items c.add.new.out.items b c.in_ok-add.ensures) c.loop-bind.invariant
-
-pub put_binds-returns : goal.put_binds-returns
-put_binds-returns t c =
-    let f = change_of c.args.replacement.now in let n = c.args.depth in
-    all-made f n (map bind_tree c.loop-bind.filled.items) (map bind_tree (drop c.loop-bind.bind-index c.args.binds.now.items)) (map bind_tree c.args.binds.now.items) (ap (map bind_tree) (no-more c.args.binds.now.items c.deref-bind-items.result.now c.loop-bind.bind-index c.deref-bind-items.ensures.value c.loop-bind-test.false)) c.loop-bind.invariant
-
-pub put_cases-loop-case-preserved : goal.put_cases-loop-case-preserved
-put_cases-loop-case-preserved t c =
-    let f = change_of c.args.replacement.now in let n = c.args.depth in
-    let b = two-bound f n c.put_pat-pat.result c.put_term-body.result c.case_of.result (λ u. u) (λ u. u) case_tree c.case-item.result.pat c.case-item.result.body case tt refl (λ ts. refl) c.plus-bound.result (omega arith) c.plus-inner.result (omega arith) c.put_pat-pat.ensures c.put_term-body.ensures c.case_of.ensures in
-    turn-map f n case_tree (map case_tree c.loop-case.filled.items) (map case_tree c.add.new.out.items) c.args.cases.now.items c.loop-case.case-index c.case-item.result (next-one c.args.cases.now.items c.deref-case-items.result.now c.loop-case.case-index c.case-item.result c.deref-case-items.ensures.value c.loop-case-test.true c.case-item.is) (added f n c.case_of.result case_tree (case_tree c.case-item.result) c.loop-case.filled.items c.add.new.out.items b c.in_ok-add.ensures) c.loop-case.invariant
-
-pub put_cases-returns : goal.put_cases-returns
-put_cases-returns t c =
-    let f = change_of c.args.replacement.now in let n = c.args.depth in
-    all-made f n (map case_tree c.loop-case.filled.items) (map case_tree (drop c.loop-case.case-index c.args.cases.now.items)) (map case_tree c.args.cases.now.items) (ap (map case_tree) (no-more c.args.cases.now.items c.deref-case-items.result.now c.loop-case.case-index c.deref-case-items.ensures.value c.loop-case-test.false)) c.loop-case.invariant
-
-pub put_pat-loop-part-preserved : goal.put_pat-loop-part-preserved
-put_pat-loop-part-preserved t c =
-    let f = change_of c.args.replacement.now in let n = c.args.depth in
-    record {
-      parts = turn-map f n pat_part_tree _ _ c.parts-part-items.result.now c.loop-part.part-index c.part-item.result (next-one c.parts-part-items.result.now c.parts-part-items.result.now c.loop-part.part-index c.part-item.result refl c.loop-part-test.true c.part-item.is) c.in_ok-put_pat_part.ensures.parts c.loop-part.invariant.parts;
-      members = c.in_ok-put_pat_part.ensures.members c.loop-part.invariant.members;
-    }
-
-pub put_term-loop-part-preserved : goal.put_term-loop-part-preserved
-put_term-loop-part-preserved t c =
-    let f = change_of c.args.replacement.now in let n = c.args.depth in
-    record {
-      parts = turn-map f n part_tree _ _ c.parts-part-items.result.now c.loop-part.part-index c.part-item.result (next-one c.parts-part-items.result.now c.parts-part-items.result.now c.loop-part.part-index c.part-item.result refl c.loop-part-test.true c.part-item.is) c.in_ok-put_part.ensures.parts c.loop-part.invariant.parts;
-      members = c.in_ok-put_part.ensures.members c.loop-part.invariant.members;
-    }
-
-pub put_form-returns-in_ok-put_terms-in-List : goal.put_form-returns-in_ok-put_terms-in-List
-put_form-returns-in_ok-put_terms-in-List t c =
-    let f = change_of c.args.replacement.now in let n = c.args.depth in rw c.in-List.is (λ h. flat f n list (tt, λ ts. refl) refl _ _ c.in_ok-put_terms-in-List.ensures)
-
-pub put_form-returns-in_ok-put_terms-in-Tuple : goal.put_form-returns-in_ok-put_terms-in-Tuple
-put_form-returns-in_ok-put_terms-in-Tuple t c =
-    let f = change_of c.args.replacement.now in let n = c.args.depth in rw c.in-Tuple.is (λ h. flat f n tuple (tt, λ ts. refl) refl _ _ c.in_ok-put_terms-in-Tuple.ensures)
-
-pub put_form-returns-in_ok-put_terms-in-Set : goal.put_form-returns-in_ok-put_terms-in-Set
-put_form-returns-in_ok-put_terms-in-Set t c =
-    let f = change_of c.args.replacement.now in let n = c.args.depth in
-    rw c.in-Set.is (formed _ _ _ (bag-made f n set (tt, λ ts. refl) refl c.set_of.result part_tree _ _ c.in_ok-put_terms-in-Set.ensures c.set_of.ensures))
-
-pub put_form-returns-in_ok-put_pairs-in-Map : goal.put_form-returns-in_ok-put_pairs-in-Map
-put_form-returns-in_ok-put_pairs-in-Map t c =
-    let f = change_of c.args.replacement.now in let n = c.args.depth in
-    rw c.in-Map.is (formed _ _ _ (bag-made f n dict (tt, λ ts. refl) refl c.map_of.result part_tree _ _ c.in_ok-put_pairs-in-Map.ensures c.map_of.ensures))
-
-pub put_form-returns-in-Send : goal.put_form-returns-in-Send
-put_form-returns-in-Send t c =
-    let f = change_of c.args.replacement.now in let n = c.args.depth in
-    rw c.in-Send.is (formed _ _ _ (two-made f n c.put_term-channel.result c.put_terms-args.result c.send_of.result (λ u. u) (λ v. many row v.items) part_tree _ _ (send c.in-Send.persistent) (tt, λ ts. refl) refl c.put_term-channel.ensures (row-made f n c.put_terms-args.result (λ v. v.items) _ c.put_terms-args.ensures) c.send_of.ensures))
-
-pub put_form-returns-in-Receive : goal.put_form-returns-in-Receive
-put_form-returns-in-Receive t c =
-    let f = change_of c.args.replacement.now in let n = c.args.depth in
-    rw c.in-Receive.is (formed _ _ _ (two-bound f n c.put_binds-binds.result c.put_term.result c.receive_of.result (λ v. many row (map bind_tree v.items)) (λ u. u) part_tree _ _ (receive c.in-Receive.kind) tt refl (λ ts. refl) c.plus-bound.result (omega arith) c.plus-inner.result (omega arith) (row-made f n c.put_binds-binds.result (λ v. map bind_tree v.items) _ c.put_binds-binds.ensures) c.put_term.ensures c.receive_of.ensures))
-
-pub put_form-returns-in_ok-names-in-New : goal.put_form-returns-in_ok-names-in-New
-put_form-returns-in_ok-names-in-New t c =
-    let f = change_of c.args.replacement.now in let n = c.args.depth in
-    rw c.in-New.is (formed _ _ _ (new-made f n c.put_term-in-New.result c.new_of.result (λ u. u) part_tree _ _ _ (same_from_all_zip _ _ _ c.in_ok-names-in-New.ensures.cases.0 (λ x y r. search rules)) c.plus-inner-in-New.result (omega arith) c.put_term-in-New.ensures c.new_of.ensures))
-
-pub put_form-returns-in-Match : goal.put_form-returns-in-Match
-put_form-returns-in-Match t c =
-    let f = change_of c.args.replacement.now in let n = c.args.depth in
-    rw c.in-Match.is (formed _ _ _ (two-made f n c.put_term-target.result c.put_cases.result c.match_of.result (λ u. u) (λ v. many row (map case_tree v.items)) part_tree _ _ match (tt, λ ts. refl) refl c.put_term-target.ensures (row-made f n c.put_cases.result (λ v. map case_tree v.items) _ c.put_cases.ensures) c.match_of.ensures))
-
-pub put_form-returns-in_ok-body-in-Bundle : goal.put_form-returns-in_ok-body-in-Bundle
-put_form-returns-in_ok-body-in-Bundle t c =
-    let f = change_of c.args.replacement.now in let n = c.args.depth in rw c.in-Bundle.is (λ h. one-becomes f n (bundle _) (tt, λ ts. refl) refl _ _ c.in_ok-body-in-Bundle.ensures)
-
-pub put_form-returns-in_ok-arg-in-Unary : goal.put_form-returns-in_ok-arg-in-Unary
-put_form-returns-in_ok-arg-in-Unary t c =
-    let f = change_of c.args.replacement.now in let n = c.args.depth in rw c.in-Unary.is (λ h. one-becomes f n (unary _) (tt, λ ts. refl) refl _ _ c.in_ok-arg-in-Unary.ensures)
-
-pub put_form-returns-in-Binary : goal.put_form-returns-in-Binary
-put_form-returns-in-Binary t c =
-    let f = change_of c.args.replacement.now in let n = c.args.depth in
-    rw c.in-Binary.is (formed _ _ _ (two-made f n c.put_term-left.result c.put_term-right.result c.binary_of.result (λ u. u) (λ u. u) part_tree _ _ (binary c.in-Binary.op) (tt, λ ts. refl) refl c.put_term-left.ensures c.put_term-right.ensures c.binary_of.ensures))
-
-pub put_form-returns-in_ok-name-in-Method : goal.put_form-returns-in_ok-name-in-Method
-put_form-returns-in_ok-name-in-Method t c =
-    let f = change_of c.args.replacement.now in let n = c.args.depth in
-    rw c.in-Method.is (formed _ _ _ (method-made f n c.put_term-target-in-Method.result c.put_terms-in-Method.result c.method_of.result (λ u. u) (λ v. many row v.items) part_tree _ _ _ _ (search rules) c.put_term-target-in-Method.ensures (row-made f n c.put_terms-in-Method.result (λ v. v.items) _ c.put_terms-in-Method.ensures) c.method_of.ensures))
-
-pub put_form-returns-in_default : goal.put_form-returns-in_default
-put_form-returns-in_default t c =
-    let d = c.in_default in let f = change_of c.args.replacement.now in let n = c.args.depth in
-    copied f n c.copy.result part_tree (part_tree c.args.part.now) (leaf-stays f n c.args.part.now d.not-List d.not-Tuple d.not-Set d.not-Map d.not-Send d.not-Receive d.not-New d.not-Match d.not-Bundle d.not-Unary d.not-Binary d.not-Method) c.copy.ensures
-
-pub put_pat_form-returns-in-Wild : goal.put_pat_form-returns-in-Wild
-put_pat_form-returns-in-Wild t c =
-    let f = change_of c.args.replacement.now in let n = c.args.depth in rw c.in-Wild.is (λ h. leaf-becomes f n any (tt, λ ts. refl) refl)
-
-pub put_pat_form-returns-in-Var : goal.put_pat_form-returns-in-Var
-put_pat_form-returns-in-Var t c =
-    let f = change_of c.args.replacement.now in let n = c.args.depth in rw c.in-Var.is (λ h. leaf-becomes f n some_process (tt, λ ts. refl) refl)
-
-pub put_pat_form-returns-in-NameVar : goal.put_pat_form-returns-in-NameVar
-put_pat_form-returns-in-NameVar t c =
-    let f = change_of c.args.replacement.now in let n = c.args.depth in rw c.in-NameVar.is (λ h. leaf-becomes f n some_name (tt, λ ts. refl) refl)
-
-pub put_pat_form-returns-in-Simple : goal.put_pat_form-returns-in-Simple
-put_pat_form-returns-in-Simple t c =
-    let f = change_of c.args.replacement.now in let n = c.args.depth in rw c.in-Simple.is (λ h. leaf-becomes f n (simple _) (tt, λ ts. refl) refl)
-
-pub put_pat_form-returns-in_ok-put_term-in-Same : goal.put_pat_form-returns-in_ok-put_term-in-Same
-put_pat_form-returns-in_ok-put_term-in-Same t c =
-    let f = change_of c.args.replacement.now in let n = c.args.depth in rw c.in-Same.is (λ h. one-becomes f n same (tt, λ ts. refl) refl _ _ c.in_ok-put_term-in-Same.ensures)
-
-pub put_pat_form-returns-in_ok-copy_ground-in-Ground : goal.put_pat_form-returns-in_ok-copy_ground-in-Ground
-put_pat_form-returns-in_ok-copy_ground-in-Ground t c =
-    let f = change_of c.args.replacement.now in let n = c.args.depth in rw c.in-Ground.is (λ h. subst (Becomes f n (ground_tree _)) (sym c.in_ok-copy_ground-in-Ground.ensures) (ground-becomes f n _))
-
-pub put_pat_form-returns-in-Both : goal.put_pat_form-returns-in-Both
-put_pat_form-returns-in-Both t c =
-    let f = change_of c.args.replacement.now in let n = c.args.depth in
-    rw c.in-Both.is (formed _ _ _ (two-made f n c.put_pat-left.result c.put_pat.result c.both_of.result (λ u. u) (λ u. u) pat_part_tree _ _ both (tt, λ ts. refl) refl c.put_pat-left.ensures c.put_pat.ensures c.both_of.ensures))
-
-pub put_pat_form-returns-in-Either : goal.put_pat_form-returns-in-Either
-put_pat_form-returns-in-Either t c =
-    let f = change_of c.args.replacement.now in let n = c.args.depth in
-    rw c.in-Either.is (formed _ _ _ (two-made f n c.put_pat-left-in-Either.result c.put_pat-in-Either.result c.either_of.result (λ u. u) (λ u. u) pat_part_tree _ _ either (tt, λ ts. refl) refl c.put_pat-left-in-Either.ensures c.put_pat-in-Either.ensures c.either_of.ensures))
-
-pub put_pat_form-returns-in_ok-put_pat-in-Not : goal.put_pat_form-returns-in_ok-put_pat-in-Not
-put_pat_form-returns-in_ok-put_pat-in-Not t c =
-    let f = change_of c.args.replacement.now in let n = c.args.depth in rw c.in-Not.is (λ h. one-becomes f n not_this (tt, λ ts. refl) refl _ _ c.in_ok-put_pat-in-Not.ensures)
-
-pub put_pat_form-returns-in_ok-put_pats-in-List : goal.put_pat_form-returns-in_ok-put_pats-in-List
-put_pat_form-returns-in_ok-put_pats-in-List t c =
-    let f = change_of c.args.replacement.now in let n = c.args.depth in rw c.in-List.is (λ h. two-becomes f n list_pattern (tt, λ ts. refl) refl _ _ _ _ (rows f n _ _ c.in_ok-put_pats-in-List.ensures) (leaf-becomes f n (rest _) (tt, λ ts. refl) refl))
-
-pub put_pat_form-returns-in_ok-put_pats-in-Set : goal.put_pat_form-returns-in_ok-put_pats-in-Set
-put_pat_form-returns-in_ok-put_pats-in-Set t c =
-    let f = change_of c.args.replacement.now in let n = c.args.depth in rw c.in-Set.is (λ h. two-becomes f n set_pattern (tt, λ ts. refl) refl _ _ _ _ (rows f n _ _ c.in_ok-put_pats-in-Set.ensures) (leaf-becomes f n (rest _) (tt, λ ts. refl) refl))
-
-pub put_pat_form-returns-in_ok-put_pat_pairs-in-Map : goal.put_pat_form-returns-in_ok-put_pat_pairs-in-Map
-put_pat_form-returns-in_ok-put_pat_pairs-in-Map t c =
-    let f = change_of c.args.replacement.now in let n = c.args.depth in rw c.in-Map.is (λ h. two-becomes f n map_pattern (tt, λ ts. refl) refl _ _ _ _ (rows f n _ _ c.in_ok-put_pat_pairs-in-Map.ensures) (leaf-becomes f n (rest _) (tt, λ ts. refl) refl))
-
-pub put_pat_form-returns-in_ok-members-in-Tuple : goal.put_pat_form-returns-in_ok-members-in-Tuple
-put_pat_form-returns-in_ok-members-in-Tuple t c =
-    let f = change_of c.args.replacement.now in let n = c.args.depth in rw c.in-Tuple.is (λ h. flat f n tuple (tt, λ ts. refl) refl _ _ c.in_ok-members-in-Tuple.ensures)
-
-pub put_pat_form-returns-in-Send : goal.put_pat_form-returns-in-Send
-put_pat_form-returns-in-Send t c =
-    let f = change_of c.args.replacement.now in let n = c.args.depth in
-    rw c.in-Send.is (formed _ _ _ (two-made f n c.put_pat-channel.result c.put_pats-args.result c.send_pattern_of.result (λ u. u) (λ v. many row v.items) pat_part_tree _ _ (send c.in-Send.persistent) (tt, λ ts. refl) refl c.put_pat-channel.ensures (row-made f n c.put_pats-args.result (λ v. v.items) _ c.put_pats-args.ensures) c.send_pattern_of.ensures))
-
-pub put_pat_form-returns-in_ok-body-in-Bundle : goal.put_pat_form-returns-in_ok-body-in-Bundle
-put_pat_form-returns-in_ok-body-in-Bundle t c =
-    let f = change_of c.args.replacement.now in let n = c.args.depth in rw c.in-Bundle.is (λ h. one-becomes f n (bundle _) (tt, λ ts. refl) refl _ _ c.in_ok-body-in-Bundle.ensures)
-
-pub put_part-returns-in-Var-clause-parts : goal.put_part-returns-in-Var-clause-parts
-put_part-returns-in-Var-clause-parts t c =
-    rw c.in-Var.is c.put_variable.ensures.parts
-
-pub put_part-returns-in-Var-clause-members : goal.put_part-returns-in-Var-clause-members
-put_part-returns-in-Var-clause-members t c =
-    c.put_variable.ensures.members
-
-pub put_part-returns-in-NameVar-clause-parts : goal.put_part-returns-in-NameVar-clause-parts
-put_part-returns-in-NameVar-clause-parts t c =
-    rw c.in-NameVar.is c.put_variable-in-NameVar.ensures.parts
-
-pub put_part-returns-in-NameVar-clause-members : goal.put_part-returns-in-NameVar-clause-members
-put_part-returns-in-NameVar-clause-members t c =
-    c.put_variable-in-NameVar.ensures.members
-
-pub put_part-returns-in_default : goal.put_part-returns-in_default
-put_part-returns-in_default t c =
-    let f = change_of c.args.replacement.now in let n = c.args.depth in
-    let u = part_tree c.args.part.now in
-    let h : IsForm (part_tree c.args.part.now) = part-form c.args.part.now c.in_default.not-Var c.in_default.not-NameVar in
-    let b = met (λ p. Becomes f n u (part_tree p)) c.put_form.result h c.put_form.ensures in
-    record {
-      parts = adds-made f n part_tree u c.args.out.now.items c.add.new.out.items c.add.result c.put_form.result b c.add.ensures;
-      members = ordered-made f n part_tree u c.args.out.now.items c.add.new.out.items c.add.result c.put_form.result h (omega arith) b c.add.ensures;
-    }
-
-pub put_pat_part-returns-in_default : goal.put_pat_part-returns-in_default
-put_pat_part-returns-in_default t c =
-    let f = change_of c.args.replacement.now in let n = c.args.depth in
-    let u = pat_part_tree c.args.part.now in
-    let h : IsForm (pat_part_tree c.args.part.now) = pat_part-form c.args.part.now c.in_default.not-Closed in
-    let b = met (λ p. Becomes f n u (pat_part_tree p)) c.put_pat_form.result h c.put_pat_form.ensures in
-    record {
-      parts = adds-made f n pat_part_tree u c.args.out.now.items c.add.new.out.items c.add.result c.put_pat_form.result b c.add.ensures;
-      members = ordered-made f n pat_part_tree u c.args.out.now.items c.add.new.out.items c.add.result c.put_pat_form.result h (omega arith) b c.add.ensures;
-    }
-
-pub put_pat_part-returns-in_ok-put_closed-in-Closed-clause-members : goal.put_pat_part-returns-in_ok-put_closed-in-Closed-clause-members
-put_pat_part-returns-in_ok-put_closed-in-Closed-clause-members t c =
-    λ o. c.in_ok-put_closed-in-Closed.ensures.members (c.in_ok-put_part-in-Closed.ensures.members (λ k d l. absurd (omega arith))) o
-
-pub put_term-from_sorted-requires-clause-parts : goal.put_term-from_sorted-requires-clause-parts
-put_term-from_sorted-requires-clause-parts t c =
-    sorted-ordered _ _ c.in_ok-parts.ensures.ascend
-
-pub put_term-returns : goal.put_term-returns
-put_term-returns t c =
-    let f = change_of c.args.replacement.now in let n = c.args.depth in
-    let a : AllBecome f n (map part_tree c.parts-part-items.result.now) (map part_tree c.loop-part.parts.items) = all-made f n (map part_tree c.loop-part.parts.items) (map part_tree (drop c.loop-part.part-index c.parts-part-items.result.now)) (map part_tree c.parts-part-items.result.now) (ap (map part_tree) (no-more c.parts-part-items.result.now c.parts-part-items.result.now c.loop-part.part-index refl c.loop-part-test.false)) c.loop-part.invariant.parts in
-    process-becomes f n _ _ _ _ _ c.parts-part-items.ensures.parts c.from_sorted.ensures c.in_ok-parts.ensures.ascend a
-
-pub put_pat-returns : goal.put_pat-returns
-put_pat-returns t c =
-    let f = change_of c.args.replacement.now in let n = c.args.depth in
-    let a : AllBecome f n (map pat_part_tree c.parts-part-items.result.now) (map pat_part_tree c.loop-part.parts.items) = all-made f n (map pat_part_tree c.loop-part.parts.items) (map pat_part_tree (drop c.loop-part.part-index c.parts-part-items.result.now)) (map pat_part_tree c.parts-part-items.result.now) (ap (map pat_part_tree) (no-more c.parts-part-items.result.now c.parts-part-items.result.now c.loop-part.part-index refl c.loop-part-test.false)) c.loop-part.invariant.parts in
-    pattern-becomes f n _ _ _ _ c.parts-part-items.ensures.parts c.new.ensures a
-
 pub put_terms-loop-term-preserved : goal.put_terms-loop-term-preserved
-put_terms-loop-term-preserved t c =
+put_terms-loop-term-preserved t c = λ h.
     let f = change_of c.args.replacement.now in let n = c.args.depth in
-    turn f n c.loop-term.filled.items c.add.new.out.items (drop c.loop-term.term-index c.args.terms.now.items) (drop (c.loop-term.term-index + 1) c.args.terms.now.items) c.args.terms.now.items c.term-item.result (next-one c.args.terms.now.items c.deref-term-items.result.now c.loop-term.term-index c.term-item.result c.deref-term-items.ensures.value c.loop-term-test.true c.term-item.is) (added-tree f n c.put_term.result c.term-item.result c.loop-term.filled.items c.add.new.out.items c.put_term.ensures c.in_ok-add.ensures) c.loop-term.invariant
+    let k = c.add.ensures h in
+    let m = c.put_term-made.ensures k.0 in
+    let i = c.loop-term.invariant m.0 in
+    (i.0, turn-tree f n _ _ c.args.terms.now.items _ _ _ (next-one c.args.terms.now.items c.deref-term-items.result.now c.loop-term.term-index c.term-item.result c.deref-term-items.ensures.value c.loop-term-test.true c.term-item.is) k.1 m.1 i.1)
 
 pub put_terms-returns : goal.put_terms-returns
-put_terms-returns t c =
+put_terms-returns t c = λ h.
     let f = change_of c.args.replacement.now in let n = c.args.depth in
-    all-made f n c.loop-term.filled.items (drop c.loop-term.term-index c.args.terms.now.items) c.args.terms.now.items (no-more c.args.terms.now.items c.deref-term-items.result.now c.loop-term.term-index c.deref-term-items.ensures.value c.loop-term-test.false) c.loop-term.invariant
+    let i = c.loop-term.invariant h in
+    (i.0, all-become f n c.args.terms.now.items _ _ (no-more c.args.terms.now.items c.deref-term-items.result.now c.loop-term.term-index c.deref-term-items.ensures.value c.loop-term-test.false) i.1)
 
 pub put_pats-loop-pat-preserved : goal.put_pats-loop-pat-preserved
-put_pats-loop-pat-preserved t c =
+put_pats-loop-pat-preserved t c = λ h.
     let f = change_of c.args.replacement.now in let n = c.args.depth in
-    turn f n c.loop-pat.filled.items c.add.new.out.items (drop c.loop-pat.pat-index c.args.pats.now.items) (drop (c.loop-pat.pat-index + 1) c.args.pats.now.items) c.args.pats.now.items c.pat-item.result (next-one c.args.pats.now.items c.deref-pat-items.result.now c.loop-pat.pat-index c.pat-item.result c.deref-pat-items.ensures.value c.loop-pat-test.true c.pat-item.is) (added-tree f n c.put_pat.result c.pat-item.result c.loop-pat.filled.items c.add.new.out.items c.put_pat.ensures c.in_ok-add.ensures) c.loop-pat.invariant
+    let k = c.add.ensures h in
+    let m = c.put_pat-made.ensures k.0 in
+    let i = c.loop-pat.invariant m.0 in
+    (i.0, turn-tree f n _ _ c.args.pats.now.items _ _ _ (next-one c.args.pats.now.items c.deref-pat-items.result.now c.loop-pat.pat-index c.pat-item.result c.deref-pat-items.ensures.value c.loop-pat-test.true c.pat-item.is) k.1 m.1 i.1)
 
 pub put_pats-returns : goal.put_pats-returns
-put_pats-returns t c =
+put_pats-returns t c = λ h.
     let f = change_of c.args.replacement.now in let n = c.args.depth in
-    all-made f n c.loop-pat.filled.items (drop c.loop-pat.pat-index c.args.pats.now.items) c.args.pats.now.items (no-more c.args.pats.now.items c.deref-pat-items.result.now c.loop-pat.pat-index c.deref-pat-items.ensures.value c.loop-pat-test.false) c.loop-pat.invariant
+    let i = c.loop-pat.invariant h in
+    (i.0, all-become f n c.args.pats.now.items _ _ (no-more c.args.pats.now.items c.deref-pat-items.result.now c.loop-pat.pat-index c.deref-pat-items.ensures.value c.loop-pat-test.false) i.1)
+
+pub put_pairs-loop-pair-preserved : goal.put_pairs-loop-pair-preserved
+put_pairs-loop-pair-preserved t c = λ h.
+    let f = change_of c.args.replacement.now in let n = c.args.depth in
+    let k = c.add.ensures h in
+    let v = c.put_term-value.ensures k.0 in
+    let m = c.put_term-key.ensures v.0 in
+    let i = c.loop-pair.invariant m.0 in
+    (i.0, turn-thing f n pair_tree _ _ c.args.pairs.now.items _ _ _ (next-one c.args.pairs.now.items c.deref-pair-items.result.now c.loop-pair.pair-index c.pair-item.result c.deref-pair-items.ensures.value c.loop-pair-test.true c.pair-item.is) k.1 (two-becomes f n pair (tt, λ ts. refl) refl _ _ _ _ m.1 v.1) i.1)
+
+pub put_pat_pairs-loop-pair-preserved : goal.put_pat_pairs-loop-pair-preserved
+put_pat_pairs-loop-pair-preserved t c = λ h.
+    let f = change_of c.args.replacement.now in let n = c.args.depth in
+    let k = c.add.ensures h in
+    let v = c.put_pat-value.ensures k.0 in
+    let m = c.put_pat-key.ensures v.0 in
+    let i = c.loop-pair.invariant m.0 in
+    (i.0, turn-thing f n pair_tree _ _ c.args.pairs.now.items _ _ _ (next-one c.args.pairs.now.items c.deref-pair-items.result.now c.loop-pair.pair-index c.pair-item.result c.deref-pair-items.ensures.value c.loop-pair-test.true c.pair-item.is) k.1 (two-becomes f n pair (tt, λ ts. refl) refl _ _ _ _ m.1 v.1) i.1)
+
+pub put_binds-loop-bind-preserved : goal.put_binds-loop-bind-preserved
+put_binds-loop-bind-preserved t c = λ h.
+    let f = change_of c.args.replacement.now in let n = c.args.depth in
+    let k = c.add.ensures h in
+    let p = c.put_pats-pats.ensures k.0 in
+    let m = c.put_term-channel.ensures p.0 in
+    let i = c.loop-bind.invariant m.0 in
+    let r = rest c.bind-item.result.rest in
+    (i.0, turn-thing f n bind_tree _ _ c.args.binds.now.items _ _ _ (next-one c.args.binds.now.items c.deref-bind-items.result.now c.loop-bind.bind-index c.bind-item.result c.deref-bind-items.ensures.value c.loop-bind-test.true c.bind-item.is) k.1 (three-becomes f n bind (tt, λ ts. refl) refl _ _ _ _ _ _ m.1 (rows f n _ _ p.1) (leaf-becomes f n r (tt, λ ts. refl) refl)) i.1)
+
+pub put_cases-loop-case-preserved : goal.put_cases-loop-case-preserved
+put_cases-loop-case-preserved t c = λ h.
+    let f = change_of c.args.replacement.now in let n = c.args.depth in
+    let k = c.add.ensures h in
+    let b = c.put_term-body.ensures k.0 in
+    let m = c.put_pat-pat.ensures b.0 in
+    let i = c.loop-case.invariant m.0 in
+    (i.0, turn-thing f n case_tree _ _ c.args.cases.now.items _ _ _ (next-one c.args.cases.now.items c.deref-case-items.result.now c.loop-case.case-index c.case-item.result c.deref-case-items.ensures.value c.loop-case-test.true c.case-item.is) k.1 (two-bind f n case tt refl (λ ts. refl) c.case-item.result.pat _ c.case-item.result.body _ c.plus-bound.result (omega arith) c.plus-inner.result (omega arith) m.1 b.1) i.1)
+
+pub put_pairs-returns : goal.put_pairs-returns
+put_pairs-returns t c = λ h.
+    let f = change_of c.args.replacement.now in let n = c.args.depth in
+    let i = c.loop-pair.invariant h in
+    (i.0, all-become f n (map pair_tree c.args.pairs.now.items) _ _ (ap (map pair_tree) (no-more c.args.pairs.now.items c.deref-pair-items.result.now c.loop-pair.pair-index c.deref-pair-items.ensures.value c.loop-pair-test.false)) i.1)
+
+pub put_pat_pairs-returns : goal.put_pat_pairs-returns
+put_pat_pairs-returns t c = λ h.
+    let f = change_of c.args.replacement.now in let n = c.args.depth in
+    let i = c.loop-pair.invariant h in
+    (i.0, all-become f n (map pair_tree c.args.pairs.now.items) _ _ (ap (map pair_tree) (no-more c.args.pairs.now.items c.deref-pair-items.result.now c.loop-pair.pair-index c.deref-pair-items.ensures.value c.loop-pair-test.false)) i.1)
+
+pub put_binds-returns : goal.put_binds-returns
+put_binds-returns t c = λ h.
+    let f = change_of c.args.replacement.now in let n = c.args.depth in
+    let i = c.loop-bind.invariant h in
+    (i.0, all-become f n (map bind_tree c.args.binds.now.items) _ _ (ap (map bind_tree) (no-more c.args.binds.now.items c.deref-bind-items.result.now c.loop-bind.bind-index c.deref-bind-items.ensures.value c.loop-bind-test.false)) i.1)
+
+pub put_cases-returns : goal.put_cases-returns
+put_cases-returns t c = λ h.
+    let f = change_of c.args.replacement.now in let n = c.args.depth in
+    let i = c.loop-case.invariant h in
+    (i.0, all-become f n (map case_tree c.args.cases.now.items) _ _ (ap (map case_tree) (no-more c.args.cases.now.items c.deref-case-items.result.now c.loop-case.case-index c.deref-case-items.ensures.value c.loop-case-test.false)) i.1)
+
+pub put_term-loop-part-preserved : goal.put_term-loop-part-preserved
+put_term-loop-part-preserved t c = λ h.
+    let f = change_of c.args.replacement.now in let n = c.args.depth in
+    let m = c.put_part.ensures h in
+    let i = c.loop-part.invariant m.0 in
+    let e = next-one c.parts-part-items.result.now c.parts-part-items.result.now c.loop-part.part-index c.part-item.result refl c.loop-part-test.true c.part-item.is in
+    (i.0, (turn-map f n part_tree c.loop-part.parts.items c.put_part.new.out.items c.parts-part-items.result.now c.loop-part.part-index c.part-item.result e m.1.0 i.1.0, m.1.1 i.1.1))
+
+pub put_term-process-requires : goal.put_term-process-requires
+put_term-process-requires t c = λ h. (c.loop-part.invariant h).1.1
+
+pub put_pat-loop-part-preserved : goal.put_pat-loop-part-preserved
+put_pat-loop-part-preserved t c = λ h.
+    let f = change_of c.args.replacement.now in let n = c.args.depth in
+    let m = c.put_pat_part.ensures h in
+    let i = c.loop-part.invariant m.0 in
+    let e = next-one c.parts-part-items.result.now c.parts-part-items.result.now c.loop-part.part-index c.part-item.result refl c.loop-part-test.true c.part-item.is in
+    (i.0, (turn-map f n pat_part_tree c.loop-part.parts.items c.put_pat_part.new.out.items c.parts-part-items.result.now c.loop-part.part-index c.part-item.result e m.1.0 i.1.0, m.1.1 i.1.1))
+
+pub put_pat-pattern-requires : goal.put_pat-pattern-requires
+put_pat-pattern-requires t c = λ h. (c.loop-part.invariant h).1.1
+
+pub put_term-returns : goal.put_term-returns
+put_term-returns t c = λ h.
+    let f = change_of c.args.replacement.now in let n = c.args.depth in
+    let k = c.process.ensures h in
+    let i = c.loop-part.invariant k.0 in
+    (i.0, process-becomes f n _ _ _ _ c.parts-part-items.ensures.parts k.1 (all-become f n (map part_tree c.parts-part-items.result.now) (map part_tree c.loop-part.parts.items) (map part_tree (drop c.loop-part.part-index c.parts-part-items.result.now)) (ap (map part_tree) (no-more c.parts-part-items.result.now c.parts-part-items.result.now c.loop-part.part-index refl c.loop-part-test.false)) i.1.0))
+
+pub put_pat-returns : goal.put_pat-returns
+put_pat-returns t c = λ h.
+    let f = change_of c.args.replacement.now in let n = c.args.depth in
+    let i = c.loop-part.invariant h in
+    (i.0, pattern-becomes f n _ _ _ _ c.parts-part-items.ensures.parts (c.pattern.ensures h) (all-become f n (map pat_part_tree c.parts-part-items.result.now) (map pat_part_tree c.loop-part.parts.items) (map pat_part_tree (drop c.loop-part.part-index c.parts-part-items.result.now)) (ap (map pat_part_tree) (no-more c.parts-part-items.result.now c.parts-part-items.result.now c.loop-part.part-index refl c.loop-part-test.false)) i.1.0))
+
+pub put_form-returns-in-Ground : goal.put_form-returns-in-Ground
+put_form-returns-in-Ground t c = rw c.in-Ground.is (λ h.
+    let f = change_of c.args.replacement.now in let n = c.args.depth in
+    let m = c.ground.ensures h in
+    (m.0, λ z. subst (Becomes f n (ground_tree _)) (sym m.1) (ground-becomes f n _)))
+
+pub put_form-returns-in-Fresh : goal.put_form-returns-in-Fresh
+put_form-returns-in-Fresh t c = rw c.in-Fresh.is (λ h.
+    let f = change_of c.args.replacement.now in let n = c.args.depth in
+    (h, λ z. leaf-becomes f n (fresh _) (tt, λ ts. refl) refl))
+
+pub put_form-returns-in-Var : goal.put_form-returns-in-Var
+put_form-returns-in-Var t c = rw c.in-Var.is (λ h. (h, λ z. absurd z))
+
+pub put_form-returns-in-NameVar : goal.put_form-returns-in-NameVar
+put_form-returns-in-NameVar t c = rw c.in-NameVar.is (λ h. (h, λ z. absurd z))
+
+pub put_form-returns-in-List : goal.put_form-returns-in-List
+put_form-returns-in-List t c = rw c.in-List.is (λ h.
+    let f = change_of c.args.replacement.now in let n = c.args.depth in
+    let m = c.put_terms.ensures h in
+    (m.0, λ z. flat f n list (tt, λ ts. refl) refl _ _ m.1))
+
+pub put_form-returns-in-Tuple : goal.put_form-returns-in-Tuple
+put_form-returns-in-Tuple t c = rw c.in-Tuple.is (λ h.
+    let f = change_of c.args.replacement.now in let n = c.args.depth in
+    let m = c.put_terms-in-Tuple.ensures h in
+    (m.0, λ z. flat f n tuple (tt, λ ts. refl) refl _ _ m.1))
+
+pub put_form-returns-in-Set : goal.put_form-returns-in-Set
+put_form-returns-in-Set t c = rw c.in-Set.is (λ h.
+    let f = change_of c.args.replacement.now in let n = c.args.depth in
+    let k = c.set.ensures h in
+    let m = c.put_terms-members.ensures k.0 in
+    (m.0, λ z. bag-made f n set (tt, λ ts. refl) refl _ _ _ m.1 k.1))
+
+pub put_form-returns-in-Map : goal.put_form-returns-in-Map
+put_form-returns-in-Map t c = rw c.in-Map.is (λ h.
+    let f = change_of c.args.replacement.now in let n = c.args.depth in
+    let k = c.map.ensures h in
+    let m = c.put_pairs-pairs.ensures k.0 in
+    (m.0, λ z. bag-made f n dict (tt, λ ts. refl) refl _ _ _ m.1 k.1))
+
+pub put_form-returns-in-Send : goal.put_form-returns-in-Send
+put_form-returns-in-Send t c = rw c.in-Send.is (λ h.
+    let f = change_of c.args.replacement.now in let n = c.args.depth in
+    let k = c.put_terms-args.ensures h in
+    let m = c.put_term-channel.ensures k.0 in
+    (m.0, λ z. two-becomes f n (send _) (tt, λ ts. refl) refl _ _ _ _ m.1 (rows f n _ _ k.1)))
+
+pub put_form-returns-in-Receive : goal.put_form-returns-in-Receive
+put_form-returns-in-Receive t c = rw c.in-Receive.is (λ h.
+    let f = change_of c.args.replacement.now in let n = c.args.depth in
+    let k = c.put_term-body.ensures h in
+    let m = c.put_binds-binds.ensures k.0 in
+    (m.0, λ z. two-bind f n (receive _) tt refl (λ ts. refl) _ _ _ _ c.plus-bound.result (omega arith) c.plus-inner.result (omega arith) (rows f n _ _ m.1) k.1))
+
+pub put_form-returns-in-New : goal.put_form-returns-in-New
+put_form-returns-in-New t c = rw c.in-New.is (λ h.
+    let f = change_of c.args.replacement.now in let n = c.args.depth in
+    let k = c.put_term-body-in-New.ensures h in
+    let m = c.names-names.ensures k.0 in
+    (m.0, λ z. new-becomes f n _ _ m.1 _ _ c.plus-inner-in-New.result (omega arith) k.1))
+
+pub put_form-returns-in-Match : goal.put_form-returns-in-Match
+put_form-returns-in-Match t c = rw c.in-Match.is (λ h.
+    let f = change_of c.args.replacement.now in let n = c.args.depth in
+    let k = c.put_cases-cases.ensures h in
+    let m = c.put_term-target.ensures k.0 in
+    (m.0, λ z. two-becomes f n match (tt, λ ts. refl) refl _ _ _ _ m.1 (rows f n _ _ k.1)))
+
+pub put_form-returns-in-Bundle : goal.put_form-returns-in-Bundle
+put_form-returns-in-Bundle t c = rw c.in-Bundle.is (λ h.
+    let f = change_of c.args.replacement.now in let n = c.args.depth in
+    let m = c.put_term-body-in-Bundle.ensures h in
+    (m.0, λ z. one-becomes f n (bundle _) (tt, λ ts. refl) refl _ _ m.1))
+
+pub put_form-returns-in-Unary : goal.put_form-returns-in-Unary
+put_form-returns-in-Unary t c = rw c.in-Unary.is (λ h.
+    let f = change_of c.args.replacement.now in let n = c.args.depth in
+    let m = c.put_term-arg.ensures h in
+    (m.0, λ z. one-becomes f n (unary _) (tt, λ ts. refl) refl _ _ m.1))
+
+pub put_form-returns-in-Binary : goal.put_form-returns-in-Binary
+put_form-returns-in-Binary t c = rw c.in-Binary.is (λ h.
+    let f = change_of c.args.replacement.now in let n = c.args.depth in
+    let k = c.put_term-right.ensures h in
+    let m = c.put_term-left.ensures k.0 in
+    (m.0, λ z. two-becomes f n (binary _) (tt, λ ts. refl) refl _ _ _ _ m.1 k.1))
+
+pub put_form-returns-in-Method : goal.put_form-returns-in-Method
+put_form-returns-in-Method t c = rw c.in-Method.is (λ h.
+    let f = change_of c.args.replacement.now in let n = c.args.depth in
+    let k = c.put_terms-args-in-Method.ensures h in
+    let m = c.put_term-target-in-Method.ensures k.0 in
+    let x = c.text-name.ensures m.0 in
+    (x.0, λ z. method-becomes f n _ _ x.1 _ _ _ _ m.1 (rows f n _ _ k.1)))
+
+pub put_pat_form-returns-in-Wild : goal.put_pat_form-returns-in-Wild
+put_pat_form-returns-in-Wild t c = rw c.in-Wild.is (λ h.
+    let f = change_of c.args.replacement.now in let n = c.args.depth in
+    (h, λ z. leaf-becomes f n any (tt, λ ts. refl) refl))
+
+pub put_pat_form-returns-in-Var : goal.put_pat_form-returns-in-Var
+put_pat_form-returns-in-Var t c = rw c.in-Var.is (λ h.
+    let f = change_of c.args.replacement.now in let n = c.args.depth in
+    (h, λ z. leaf-becomes f n some_process (tt, λ ts. refl) refl))
+
+pub put_pat_form-returns-in-NameVar : goal.put_pat_form-returns-in-NameVar
+put_pat_form-returns-in-NameVar t c = rw c.in-NameVar.is (λ h.
+    let f = change_of c.args.replacement.now in let n = c.args.depth in
+    (h, λ z. leaf-becomes f n some_name (tt, λ ts. refl) refl))
+
+pub put_pat_form-returns-in-Simple : goal.put_pat_form-returns-in-Simple
+put_pat_form-returns-in-Simple t c = rw c.in-Simple.is (λ h.
+    let f = change_of c.args.replacement.now in let n = c.args.depth in
+    (h, λ z. leaf-becomes f n (simple _) (tt, λ ts. refl) refl))
+
+pub put_pat_form-returns-in-Same : goal.put_pat_form-returns-in-Same
+put_pat_form-returns-in-Same t c = rw c.in-Same.is (λ h.
+    let f = change_of c.args.replacement.now in let n = c.args.depth in
+    let m = c.put_term.ensures h in
+    (m.0, λ z. one-becomes f n same (tt, λ ts. refl) refl _ _ m.1))
+
+pub put_pat_form-returns-in-Ground : goal.put_pat_form-returns-in-Ground
+put_pat_form-returns-in-Ground t c = rw c.in-Ground.is (λ h.
+    let f = change_of c.args.replacement.now in let n = c.args.depth in
+    let m = c.ground.ensures h in
+    (m.0, λ z. subst (Becomes f n (ground_tree _)) (sym m.1) (ground-becomes f n _)))
+
+pub put_pat_form-returns-in-Both : goal.put_pat_form-returns-in-Both
+put_pat_form-returns-in-Both t c = rw c.in-Both.is (λ h.
+    let f = change_of c.args.replacement.now in let n = c.args.depth in
+    let k = c.put_pat-right.ensures h in
+    let m = c.put_pat-left.ensures k.0 in
+    (m.0, λ z. two-becomes f n both (tt, λ ts. refl) refl _ _ _ _ m.1 k.1))
+
+pub put_pat_form-returns-in-Either : goal.put_pat_form-returns-in-Either
+put_pat_form-returns-in-Either t c = rw c.in-Either.is (λ h.
+    let f = change_of c.args.replacement.now in let n = c.args.depth in
+    let k = c.put_pat-right-in-Either.ensures h in
+    let m = c.put_pat-left-in-Either.ensures k.0 in
+    (m.0, λ z. two-becomes f n either (tt, λ ts. refl) refl _ _ _ _ m.1 k.1))
+
+pub put_pat_form-returns-in-Not : goal.put_pat_form-returns-in-Not
+put_pat_form-returns-in-Not t c = rw c.in-Not.is (λ h.
+    let f = change_of c.args.replacement.now in let n = c.args.depth in
+    let m = c.put_pat.ensures h in
+    (m.0, λ z. one-becomes f n not_this (tt, λ ts. refl) refl _ _ m.1))
+
+pub put_pat_form-returns-in-List : goal.put_pat_form-returns-in-List
+put_pat_form-returns-in-List t c = rw c.in-List.is (λ h.
+    let f = change_of c.args.replacement.now in let n = c.args.depth in
+    let m = c.put_pats.ensures h in
+    (m.0, λ z. two-becomes f n list_pattern (tt, λ ts. refl) refl _ _ _ _ (rows f n _ _ m.1) (leaf-becomes f n (rest _) (tt, λ ts. refl) refl)))
+
+pub put_pat_form-returns-in-Tuple : goal.put_pat_form-returns-in-Tuple
+put_pat_form-returns-in-Tuple t c = rw c.in-Tuple.is (λ h.
+    let f = change_of c.args.replacement.now in let n = c.args.depth in
+    let m = c.put_pats-in-Tuple.ensures h in
+    (m.0, λ z. flat f n tuple (tt, λ ts. refl) refl _ _ m.1))
+
+pub put_pat_form-returns-in-Set : goal.put_pat_form-returns-in-Set
+put_pat_form-returns-in-Set t c = rw c.in-Set.is (λ h.
+    let f = change_of c.args.replacement.now in let n = c.args.depth in
+    let m = c.put_pats-in-Set.ensures h in
+    (m.0, λ z. two-becomes f n set_pattern (tt, λ ts. refl) refl _ _ _ _ (rows f n _ _ m.1) (leaf-becomes f n (rest _) (tt, λ ts. refl) refl)))
+
+pub put_pat_form-returns-in-Map : goal.put_pat_form-returns-in-Map
+put_pat_form-returns-in-Map t c = rw c.in-Map.is (λ h.
+    let f = change_of c.args.replacement.now in let n = c.args.depth in
+    let m = c.put_pat_pairs.ensures h in
+    (m.0, λ z. two-becomes f n map_pattern (tt, λ ts. refl) refl _ _ _ _ (rows f n _ _ m.1) (leaf-becomes f n (rest _) (tt, λ ts. refl) refl)))
+
+pub put_pat_form-returns-in-Send : goal.put_pat_form-returns-in-Send
+put_pat_form-returns-in-Send t c = rw c.in-Send.is (λ h.
+    let f = change_of c.args.replacement.now in let n = c.args.depth in
+    let k = c.put_pats-args.ensures h in
+    let m = c.put_pat-channel.ensures k.0 in
+    (m.0, λ z. two-becomes f n (send _) (tt, λ ts. refl) refl _ _ _ _ m.1 (rows f n _ _ k.1)))
+
+pub put_pat_form-returns-in-Bundle : goal.put_pat_form-returns-in-Bundle
+put_pat_form-returns-in-Bundle t c = rw c.in-Bundle.is (λ h.
+    let f = change_of c.args.replacement.now in let n = c.args.depth in
+    let m = c.put_pat-body.ensures h in
+    (m.0, λ z. one-becomes f n (bundle _) (tt, λ ts. refl) refl _ _ m.1))
+
+pub put_pat_form-returns-in-Closed : goal.put_pat_form-returns-in-Closed
+put_pat_form-returns-in-Closed t c = rw c.in-Closed.is c.put_form.ensures
+
+pub put_part-returns-in-Var : goal.put_part-returns-in-Var
+put_part-returns-in-Var t c = rw c.in-Var.is c.put_variable.ensures
+
+pub put_part-returns-in-NameVar : goal.put_part-returns-in-NameVar
+put_part-returns-in-NameVar t c = rw c.in-NameVar.is c.put_variable-in-NameVar.ensures
+
+pub put_part-returns-in_default : goal.put_part-returns-in_default
+put_part-returns-in_default t c = λ h.
+    let f = change_of c.args.replacement.now in let n = c.args.depth in
+    let z : IsForm (part_tree c.args.part.now) = part-form c.args.part.now c.in_default.not-Var c.in_default.not-NameVar in
+    let k = c.add.ensures h in
+    let m = c.put_form-made.ensures k.0 in
+    (m.0, grows f n part_tree (part_tree c.args.part.now) c.put_form-made.result c.args.out.now.items c.add.new.items.items z (omega arith) (m.1 z) k.1)
+
+pub put_pat_part-returns-in_default : goal.put_pat_part-returns-in_default
+put_pat_part-returns-in_default t c = λ h.
+    let f = change_of c.args.replacement.now in let n = c.args.depth in
+    let z : IsForm (pat_part_tree c.args.part.now) = pat_part-form c.args.part.now c.in_default.not-Closed in
+    let k = c.add.ensures h in
+    let m = c.put_pat_form-made.ensures k.0 in
+    (m.0, grows f n pat_part_tree (pat_part_tree c.args.part.now) c.put_pat_form-made.result c.args.out.now.items c.add.new.items.items z (omega arith) (m.1 z) k.1)
+
+pub put_pat_part-returns-in-Closed : goal.put_pat_part-returns-in-Closed
+put_pat_part-returns-in-Closed t c = rw c.in-Closed.is (λ h.
+    let f = change_of c.args.replacement.now in let n = c.args.depth in
+    let k = c.add_closed.ensures h in
+    let m = c.put_part.ensures k.0 in
+    (m.0, grows-closed f n _ c.new-parts.result.items c.put_part.new.out.items _ _ (search rules) m.1 k.1))

@@ -1,7 +1,7 @@
 use Rattle.std.proofs.Common.{◌≡◌, ◌<◌, arith, subst}
 use Rattle.std.specs.Prelude.{unwrap_or, None, string_bytes}
-use Rattle.std.specs.HashMap.{get_by_text}
-use Rattle.std.proofs.lemmas.Map.Text.{hash_map_updates_text}
+use Rattle.std.specs.BTreeMap.{get_by_text}
+use Rattle.std.proofs.lemmas.Map.Text.{btree_map_updates_text}
 use Rattle.bound_names.specs.Places.{IsIndexed}
 use Rattle.bound_names.proofs.Places.{leave-indexed, last-there}
 use Rattle.bound_names.proofs.names.Names.leave_last.Goals as goal
@@ -17,5 +17,5 @@ unreachable-requires-in-Err c =
 pub invariant_of-self : goal.invariant_of-self
 invariant_of-self c =
     let i = subst (λ z. IsIndexed z c.self.inside.last) c.in-Some.ensures.items c.self.invariant in
-    let g = hash_map_updates_text (string_bytes c.in-Some.bound.name) c.self.inside.last c.insert.new.self _ c.in-Ok.ensures.updates in
+    let g = btree_map_updates_text (string_bytes c.in-Some.bound.name) c.self.inside.last c.insert.new.self _ c.in-Ok.ensures.updates in
     leave-indexed c.pop.new.self.items c.in-Some.bound c.self.inside.last c.insert.new.self i g

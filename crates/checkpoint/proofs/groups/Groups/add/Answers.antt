@@ -4,7 +4,7 @@ use Rattle.checkpoint.proofs.Adding.{codes-added, open-push, apart-more}
 use Rattle.checkpoint.proofs.groups.Groups.add.Goals as goal
 
 pub returns-clause-holds : goal.returns-clause-holds
-returns-clause-holds c = λ rows h p.
+returns-clause-holds g c = λ rows h p.
     let t = c.in_ok-turn.ensures.holds rows h p in
     let e = sym c.requires.0 ∙ sym c.in_ok-turn.ensures.key in
     record {

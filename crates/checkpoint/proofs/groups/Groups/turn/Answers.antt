@@ -6,10 +6,10 @@ use Rattle.checkpoint.proofs.Apart.{not-there}
 use Rattle.checkpoint.proofs.groups.Groups.turn.Goals as goal
 
 pub returns-then-are_equal-clause-key : goal.returns-then-are_equal-clause-key
-returns-then-are_equal-clause-key c = sym (same _ _ (sym c.are_equal.ensures ∙ c.if-are_equal.true))
+returns-then-are_equal-clause-key g c = sym (same _ _ (sym c.are_equal.ensures ∙ c.if-are_equal.true))
 
 pub returns-clause-holds : goal.returns-clause-holds
-returns-clause-holds c = λ rows h p.
+returns-clause-holds g c = λ rows h p.
     let n = ⊎_elim (λ e. absurd (apart (sym (equal _ _ e) ∙ sym c.are_equal.ensures ∙ c.if-are_equal.false))) (λ n. n) p in
     record {
       codes = ap (map (λ s. s.now)) c.in_ok-close.ensures.codes ∙ sym n;

@@ -5,10 +5,10 @@ use Rattle.radix_root.proofs.Given.{none-shared}
 use Rattle.radix_root.proofs.tree.RadixTree.with_groups.Goals as goal
 
 pub give_all-requires-clause-node : goal.give_all-requires-clause-node
-give_all-requires-clause-node c = subst (λ m. IsNode m c.self.inside.root) (sym c.self.invariant.depth) c.self.invariant
+give_all-requires-clause-node g c = subst (λ m. IsNode m c.self.inside.root) (sym c.self.invariant.depth) c.self.invariant
 
 pub give_all-requires-clause-shared : goal.give_all-requires-clause-shared
-give_all-requires-clause-shared c = record {
+give_all-requires-clause-shared g c = record {
   one = [];
   leaves = share-none c.self.inside.root.depth [] c.self.inside.root.leaves c.self.invariant.depth;
   groups = none-shared c.self.inside.root.depth [] c.args.groups.now c.self.invariant.depth;

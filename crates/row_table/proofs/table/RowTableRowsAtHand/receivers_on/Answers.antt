@@ -1,8 +1,8 @@
-use Rattle.std.proofs.Common.{List, map, sym, ◌∙◌, ap, subst}
-use Rattle.calculus.specs.declared.ids.Digest.{Digest}
+use Rattle.std.proofs.Common.{List, sym, ◌∙◌, ap, subst}
 use Rattle.calculus.specs.Rows.{Row}
 use Rattle.row_search.specs.Rows.{HasReceivers}
 use Rattle.row_table.specs.Groups.{group}
+use Rattle.row_table.specs.Ids.{bytes_of}
 use Rattle.row_table.specs.Tables.{rows_in}
 use Rattle.row_table.proofs.Changing.{ids-tell}
 use Rattle.row_table.proofs.Filing.{receivers-found, under-ids}
@@ -16,5 +16,5 @@ returns c =
     let ch = c.args.channel.now in
     let u = under-ids i.sends.entries i.receivers.entries es t.filed in
     let ids = c.ids_of.ensures ∙ ap (group i.receivers.entries) c.in_ok-key.ensures in
-    subst (λ (rs : List Row). HasReceivers rs ch (map (λ d. d.0) c.ids_of.result.now)) c.self.view_is
-    (subst (λ (ds : List Digest). HasReceivers (rows_in es) ch (map (λ d. d.0) ds)) (sym ids) (receivers-found es i.sends.entries i.receivers.entries i.shards t (ids-tell es t.ordered u) ch c.requires))
+    subst (λ (rs : List Row). HasReceivers rs ch (bytes_of c.ids_of.result.now)) c.self.view_is
+    (subst (HasReceivers (rows_in es) ch) (sym ids) (receivers-found es i.sends.entries i.receivers.entries i.shards t (ids-tell es t.ordered u) ch c.requires))
