@@ -1,6 +1,8 @@
 -- What is arranged by codes, as trees.
-use Rattle.std.proofs.Common.{◌≡◌, ℕ, ◌<◌, true, false, cond, List, [], ◌∷◌, ◌++◌, length, map, refl, ap, sym, ◌∙◌, subst, All, arith}
+use Rattle.std.proofs.Common.{◌≡◌, ℕ, ◌<◌, true, false, cond, List, [], ◌∷◌, ◌++◌, length, map, refl, ap, sym, ◌∙◌, subst, All, IfOk, Result, arith}
 use Rattle.std.proofs.lemmas.Simd.{map-map}
+use Rattle.std.proofs.lemmas.Result.{IfOk-weaker}
+use Rattle.std.specs.List.Sorted.{IsSortedBy, IsStableBy}
 use Rattle.std.specs.Prelude.{⊤, Vec}
 use Rattle.std.specs.declared.alloc.Global.{Global}
 use Rattle.calculus.specs.declared.plain.Ground.{Ground}
@@ -17,8 +19,9 @@ use Rattle.rho_term.specs.Normal.{IsArranged, IsOrdered}
 use Rattle.rho_term.specs.Parts.{part_tree, pair_tree, ground_tree, term_tree}
 use Rattle.rho_term.specs.declared.term.Part.{Part}
 use Rattle.rho_term.specs.declared.term.Part.TheVariants as part
-use Rattle.code_order.specs.Made.{reordered, made_process, with_code, part_with_code, pair_with_code}
-use Rattle.keyed_order.proofs.Keys.{put_in, sort_in, Up, up-sort, arranged-sort}
+use Rattle.code_order.specs.Made.{reordered, made_process, ascending_by}
+use Rattle.keyed_order.proofs.Keys.{map-self, put_in, sort_in, Up, up-sort, arranged-sort}
+use Rattle.keyed_order.proofs.Unique.{low, arranged}
 
 pub ascending-sort : (ts : List Tree) → ascending ts ≡ sort_in code ts
 unfolding ascending
@@ -60,24 +63,32 @@ module _ {X : Type 0} (f : X → Tree) where
   map-arranged xs = ap (map f) (arranged-sort (λ y. code (f y)) xs) ∙ map-sort xs ∙ sym (ascending-sort (map f xs))
 
 -- one thing is in order
-pub ascending-few : (ts : List Tree) → length ts < 2 → ascending ts ≡ ts
-unfolding ascending by_code placed_by
-ascending-few [] h = refl
-ascending-few (t ∷ []) h = refl
-ascending-few (t ∷ u ∷ ts) h = absurd (omega arith)
+pub few-ascend : {X : Type 0} (k : X → List ℕ) (xs : List X) → length xs < 2 → xs ≡ ascending_by k xs
+unfolding by_code placed_by
+few-ascend k [] h = refl
+few-ascend k (x ∷ []) h = refl
+few-ascend k (x ∷ y ∷ xs) h = absurd (omega arith)
 
--- processes, and pairs, that were arranged by their codes
-pub terms-sorted : (ts vs : List Tree) (ks : List (List ℕ × Tree)) → ks ≡ map with_code ts → vs ≡ arranged_by ks → vs ≡ ascending ts
-unfolding ascending
-terms-sorted ts vs ks e a = a ∙ ap arranged_by e
+-- what a stable sort by keys gives ascends in them
+pub sorted-stably : {X : Type 0} (k : X → List ℕ) (xs ss ys : List X) → ss ≡ xs → IsSortedBy (low k) ys → IsStableBy (low k) ss ys → ys ≡ ascending_by k xs
+sorted-stably k xs ss ys e up stable = sym (map-self ys) ∙ arranged k (λ x. x) ss ys up stable ∙ ap (ascending_by k) e
 
-pub pairs-sorted : (ps qs : List (Tree × Tree)) (ks : List (List ℕ × (Tree × Tree))) → ks ≡ map pair_with_code ps → qs ≡ arranged_by ks
-    → map pair_tree qs ≡ ascending (map pair_tree ps)
-pairs-sorted ps qs ks e a = ap (map pair_tree) (a ∙ ap arranged_by e) ∙ map-arranged pair_tree ps
+abbrev part_code : Part → List ℕ
+part_code p = code (part_tree p)
 
-pub parts-sorted : (ps vs : List Part) (ks : List (List ℕ × Part)) → ks ≡ map part_with_code ps → vs ≡ arranged_by ks
-    → map part_tree vs ≡ ascending (map part_tree ps)
-parts-sorted ps vs ks e a = ap (map part_tree) (a ∙ ap arranged_by e) ∙ map-arranged part_tree ps
+abbrev pair_code : Tree × Tree → List ℕ
+pair_code q = code (pair_tree q)
+
+-- parts, and pairs, that ascend in their codes stand for trees that do
+pub parts-sorted : {E : Type 0} (ps : List Part) (r : Result (Vec Part Global) E) → IfOk r (λ v. v.items ≡ ascending_by part_code ps)
+    → IfOk r (λ v. map part_tree v.items ≡ ascending (map part_tree ps))
+parts-sorted ps r =
+    IfOk-weaker r (λ v. v.items ≡ ascending_by part_code ps) (λ v. map part_tree v.items ≡ ascending (map part_tree ps)) (λ v e. ap (map part_tree) e ∙ map-arranged part_tree ps)
+
+pub pairs-sorted : {E : Type 0} (ps : List (Tree × Tree)) (r : Result (Vec (Tree × Tree) Global) E) → IfOk r (λ v. v.items ≡ ascending_by pair_code ps)
+    → IfOk r (λ v. map pair_tree v.items ≡ ascending (map pair_tree ps))
+pairs-sorted ps r =
+    IfOk-weaker r (λ v. v.items ≡ ascending_by pair_code ps) (λ v. map pair_tree v.items ≡ ascending (map pair_tree ps)) (λ v e. ap (map pair_tree) e ∙ map-arranged pair_tree ps)
 
 -- the members of a set, and of a map, in order
 pub set-made : (ms vs : List Tree) → vs ≡ ascending ms → many set vs ≡ reordered (many set ms)
@@ -147,13 +158,12 @@ pub push-ordered : {X : Type 0} (f : X → Tree) (xs ys : List X) (x : X) → ys
 push-ordered f xs ys x e h o = All-same (λ p. IsOrdered (f p)) ys (xs ++ x ∷ []) e (All-push (λ p. IsOrdered (f p)) xs x h o)
 
 -- what holds of parts holds of them in any order
-pub parts-kept : (ps vs : List Part) (ks : List (List ℕ × Part)) → ks ≡ map part_with_code ps → vs ≡ arranged_by ks → All (λ p. IsOrdered (part_tree p)) ps
-    → All (λ p. IsOrdered (part_tree p)) vs
-parts-kept ps vs ks e a h =
+pub parts-kept : {E : Type 0} (ps : List Part) (r : Result (Vec Part Global) E) → All (λ p. IsOrdered (part_tree p)) ps → IfOk r (λ v. v.items ≡ ascending_by part_code ps)
+    → IfOk r (λ v. All (λ p. IsOrdered (part_tree p)) v.items)
+parts-kept ps r h =
     let P = λ (p : Part). IsOrdered (part_tree p) in
-    let k = λ (p : Part). code (part_tree p) in
-    let s : vs ≡ sort_in k ps = a ∙ ap arranged_by e ∙ arranged-sort k ps in
-    subst (All P) (sym s) (each-all P (sort_in k ps) (each-sort k P ps (all-each P ps h)))
+    IfOk-weaker r (λ v. v.items ≡ ascending_by part_code ps) (λ v. All P v.items)
+    (λ v e. subst (All P) (sym (e ∙ arranged-sort part_code ps)) (each-all P (sort_in part_code ps) (each-sort part_code P ps (all-each P ps h))))
 
 each-from : (qs : List Part) (ps : List Part) → map part_tree qs ≡ map (λ p. reordered (part_tree p)) ps → Each (λ q. IsOrdered (part_tree q)) qs
 each-from [] ps e = tt

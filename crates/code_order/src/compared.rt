@@ -1,147 +1,75 @@
-// Parts, processes and pairs that suit, in the order of their codes, which are not made.
+// Things that suit, in the order of their codes, which are not made.
 
-ghost use Rattle.std.specs.Prelude.{◌≡◌, true, map, IfOk, All};
-ghost use Rattle.calculus.specs.Form.{term as process, part as of_part, pair_of};
-ghost use Rattle.calculus.specs.Normal.{ascending};
-ghost use Rattle.rho_term.specs.Normal.{IsOrdered};
-ghost use Rattle.rho_term.specs.Parts.{part_tree, pair_tree};
-ghost use Rattle.term_order.specs.Orders.{Suits};
+ghost use Rattle.std.specs.Prelude.{◌≡◌, true, IfOk, All};
+ghost use Rattle.calculus.specs.Order.{byte_cmp};
+ghost use Rattle.code_order.specs.Made.{ascending_by};
 
-use crate::suited::{SuitedPair, SuitedPart, SuitedTerm, pair_suits, part_suits, term_suits};
-use rho_term::{Part, Term, with_room};
+use crate::coded::HasCode;
+use rho_term::with_room;
 use std::alloc::{AllocError, Global};
+use std::cmp::Ordering;
+use std::marker::Model;
 
-/// Whether all of these parts are seen to suit.
-pub(crate) fn all_parts_suit(parts: &[Part]) -> bool
-    requires { All (λ p. IsOrdered (part_tree p)) parts.now }
-    ensures { result ≡ true → All (λ p. Suits of_part (part_tree p)) parts.now }
+/// A thing that suits, seen as the thing itself.
+#[derive(Drop)]
+pub(crate) struct Suited<T: HasCode> {
+    item: T,
+}
+
+impl<T: HasCode> Model for Suited<T> {
+    ghost Value = { T };
+
+    ghost view = { λ a. a.item };
+
+    ghost invariant = { λ a. T.is_suited a.item };
+}
+
+/// Whether all of these are seen to suit.
+pub(crate) fn all_suit<T: HasCode>(items: &[T]) -> bool
+    requires { All T.is_ready items.now }
+    ensures { result ≡ true → All T.is_suited items.now }
 {
-    for part in parts {
-        if !part_suits(part) {
+    for item in items {
+        if !item.suits() {
             return false;
         }
     }
     true
 }
 
-/// These parts, ascending in their codes, which are not made.
-pub(crate) fn compared_parts(alloc: Global, parts: Vec<Part>) -> Result<Vec<Part>, AllocError>
-    requires { All (λ p. Suits of_part (part_tree p)) parts.items }
-    ensures ascend { IfOk result (λ v. map part_tree v.items ≡ ascending (map part_tree parts.items)) }
-    ensures members { IfOk result (λ v. All (λ p. IsOrdered (part_tree p)) v.items) }
+/// These, ascending in their codes, which are not made.
+pub(crate) fn compared<T: HasCode>(alloc: Global, items: Vec<T>) -> Result<Vec<T>, AllocError>
+    requires { All T.is_suited items.items }
+    ensures { IfOk result (λ v. v.items ≡ ascending_by T.bytes items.items) }
 {
-    let mut suited = suited_parts(alloc, parts)?;
-    suited.sort_by(|a, b| a.order(b))?;
-    plain_parts(alloc, suited)
+    let mut suited = wrapped(alloc, items)?;
+    suited.sort_by(order)?;
+    unwrapped(alloc, suited)
 }
 
-fn suited_parts(alloc: Global, parts: Vec<Part>) -> Result<Vec<SuitedPart>, AllocError>
-    requires { All (λ p. Suits of_part (part_tree p)) parts.items }
-    ensures { IfOk result (λ v. v.items ≡ map part_tree parts.items) }
+fn wrapped<T: HasCode>(alloc: Global, items: Vec<T>) -> Result<Vec<Suited<T>>, AllocError>
+    requires { All T.is_suited items.items }
+    ensures { IfOk result (λ v. v.items ≡ items.items) }
 {
-    let mut suited = with_room(alloc, parts.len());
-    for part in parts {
-        suited.push(SuitedPart::new(part))?;
+    let mut suited = with_room(alloc, items.len());
+    for item in items {
+        suited.push(Suited { item })?;
     }
     Ok(suited)
 }
 
-fn plain_parts(alloc: Global, suited: Vec<SuitedPart>) -> Result<Vec<Part>, AllocError>
-    ensures trees { IfOk result (λ v. map part_tree v.items ≡ suited.items) }
-    ensures members { IfOk result (λ v. All (λ p. IsOrdered (part_tree p)) v.items) }
-{
-    let mut parts = with_room(alloc, suited.len());
-    for part in suited {
-        parts.push(part.into_part())?;
-    }
-    Ok(parts)
-}
-
-/// Whether all of these processes are seen to suit.
-pub(crate) fn all_terms_suit(terms: &[Term]) -> bool
-    ensures { result ≡ true → All (λ t. Suits process t) terms.now }
-{
-    for term in terms {
-        if !term_suits(term) {
-            return false;
-        }
-    }
-    true
-}
-
-/// These processes, ascending in their codes, which are not made.
-pub(crate) fn compared_terms(alloc: Global, terms: Vec<Term>) -> Result<Vec<Term>, AllocError>
-    requires { All (λ t. Suits process t) terms.items }
-    ensures { IfOk result (λ v. v.items ≡ ascending terms.items) }
-{
-    let mut suited = suited_terms(alloc, terms)?;
-    suited.sort_by(|a, b| a.order(b))?;
-    plain_terms(alloc, suited)
-}
-
-fn suited_terms(alloc: Global, terms: Vec<Term>) -> Result<Vec<SuitedTerm>, AllocError>
-    requires { All (λ t. Suits process t) terms.items }
-    ensures { IfOk result (λ v. v.items ≡ terms.items) }
-{
-    let mut suited = with_room(alloc, terms.len());
-    for term in terms {
-        suited.push(SuitedTerm::new(term))?;
-    }
-    Ok(suited)
-}
-
-fn plain_terms(alloc: Global, suited: Vec<SuitedTerm>) -> Result<Vec<Term>, AllocError>
+fn unwrapped<T: HasCode>(alloc: Global, suited: Vec<Suited<T>>) -> Result<Vec<T>, AllocError>
     ensures { IfOk result (λ v. v.items ≡ suited.items) }
 {
-    let mut terms = with_room(alloc, suited.len());
-    for term in suited {
-        terms.push(term.into_term())?;
+    let mut items = with_room(alloc, suited.len());
+    for thing in suited {
+        items.push(thing.item)?;
     }
-    Ok(terms)
+    Ok(items)
 }
 
-/// Whether all of these pairs are seen to suit.
-pub(crate) fn all_pairs_suit(pairs: &[(Term, Term)]) -> bool
-    ensures { result ≡ true → All (λ p. Suits (pair_of process) (pair_tree p)) pairs.now }
+fn order<T: HasCode>(a: &Suited<T>, b: &Suited<T>) -> Ordering
+    ensures { result ≡ byte_cmp (T.bytes a.now) (T.bytes b.now) }
 {
-    for pair in pairs {
-        if !pair_suits(pair) {
-            return false;
-        }
-    }
-    true
-}
-
-/// These pairs, ascending in their codes, which are not made.
-pub(crate) fn compared_pairs(
-    alloc: Global,
-    pairs: Vec<(Term, Term)>,
-) -> Result<Vec<(Term, Term)>, AllocError>
-    requires { All (λ p. Suits (pair_of process) (pair_tree p)) pairs.items }
-    ensures { IfOk result (λ v. map pair_tree v.items ≡ ascending (map pair_tree pairs.items)) }
-{
-    let mut suited = suited_pairs(alloc, pairs)?;
-    suited.sort_by(|a, b| a.order(b))?;
-    plain_pairs(alloc, suited)
-}
-
-fn suited_pairs(alloc: Global, pairs: Vec<(Term, Term)>) -> Result<Vec<SuitedPair>, AllocError>
-    requires { All (λ p. Suits (pair_of process) (pair_tree p)) pairs.items }
-    ensures { IfOk result (λ v. v.items ≡ map pair_tree pairs.items) }
-{
-    let mut suited = with_room(alloc, pairs.len());
-    for pair in pairs {
-        suited.push(SuitedPair::new(pair))?;
-    }
-    Ok(suited)
-}
-
-fn plain_pairs(alloc: Global, suited: Vec<SuitedPair>) -> Result<Vec<(Term, Term)>, AllocError>
-    ensures { IfOk result (λ v. map pair_tree v.items ≡ suited.items) }
-{
-    let mut pairs = with_room(alloc, suited.len());
-    for pair in suited {
-        pairs.push(pair.into_pair())?;
-    }
-    Ok(pairs)
+    a.item.order(&b.item)
 }

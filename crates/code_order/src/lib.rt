@@ -1,10 +1,10 @@
 //! Parts, members and pairs in the order of their codes, and normal terms of parts in any order.
 #![tactic(auto)]
 
+mod coded;
 mod compared;
 pub mod make;
 pub mod order;
-mod suited;
 
 pub use keyed_order::in_order;
 pub use make::{make_par, with_order};

@@ -1,5 +1,5 @@
 -- What comparing two operands says of their codes.
-use Rattle.std.proofs.Common.{◌≡◌, ℕ, ◌<◌, Bool, List, [], length, get_or, sym, ap, ◌∙◌, subst, All, IfOk, Result, Ok, Err}
+use Rattle.std.proofs.Common.{◌≡◌, ℕ, ◌<◌, Bool, List, [], length, get_or, sym, ap, ◌∙◌, subst, All}
 use Rattle.std.specs.Ordering.{is_ge, is_eq}
 use Rattle.std.specs.declared.cmp.Ordering.{Ordering}
 use Rattle.calculus.specs.Tree.{Tree}
@@ -24,8 +24,3 @@ is_one t k u o b e f g h j = g ∙ ap is_eq (compared t k u o e f h j)
 -- what holds of all holds of the one at a place
 pub read : {X : Type 0} (P : X → Type 0) (xs : List X) (i : ℕ) (x : X) → i < length xs → x ≡ get_or xs i x → All P xs → P x
 read P xs i x h g a = subst P (sym g) (a i x h)
-
--- what follows from a call's answer
-pub at_ok : {X E : Type 0} (A B : Type 0) (r : Result X E) → IfOk r (λ _. A) → (A → B) → IfOk r (λ _. B)
-at_ok A B (Ok x) h f = f h
-at_ok A B (Err e) h f = tt

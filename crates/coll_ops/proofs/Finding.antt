@@ -1,6 +1,5 @@
 -- Finding keys in lists that ascend, from a place on.
-use Rattle.std.proofs.Common.{◌≡◌, ℕ, zero, suc, ◌+◌, ◌-◌, ◌<◌, ◌≤◌, Bool, true, false, cond, not, ◌||◌, List, [], ◌∷◌, ◌++◌, length, get_or, drop, take, filter, refl, sym, ap, ◌∙◌, subst, inl, inr, arith}
-use Rattle.std.specs.Prelude.{⊤}
+use Rattle.std.proofs.Common.{◌≡◌, ℕ, zero, suc, ◌+◌, ◌-◌, ◌<◌, ◌≤◌, true, false, ◌||◌, List, [], ◌∷◌, ◌++◌, length, get_or, drop, take, refl, sym, ap, ◌∙◌, subst, inl, inr, arith}
 use Rattle.std.proofs.lemmas.List.{at_drop_more, at_drop_all}
 use Rattle.std.proofs.lemmas.Bool.{cases_Bool, cond-true, cond-false, or_left, or_from, false≢true}
 use Rattle.std.specs.declared.cmp.Ordering.{Ordering}
@@ -94,10 +93,6 @@ module _ {X : Type 0} (k : X → List ℕ) where
   pub starts-none : (c : List ℕ) (xs : List X) (i : ℕ) → length xs ≤ i → starts k c (drop i xs) ≡ false
   starts-none c xs i h = at_drop_all (starts k c) xs i h
 
-  pub ends-none : (c : List ℕ) (xs : List X) → length xs ≡ 0 → false ≡ ends k c xs
-  ends-none c [] h = refl
-  ends-none c (x ∷ xs) h = absurd (omega arith)
-
   pub ends-at : (c : List ℕ) (xs : List X) (n : ℕ) (x : X) → n + 1 ≡ length xs → x ≡ get_or xs n x → same (k x) c ≡ ends k c xs
   ends-at c [] n x h g = absurd (omega arith)
   ends-at c (z ∷ []) zero x h g = ap (λ y. same (k y) c) g
@@ -112,13 +107,23 @@ module _ {X : Type 0} (k : X → List ℕ) where
   last-added (z ∷ w ∷ zs) x e = ap (λ l. z ∷ l) (last-added (w ∷ zs) x e)
 
   -- in place of the last
-  pub last-replaced : (zs : List X) (x : X) (n : ℕ) → ends k (k x) zs ≡ true → n + 1 ≡ length zs → take n zs ++ x ∷ [] ≡ put_last k zs x
+  last-replaced : (zs : List X) (x : X) (n : ℕ) → ends k (k x) zs ≡ true → n + 1 ≡ length zs → take n zs ++ x ∷ [] ≡ put_last k zs x
   last-replaced [] x n e h = absurd (omega arith)
   last-replaced (z ∷ []) x zero e h = sym (cond-true _ _ _ e)
   last-replaced (z ∷ []) x (suc n) e h = absurd (omega arith)
   last-replaced (z ∷ w ∷ zs) x zero e h = absurd (omega arith)
   last-replaced (z ∷ w ∷ zs) x (suc n) e h = ap (λ l. z ∷ l) (last-replaced (w ∷ zs) x n e (omega arith))
 
-  pub ends-some : (c : List ℕ) (xs : List X) → ends k c xs ≡ true → length xs - 1 + 1 ≡ length xs
+  ends-some : (c : List ℕ) (xs : List X) → ends k c xs ≡ true → length xs - 1 + 1 ≡ length xs
   ends-some c [] e = absurd (false≢true e)
   ends-some c (x ∷ xs) e = omega arith
+
+  pub put-popped : (zs ws : List X) (x : X) → ends k (k x) zs ≡ true → ws ≡ take (length zs - 1) zs → ws ++ x ∷ [] ≡ put_last k zs x
+  put-popped zs ws x e f = ap (λ l. l ++ x ∷ []) f ∙ last-replaced zs x (length zs - 1) e (ends-some (k x) zs e)
+
+  -- where a place has this key, it is one of the list
+  pub place-in : (c : List ℕ) (xs : List X) (i : ℕ) → starts k c (drop i xs) ≡ true → i < length xs
+  place-in c [] zero e = absurd (false≢true e)
+  place-in c [] (suc i) e = absurd (false≢true e)
+  place-in c (x ∷ xs) zero e = omega arith
+  place-in c (x ∷ xs) (suc i) e = omega (arith, place-in c xs i e)

@@ -4,8 +4,6 @@ pub mod Steps
 pub mod Sorts
 pub mod Members
 pub mod Viewing
-pub mod Naming
 pub mod Arguments
-pub mod Listing
 pub mod Comparing
 pub mod Ordered

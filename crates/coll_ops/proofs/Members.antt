@@ -1,36 +1,32 @@
 -- Sets and maps made of members and pairs, by the codes of these and of their keys.
-use Rattle.std.proofs.Common.{◌≡◌, ℕ, ◌<◌, ◌^◌, Bool, true, false, cond, not, ◌||◌, List, [], ◌∷◌, ◌++◌, length, map, filter, refl, sym, ap, ◌∙◌, subst, inl, inr, All, arith}
-use Rattle.std.specs.Prelude.{⊤}
+use Rattle.std.proofs.Common.{◌≡◌, ℕ, ◌<◌, Bool, true, false, cond, not, ◌||◌, List, [], ◌∷◌, ◌++◌, length, map, drop, get_or, filter, refl, sym, ap, ◌∙◌, subst, inl, inr, All}
 use Rattle.std.proofs.lemmas.Bool.{cases_Bool, cond-true, cond-false, or_parts, false≢true}
 use Rattle.std.specs.Ordering.{is_eq, is_le, ordering_then}
 use Rattle.std.specs.declared.cmp.Ordering.{Ordering}
 use Rattle.std.specs.declared.cmp.Ordering.TheVariants.{Less, Equal, Greater}
 use Rattle.std.proofs.lemmas.List.Elements.{All-head, All-tail}
-use Rattle.calculus.specs.Tree.{set, dict, Tree, node, Trees, none, also, trees}
-use Rattle.calculus.specs.Shape.{many, only, listed, at, held}
+use Rattle.calculus.specs.Tree.{set, dict, Tree}
+use Rattle.calculus.specs.Shape.{many, only}
 use Rattle.calculus.specs.Order.{up_to, byte_cmp, IsAscending}
 use Rattle.calculus.specs.Congruence.{congruent}
-use Rattle.calculus.specs.Code.{code, codes}
-use Rattle.calculus.specs.CodeLaws.{IsShort, Splits}
+use Rattle.calculus.specs.Code.{code}
+use Rattle.calculus.specs.CodeLaws.{Splits}
 use Rattle.calculus.specs.Normal.{ascending, arranged_by}
-use Rattle.calculus.specs.Operators.{is_among, distinct, without, of_set, key_of, value_of, last_of_key, of_map, found}
-use Rattle.calculus.specs.Methods.{without_key}
+use Rattle.calculus.specs.Operators.{is_among, distinct, without, of_set, key_of, last_of_key, of_map, found}
+use Rattle.calculus.specs.Methods.{as_tuple, without_key}
 use Rattle.calculus.proofs.CodesAgree.{code_is_congruence}
 use Rattle.calculus.proofs.FromFits.{codes_split}
 use Rattle.calculus.specs.Form.{term}
-use Rattle.std.specs.Prelude.{Result, Some, None}
-use Rattle.calculus.specs.Outcome.{gives}
 use Rattle.rho_term.specs.Normal.{IsOrdered}
 use Rattle.rho_term.specs.Parts.{pair_tree}
-use Rattle.code_order.proofs.Keys.{sort_in, Up, arranged-sort}
+use Rattle.code_order.proofs.Keys.{Up, arranged-sort}
 use Rattle.code_order.proofs.Made.{ascending-sort, map-arranged, ordered-made}
-use Rattle.value_ops.specs.declared.stop.OpStop.{OpStop}
-use Rattle.value_ops.specs.Answers.{Answers, IsOperand}
+use Rattle.value_ops.specs.Answers.{IsOperand}
 use Rattle.coll_ops.specs.Keys.{same, has_key, last_each, once_each}
 use Rattle.term_order.proofs.Comparing.{cmp-append}
-use Rattle.coll_ops.specs.Merging.{high, starts, first_with}
+use Rattle.coll_ops.specs.Merging.{high, starts}
 use Rattle.coll_ops.proofs.Merging.{same-self, same-turned, one, apart, or-false, sorted-up}
-use Rattle.coll_ops.proofs.Finding.{none-above, has-high}
+use Rattle.coll_ops.proofs.Finding.{drop-read, none-above}
 use Rattle.coll_ops.proofs.Sorts.{Each, sort-same}
 
 -- two operands are congruent where their codes are one
@@ -89,13 +85,10 @@ key_code p = code p.0
 abbrev pub HaveKeys : List (Tree × Tree) → Type 0
 HaveKeys ps = Each (λ p. IsOperand p.0) ps
 
-among-keys : (t : Tree) (ps : List (Tree × Tree)) → IsOperand t → HaveKeys ps → is_among t (map key_of (map pair_tree ps)) ≡ has_key key_code (code t) ps
+pub among-keys : (t : Tree) (ps : List (Tree × Tree)) → IsOperand t → HaveKeys ps → is_among t (map key_of (map pair_tree ps)) ≡ has_key key_code (code t) ps
 among-keys t [] h r = refl
 among-keys t (p ∷ ps) h r =
     ap (λ b. b || is_among t (map key_of (map pair_tree ps))) (alike t p.0 h r.0) ∙ ap (λ b. same (code p.0) (code t) || b) (among-keys t ps h r.1)
-
-pub has-pair : (t : Tree) (ps : List (Tree × Tree)) → IsOperand t → HaveKeys ps → is_among t (map key_of (map pair_tree ps)) ≡ has_key key_code (code t) ps
-has-pair = among-keys
 
 last-pairs : (ps : List (Tree × Tree)) → HaveKeys ps → last_of_key (map pair_tree ps) ≡ map pair_tree (last_each key_code ps)
 last-pairs [] r = refl
@@ -145,13 +138,6 @@ pub set-ordered : (ts vs : List Tree) → vs ≡ once_each code ts → IsOrdered
 set-ordered ts vs e =
     subst (λ l. IsOrdered (many set l)) (sym (e ∙ arranged-sort code (last_each code ts) ∙ sym (ascending-sort (last_each code ts)))) (ordered-made set (last_each code ts))
 
--- what was told of the set of such members
-pub set-told : (ts vs : List Tree) (r : Result Tree OpStop) → AreOperands ts → vs ≡ once_each code ts → Answers (gives (only (many set vs))) r → Answers (gives (of_set ts)) r
-set-told ts vs r h e w = subst (λ t. Answers (gives t) r) (ap (λ l. only (many set l)) e ∙ sym (set-once ts h)) w
-
-pub map-told : (ps qs : List (Tree × Tree)) (r : Result Tree OpStop) → HaveKeys ps → qs ≡ once_each key_code ps → Answers (gives (only (many dict (map pair_tree qs)))) r → Answers (gives (of_map (map pair_tree ps))) r
-map-told ps qs r h e w = subst (λ t. Answers (gives t) r) (ap (λ l. only (many dict (map pair_tree l))) e ∙ sym (map-once ps h)) w
-
 without-pairs : (t : Tree) (ps : List (Tree × Tree)) → IsOperand t → HaveKeys ps → without_key t (map pair_tree ps) ≡ map pair_tree (filter (λ p. not (has_key code (code p.0) (t ∷ []))) ps)
 without-pairs t [] h r = refl
 without-pairs t (p ∷ ps) h r =
@@ -182,10 +168,6 @@ pub up-asc : {X : Type 0} (k : X → List ℕ) (xs : List X) → Up k xs → IsA
 up-asc k [] u = tt
 up-asc k (x ∷ []) u = (tt, tt)
 up-asc k (x ∷ y ∷ xs) u = (u.0, up-asc k (y ∷ xs) u.1)
-
-pub codes-map : (ts : List Tree) → map code ts ≡ codes (trees ts)
-codes-map [] = refl
-codes-map (t ∷ ts) = ap (λ cs. code t ∷ cs) (codes-map ts)
 
 -- what ascends is in order already
 pub in-order : (ts : List Tree) → IsAscending (map code ts) → ascending ts ≡ ts
@@ -230,79 +212,27 @@ found-high d t (p ∷ ps) h r u =
           found-later d t p ps (alike t p.0 h r.0 ∙ n) ∙ found-high d t ps h r.1 u.1 ∙ sym (ap (value_at d c) (cond-false (up_to c (code p.0)) (p ∷ ps) (high key_code c ps) f))
     ]
 
-starts-some : {X : Type 0} (k : X → List ℕ) (c : List ℕ) (l : List X) (x : X) → first_with k c l ≡ Some x → starts k c l ≡ true
-starts-some k c [] x e = cc
-starts-some k c (y ∷ ys) x e =
-    elim (cases_Bool (same (k y) c)) [
-      | inl t ↦ t
-      | inr t ↦
-          let n : first_with k c (y ∷ ys) ≡ None = cond-false (same (k y) c) (Some y) None t in
-          cc
-    ]
+value-starts : (d : Tree) (c : List ℕ) (l : List (Tree × Tree)) → starts key_code c l ≡ false → value_at d c l ≡ d
+value-starts d c [] e = refl
+value-starts d c (q ∷ qs) e = cond-false (same (code q.0) c) q.1 d e
 
-starts-none : {X : Type 0} (k : X → List ℕ) (c : List ℕ) (l : List X) → first_with k c l ≡ None → starts k c l ≡ false
-starts-none k c [] e = refl
-starts-none k c (y ∷ ys) e =
-    elim (cases_Bool (same (k y) c)) [
-      | inr t ↦ t
-      | inl t ↦
-          let n : first_with k c (y ∷ ys) ≡ Some y = cond-true (same (k y) c) (Some y) None t in
-          cc
-    ]
+-- the value at the first pair whose key is not less, if it has this key
+module _ (t : Tree) (ps : List (Tree × Tree)) (h : IsOperand t) (r : HaveKeys ps) (u : Up key_code ps) (i : ℕ) (e : drop i ps ≡ high key_code (code t) ps) where
+  pub value-found : (d : Tree) (p : Tree × Tree) → i < length ps → p ≡ get_or ps i p → true ≡ starts key_code (code t) (drop i ps) → found d t (map pair_tree ps) ≡ p.1
+  value-found d p l g b =
+      let m = drop-read key_code [] ps i p l g in
+      found-high d t ps h r u ∙ ap (value_at d (code t)) (sym e ∙ m) ∙ cond-true (same (code p.0) (code t)) p.1 d (sym (b ∙ ap (starts key_code (code t)) m))
 
--- a process that was found among members, and one that was not
-module _ (t : Tree) (ts : List Tree) (h : IsOperand t) (r : AreOperands ts) (u : IsAscending (map code ts)) where
-  is_found : is_among t ts ≡ starts code (code t) (high code (code t) ts)
-  is_found = among t ts h r ∙ has-high code (code t) ts (asc-up code ts u)
-
-  pub is-in : (x : Tree) → first_with code (code t) (high code (code t) ts) ≡ Some x → is_among t ts ≡ true
-  is-in x e = is_found ∙ starts-some code (code t) (high code (code t) ts) x e
-
-  pub not-in : first_with code (code t) (high code (code t) ts) ≡ None → is_among t ts ≡ false
-  not-in e = is_found ∙ starts-none code (code t) (high code (code t) ts) e
-
-value-some : (d : Tree) (c : List ℕ) (l : List (Tree × Tree)) (p : Tree × Tree) → first_with key_code c l ≡ Some p → value_at d c l ≡ p.1
-value-some d c [] p e = cc
-value-some d c (q ∷ qs) p e =
-    elim (cases_Bool (same (code q.0) c)) [
-      | inl t ↦
-          let n : first_with key_code c (q ∷ qs) ≡ Some q = cond-true (same (code q.0) c) (Some q) None t in
-          let s : q ≡ p = cc in
-          cond-true (same (code q.0) c) q.1 d t ∙ ap (λ x. x.1) s
-      | inr t ↦
-          let n : first_with key_code c (q ∷ qs) ≡ None = cond-false (same (code q.0) c) (Some q) None t in
-          cc
-    ]
-
-value-none : (d : Tree) (c : List ℕ) (l : List (Tree × Tree)) → first_with key_code c l ≡ None → value_at d c l ≡ d
-value-none d c [] e = refl
-value-none d c (q ∷ qs) e =
-    elim (cases_Bool (same (code q.0) c)) [
-      | inr t ↦ cond-false (same (code q.0) c) q.1 d t
-      | inl t ↦
-          let n : first_with key_code c (q ∷ qs) ≡ Some q = cond-true (same (code q.0) c) (Some q) None t in
-          cc
-    ]
-
--- a key that was found among pairs, and one that was not
-module _ (t : Tree) (ps : List (Tree × Tree)) (h : IsOperand t) (r : HaveKeys ps) (u : IsAscending (map code (map pair_tree ps))) where
-  key_found : is_among t (map key_of (map pair_tree ps)) ≡ starts key_code (code t) (high key_code (code t) ps)
-  key_found = has-pair t ps h r ∙ has-high key_code (code t) ps (keys-up ps r u)
-
-  pub is-key : (p : Tree × Tree) → first_with key_code (code t) (high key_code (code t) ps) ≡ Some p → is_among t (map key_of (map pair_tree ps)) ≡ true
-  is-key p e = key_found ∙ starts-some key_code (code t) (high key_code (code t) ps) p e
-
-  pub no-key : first_with key_code (code t) (high key_code (code t) ps) ≡ None → is_among t (map key_of (map pair_tree ps)) ≡ false
-  no-key e = key_found ∙ starts-none key_code (code t) (high key_code (code t) ps) e
-
-  pub value-found : (d : Tree) (p : Tree × Tree) → first_with key_code (code t) (high key_code (code t) ps) ≡ Some p → found d t (map pair_tree ps) ≡ p.1
-  value-found d p e = found-high d t ps h r (keys-up ps r u) ∙ value-some d (code t) (high key_code (code t) ps) p e
-
-  pub value-absent : (d : Tree) → first_with key_code (code t) (high key_code (code t) ps) ≡ None → found d t (map pair_tree ps) ≡ d
-  value-absent d e = found-high d t ps h r (keys-up ps r u) ∙ value-none d (code t) (high key_code (code t) ps) e
+  pub value-absent : (d : Tree) → false ≡ starts key_code (code t) (drop i ps) → found d t (map pair_tree ps) ≡ d
+  value-absent d b = found-high d t ps h r u ∙ ap (value_at d (code t)) (sym e) ∙ value-starts d (code t) (drop i ps) (sym b)
 
 -- the keys of pairs ascend where these do
 pub keys-ascend : (ps : List (Tree × Tree)) → Up key_code ps → IsAscending (map code (map (λ p. p.0) ps))
 keys-ascend [] u = tt
 keys-ascend (p ∷ []) u = (tt, tt)
 keys-ascend (p ∷ q ∷ ps) u = (u.0, keys-ascend (q ∷ ps) u.1)
+
+-- pairs as tuples
+pub map-tuples : (ps : List (Tree × Tree)) → map (λ p. as_tuple (pair_tree p)) ps ≡ map as_tuple (map pair_tree ps)
+map-tuples [] = refl
+map-tuples (p ∷ ps) = ap (λ l. as_tuple (pair_tree p) ∷ l) (map-tuples ps)

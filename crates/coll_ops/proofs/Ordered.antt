@@ -1,21 +1,20 @@
 -- Sets and maps made of members and pairs in any order.
 use Rattle.std.proofs.Common.{◌≡◌, ℕ, List, [], ◌∷◌, map, refl, sym, ap, ◌∙◌, subst, All}
 use Rattle.std.proofs.lemmas.List.Elements.{All-nil, All-cons}
-use Rattle.calculus.specs.Tree.{set, dict, Tree, node, trees}
-use Rattle.calculus.specs.Shape.{many, only, listed, held, at}
+use Rattle.calculus.specs.Tree.{set, dict, Tree}
+use Rattle.calculus.specs.Shape.{many, only, held, at}
 use Rattle.calculus.specs.Order.{IsAscending}
 use Rattle.calculus.specs.Code.{code}
-use Rattle.calculus.specs.Normal.{ascending, arranged_by, made_node}
+use Rattle.calculus.specs.Normal.{ascending}
 use Rattle.calculus.specs.Operators.{of_set, of_map}
-use Rattle.calculus.proofs.Placing.{listed-trees}
 use Rattle.rho_term.specs.Parts.{pair_tree}
 use Rattle.code_order.proofs.Keys.{sort_in, Up, up-sort, arranged-sort}
 use Rattle.code_order.proofs.Made.{ascending-sort, map-arranged}
 use Rattle.value_ops.specs.Answers.{IsOperand}
-use Rattle.coll_ops.specs.Keys.{last_each, once_each}
+use Rattle.coll_ops.specs.Keys.{Ascend, last_each, once_each}
 use Rattle.coll_ops.proofs.Merging.{kept-sort, sorted-up}
 use Rattle.coll_ops.proofs.Sorts.{Each, each-sort}
-use Rattle.coll_ops.proofs.Members.{AreOperands, HaveKeys, key_code, all-each, set-once, map-once, keys-up, up-asc}
+use Rattle.coll_ops.proofs.Members.{HaveKeys, key_code, all-each, set-once, map-once, keys-up, up-asc}
 
 pub each-all : {X : Type 0} (P : X → Type 0) (xs : List X) → Each P xs → All P xs
 each-all P [] h = All-nil P
@@ -26,17 +25,16 @@ once-sorted k xs =
     arranged-sort k (last_each k (sort_in k xs)) ∙ ap (sort_in k) (kept-sort k xs) ∙ sorted-up k (sort_in k (last_each k xs)) (up-sort k (last_each k xs)) ∙ sym (arranged-sort k (last_each k xs))
 
 -- a set, its members put in order
-module _ (ms vs : List Tree) (e : many set vs ≡ made_node set (listed (trees ms))) where
+module _ (ms vs : List Tree) (e : vs ≡ ascending ms) where
   set-sorted : vs ≡ sort_in code ms
-  set-sorted =
-      sym (listed-trees vs) ∙ ap held e ∙ listed-trees (ascending (listed (trees ms))) ∙ ap ascending (listed-trees ms) ∙ ascending-sort ms
+  set-sorted = e ∙ ascending-sort ms
 
   module _ (h : All IsOperand ms) where
-    pub set-operands : All IsOperand vs
-    set-operands = subst (All IsOperand) (sym set-sorted) (each-all IsOperand _ (each-sort IsOperand code ms (all-each IsOperand ms h)))
-
-    pub set-up : IsAscending (map code vs)
-    set-up = subst (λ l. IsAscending (map code l)) (sym set-sorted) (up-asc code (sort_in code ms) (up-sort code ms))
+    pub set-ascends : Ascend (λ t. t) vs
+    set-ascends = record {
+      keys = subst (All IsOperand) (sym set-sorted) (each-all IsOperand _ (each-sort IsOperand code ms (all-each IsOperand ms h)));
+      up = subst (λ l. IsAscending (map code l)) (sym set-sorted) (up-asc code (sort_in code ms) (up-sort code ms));
+    }
 
     pub set-made : (ws : List Tree) (t : Tree) → ws ≡ once_each code vs → t ≡ only (many set ws) → t ≡ of_set ms
     set-made ws t f g =
@@ -56,31 +54,27 @@ one-list (p ∷ ps) (q ∷ qs) e =
     ap (λ x. x ∷ ps) (one-pair p q a) ∙ ap (λ l. q ∷ l) (one-list ps qs b)
 
 -- a map, its pairs put in order
-module _ (ps vs : List (Tree × Tree)) (e : many dict (map pair_tree vs) ≡ made_node dict (listed (trees (map pair_tree ps)))) where
+module _ (ps vs : List (Tree × Tree)) (e : map pair_tree vs ≡ ascending (map pair_tree ps)) where
   abbrev whole : Tree × Tree → List ℕ
   whole p = code (pair_tree p)
 
-  in-turn : map pair_tree vs ≡ ascending (map pair_tree ps)
-  in-turn =
-      sym (listed-trees (map pair_tree vs)) ∙ ap held e ∙ listed-trees (ascending (listed (trees (map pair_tree ps)))) ∙ ap ascending (listed-trees (map pair_tree ps))
-
   map-sorted : vs ≡ sort_in whole ps
-  map-sorted = one-list vs (sort_in whole ps) (in-turn ∙ sym (ap (map pair_tree) (sym (arranged-sort whole ps)) ∙ map-arranged pair_tree ps))
+  map-sorted = one-list vs (sort_in whole ps) (e ∙ sym (ap (map pair_tree) (sym (arranged-sort whole ps)) ∙ map-arranged pair_tree ps))
+
+  codes-up : (qs : List (Tree × Tree)) → Up whole qs → IsAscending (map code (map pair_tree qs))
+  codes-up [] u = tt
+  codes-up (q ∷ []) u = (tt, tt)
+  codes-up (q ∷ r ∷ qs) u = (u.0, codes-up (r ∷ qs) u.1)
 
   module _ (h : All (λ p. IsOperand p.0) ps) where
-    have : HaveKeys vs
-    have = subst HaveKeys (sym map-sorted) (each-sort (λ p. IsOperand p.0) whole ps (all-each (λ p. IsOperand p.0) ps h))
+    pub map-keys : HaveKeys vs
+    map-keys = subst HaveKeys (sym map-sorted) (each-sort (λ p. IsOperand p.0) whole ps (all-each (λ p. IsOperand p.0) ps h))
 
-    pub map-operands : All (λ p. IsOperand p.0) vs
-    map-operands = each-all (λ p. IsOperand p.0) vs have
-
-    codes-up : (qs : List (Tree × Tree)) → Up whole qs → IsAscending (map code (map pair_tree qs))
-    codes-up [] u = tt
-    codes-up (q ∷ []) u = (tt, tt)
-    codes-up (q ∷ r ∷ qs) u = (u.0, codes-up (r ∷ qs) u.1)
-
-    pub map-up : IsAscending (map key_code vs)
-    map-up = up-asc key_code vs (keys-up vs have (subst (λ l. IsAscending (map code (map pair_tree l))) (sym map-sorted) (codes-up (sort_in whole ps) (up-sort whole ps))))
+    pub map-ascends : Ascend (λ p. p.0) vs
+    map-ascends = record {
+      keys = each-all (λ p. IsOperand p.0) vs map-keys;
+      up = up-asc key_code vs (keys-up vs map-keys (subst (λ l. IsAscending (map code (map pair_tree l))) (sym map-sorted) (codes-up (sort_in whole ps) (up-sort whole ps))));
+    }
 
     pub map-made : (ws : List (Tree × Tree)) (t : Tree) → ws ≡ once_each key_code vs → t ≡ only (many dict (map pair_tree ws)) → t ≡ of_map (ascending (map pair_tree ps))
-    map-made ws t f g = g ∙ ap (λ l. only (many dict (map pair_tree l))) f ∙ sym (map-once vs have) ∙ ap of_map in-turn
+    map-made ws t f g = g ∙ ap (λ l. only (many dict (map pair_tree l))) f ∙ sym (map-once vs map-keys) ∙ ap of_map e

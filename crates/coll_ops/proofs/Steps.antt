@@ -1,9 +1,9 @@
 -- Steps of the loops that merge lists.
-use Rattle.std.proofs.Common.{◌≡◌, ℕ, zero, suc, ◌+◌, ◌<◌, ◌≤◌, Bool, true, false, cond, not, List, [], ◌∷◌, ◌++◌, length, get_or, drop, filter, refl, sym, ap, ◌∙◌, subst, inl, inr, arith}
-use Rattle.std.specs.Prelude.{⊤}
-use Rattle.std.proofs.lemmas.List.{at_drop_all}
+use Rattle.std.proofs.Common.{◌≡◌, ℕ, zero, suc, ◌+◌, ◌<◌, ◌≤◌, Bool, true, false, cond, not, List, [], ◌∷◌, ◌++◌, append_assoc, length, get_or, drop, filter, map, refl, sym, ap, ◌∙◌, subst, inl, inr, All, arith}
+use Rattle.std.specs.Prelude.{Result, Ok, Err, IfOk}
+use Rattle.std.proofs.lemmas.List.{append-nil, at_drop_all, drop_all, drop_more}
+use Rattle.std.proofs.lemmas.List.Elements.{All-nil, All-cons, All-head, All-tail}
 use Rattle.std.proofs.lemmas.Bool.{cases_Bool, cond-true, cond-false}
-use Rattle.calculus.specs.Order.{up_to}
 use Rattle.code_order.proofs.Keys.{Below, Up}
 use Rattle.coll_ops.specs.Keys.{same, has_key, once_each}
 use Rattle.coll_ops.specs.Merging.{low, high, starts, put_last, put_all}
@@ -93,6 +93,65 @@ module _ {X : Type 0} (k : X → List ℕ) where
   pub all-of : (a rs xs : List X) → rs ≡ [] → put_all k a rs ≡ put_all k [] xs → Up k xs → a ≡ once_each k xs
   all-of a rs xs e f u = sym (ap (put_all k a) e) ∙ f ∙ up-once k xs u
 
+  -- a property of all things is kept by one that has it
+  pub put-all : (P : X → Type 0) (zs : List X) (x : X) → All P zs → P x → All P (put_last k zs x)
+  put-all P [] x h p = All-cons P x [] p (All-nil P)
+  put-all P (z ∷ []) x h p =
+      elim (same (k z) (k x)) as (λ (b : Bool). All P (cond b (x ∷ []) (z ∷ x ∷ []))) [
+        | true ↦ All-cons P x [] p (All-nil P)
+        | false ↦ All-cons P z (x ∷ []) (All-head P z [] h) (All-cons P x [] p (All-nil P))
+      ]
+  put-all P (z ∷ w ∷ zs) x h p = All-cons P z (put_last k (w ∷ zs) x) (All-head P z (w ∷ zs) h) (put-all P (w ∷ zs) x (All-tail P z (w ∷ zs) h) p)
+
+  pub unless-all : (P : X → Type 0) (b : Bool) (zs : List X) (x : X) → All P zs → P x → All P (cond b zs (put_last k zs x))
+  unless-all P true zs x h p = h
+  unless-all P false zs x h p = put-all P zs x h p
+
 pub empty : {X : Type 0} (xs : List X) → length xs ≡ 0 → xs ≡ []
 empty [] h = refl
 empty (x ∷ xs) h = absurd (omega arith)
+
+-- a turn of a loop that copies things to the end of others, and its end
+pub copied-step : {A : Type 0} (cs ds bs ps : List A) (i : ℕ) (c p : A) → i < length ps → p ≡ get_or ps i p → c ≡ p → ds ≡ cs ++ c ∷ [] → cs ++ drop i ps ≡ bs ++ ps → ds ++ drop (i + 1) ps ≡ bs ++ ps
+copied-step cs ds bs ps i c p h g k e n =
+    let m : drop i ps ≡ p ∷ drop (i + 1) ps = drop_more ps i p h ∙ ap (λ z. z ∷ drop (i + 1) ps) (sym g) in
+    ap (λ z. z ++ drop (i + 1) ps) e
+    ∙ append_assoc cs (c ∷ []) (drop (i + 1) ps)
+    ∙ ap (λ z. cs ++ (z ∷ drop (i + 1) ps)) k
+    ∙ ap (λ z. cs ++ z) (sym m)
+    ∙ n
+
+pub copied-end : {A : Type 0} (cs bs ps : List A) (i : ℕ) → length ps ≤ i → cs ++ drop i ps ≡ bs ++ ps → cs ≡ bs ++ ps
+copied-end cs bs ps i h e = sym (append-nil cs) ∙ ap (λ z. cs ++ z) (sym (drop_all i ps h)) ∙ e
+
+-- the same of a loop that begins with none and gives what each thing stands for
+pub made-step : {A B : Type 0} (f : A → B) (cs ds : List B) (ps : List A) (i : ℕ) (c : B) (p : A) → i < length ps → p ≡ get_or ps i p → c ≡ f p → ds ≡ cs ++ c ∷ [] → cs ++ map f (drop i ps) ≡ map f ps → ds ++ map f (drop (i + 1) ps) ≡ map f ps
+made-step f cs ds ps i c p h g k e n =
+    let m : drop i ps ≡ p ∷ drop (i + 1) ps = drop_more ps i p h ∙ ap (λ z. z ∷ drop (i + 1) ps) (sym g) in
+    ap (λ z. z ++ map f (drop (i + 1) ps)) e
+    ∙ append_assoc cs (c ∷ []) (map f (drop (i + 1) ps))
+    ∙ ap (λ z. cs ++ (z ∷ map f (drop (i + 1) ps))) k
+    ∙ ap (λ z. cs ++ map f z) (sym m)
+    ∙ n
+
+pub made-end : {A B : Type 0} (f : A → B) (cs : List B) (ps : List A) (i : ℕ) → length ps ≤ i → cs ++ map f (drop i ps) ≡ map f ps → cs ≡ map f ps
+made-end f cs ps i h e = sym (append-nil cs) ∙ ap (λ z. cs ++ map f z) (sym (drop_all i ps h)) ∙ e
+
+-- a turn of a loop that puts what each thing stands for, and its end
+module _ {X Y : Type 0} (k : Y → List ℕ) (f : X → Y) where
+  pub mapped-step : (a d : List Y) (xs : List X) (i : ℕ) (x : X) → i < length xs → x ≡ get_or xs i x → d ≡ put_last k a (f x) → put_all k d (map f (drop (i + 1) xs)) ≡ put_all k a (map f (drop i xs))
+  mapped-step a d xs i x h g e =
+      let m : drop i xs ≡ x ∷ drop (i + 1) xs = drop_more xs i x h ∙ ap (λ z. z ∷ drop (i + 1) xs) (sym g) in
+      ap (λ z. put_all k z (map f (drop (i + 1) xs))) e ∙ sym (ap (λ z. put_all k a (map f z)) m)
+
+  pub mapped-end : (a : List Y) (xs : List X) (i : ℕ) → length xs ≤ i → put_all k a (map f (drop i xs)) ≡ put_all k [] (map f xs) → Up k (map f xs) → a ≡ once_each k (map f xs)
+  mapped-end a xs i h e u = sym (ap (λ z. put_all k a (map f z)) (drop_all i xs h)) ∙ e ∙ up-once k (map f xs) u
+
+-- what a call gave, where it is known to have given this
+pub at_ok : {X E : Type 0} (P : X → Type 0) (r : Result X E) (x : X) → r ≡ Ok x → IfOk r P → P x
+at_ok P r x e h = subst (λ z. IfOk z P) e h
+
+-- what was made, where memory was not wanting
+pub made-is : {X E : Type 0} (b o : Bool) (x y : X) (r : Result X E) → IfOk r (λ v. (b ≡ false) × (v ≡ x)) → (b ≡ false → (o ≡ false) × (x ≡ y)) → IfOk r (λ v. v ≡ y)
+made-is b o x y (Ok v) p q = p.1 ∙ (q p.0).1
+made-is b o x y (Err e) p q = tt

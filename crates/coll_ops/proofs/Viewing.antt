@@ -1,69 +1,30 @@
 -- What processes of one part are seen as, and what stands in them.
-use Rattle.std.proofs.Common.{◌≡◌, ℕ, ◌<◌, ◌≤◌, ◌^◌, ◌+◌, List, [], ◌∷◌, length, map, refl, sym, ap, ◌∙◌, subst, All, arith}
-use Rattle.std.specs.Prelude.{⊤, Vec, ℤ}
+use Rattle.std.proofs.Common.{◌≡◌, ℕ, Bool, List, [], ◌∷◌, length, map, refl, sym, ap, ◌∙◌, subst, All}
+use Rattle.std.specs.Prelude.{Result, Vec}
 use Rattle.std.specs.declared.alloc.Global.{Global}
-use Rattle.std.proofs.lemmas.List.{length-map}
 use Rattle.std.proofs.lemmas.List.Elements.{All-nil, All-cons}
-use Rattle.calculus.specs.declared.plain.Ground.{Ground}
-use Rattle.calculus.specs.declared.plain.Ground.TheVariants as ground
+use Rattle.calculus.specs.declared.fault.FaultKind.{FaultKind}
 use Rattle.calculus.specs.declared.plain.BinaryOp.{BinaryOp}
 use Rattle.calculus.specs.declared.plain.BinaryOp.TheVariants as op
-use Rattle.calculus.specs.Tree.{list, tuple, set, dict, par, pair, Tree, node, Trees, none, also, trees}
-use Rattle.calculus.specs.Shape.{count, many, only, listed}
+use Rattle.calculus.specs.Tree.{list, tuple, set, dict, par, pair, Tree, none, also, trees}
+use Rattle.calculus.specs.Shape.{many, only}
 use Rattle.calculus.specs.Order.{IsAscending}
 use Rattle.calculus.specs.Code.{code, codes}
 use Rattle.calculus.specs.CodeLaws.{IsShort}
-use Rattle.calculus.specs.Form.{Sort, term, part, pair_of, all, Hold, IsClosed}
+use Rattle.calculus.specs.Form.{term, pair_of, all, Hold}
 use Rattle.calculus.specs.Variables.{Sense}
-use Rattle.calculus.specs.Operators.{Seen, a_bool, an_int, a_text, some_bytes, a_list, a_tuple, a_set, a_map, other, seen, seen_part, on_kinds, binary_answer}
+use Rattle.calculus.specs.Methods.{among_methods, methods}
+use Rattle.calculus.specs.Operators.{Seen, a_list, a_tuple, a_set, a_map, other, seen, seen_part, on_kinds, binary_answer}
 use Rattle.calculus.proofs.Placing.{listed-trees}
 use Rattle.calculus.proofs.Splitting.{AreShort, kids-short, first-short, rest-short}
-use Rattle.calculus.proofs.Formed.{Holds, count-le}
-use Rattle.calculus.proofs.FromFits.{formed, fine}
-use Rattle.calculus.proofs.Tails.{IsFine}
 use Rattle.rho_term.specs.Parts.{part_tree, pair_tree}
 use Rattle.rho_term.specs.Normal.{IsNormal}
 use Rattle.rho_term.specs.declared.term.Part.{Part}
 use Rattle.rho_term.specs.declared.term.Part.TheVariants as part_of
 use Rattle.value_ops.specs.Answers.{IsOperand}
-use Rattle.coll_ops.specs.Views.{IsNoList, IsNoTuple, IsNoSet, IsNoMap, IsNoInt, IsNoEquality}
-
--- a part of another form is seen as another thing
-pub no_list : (p : Part) → ((v : Vec Tree Global) → p ≡ part_of.List v → ⊥) → IsNoList (seen_part (part_tree p))
-no_list (part_of.List v) h = h v refl
-no_list (part_of.Ground (ground.Bool b)) h = tt
-no_list (part_of.Ground (ground.Int z)) h = tt
-no_list (part_of.Ground (ground.Str s)) h = tt
-no_list (part_of.Ground (ground.Uri s)) h = tt
-no_list (part_of.Ground (ground.Bytes s)) h = tt
-no_list _ h = tt
-
-pub no_tuple : (p : Part) → ((v : Vec Tree Global) → p ≡ part_of.Tuple v → ⊥) → IsNoTuple (seen_part (part_tree p))
-no_tuple (part_of.Tuple v) h = h v refl
-no_tuple (part_of.Ground (ground.Bool b)) h = tt
-no_tuple (part_of.Ground (ground.Int z)) h = tt
-no_tuple (part_of.Ground (ground.Str s)) h = tt
-no_tuple (part_of.Ground (ground.Uri s)) h = tt
-no_tuple (part_of.Ground (ground.Bytes s)) h = tt
-no_tuple _ h = tt
-
-pub no_set : (p : Part) → ((v : Vec Tree Global) → p ≡ part_of.Set v → ⊥) → IsNoSet (seen_part (part_tree p))
-no_set (part_of.Set v) h = h v refl
-no_set (part_of.Ground (ground.Bool b)) h = tt
-no_set (part_of.Ground (ground.Int z)) h = tt
-no_set (part_of.Ground (ground.Str s)) h = tt
-no_set (part_of.Ground (ground.Uri s)) h = tt
-no_set (part_of.Ground (ground.Bytes s)) h = tt
-no_set _ h = tt
-
-pub no_map : (p : Part) → ((v : Vec (Tree × Tree) Global) → p ≡ part_of.Map v → ⊥) → IsNoMap (seen_part (part_tree p))
-no_map (part_of.Map v) h = h v refl
-no_map (part_of.Ground (ground.Bool b)) h = tt
-no_map (part_of.Ground (ground.Int z)) h = tt
-no_map (part_of.Ground (ground.Str s)) h = tt
-no_map (part_of.Ground (ground.Uri s)) h = tt
-no_map (part_of.Ground (ground.Bytes s)) h = tt
-no_map _ h = tt
+use Rattle.coll_ops.specs.Keys.{Ascend}
+use Rattle.coll_ops.specs.Views.{ArePairs, IsNoEquality, IsValue, Tells}
+use Rattle.coll_ops.proofs.Members.{all-each, key_code, keys-up, up-asc}
 
 -- one part is seen as what it is
 pub seen_list : (t : Tree) (ts : List Tree) → t ≡ only (many list ts) → seen t ≡ a_list ts
@@ -108,29 +69,6 @@ map_operands t ps e h =
     let k : IsOperand (only (many dict (map pair_tree ps))) = subst IsOperand e h in
     pairs [] ps k.closed.1.0.1 (kids-short dict (trees (map pair_tree ps)) (part_short (many dict (map pair_tree ps)) k.short))
 
-count-trees : (ts : List Tree) → count (trees ts) ≡ length ts
-count-trees [] = refl
-count-trees (t ∷ ts) = omega (arith, count-trees ts)
-
-few : (s : Sort) (ts : List Tree) → Holds IsFine (all s) (trees ts) → AreShort (trees ts) → length ts < 2 ^ 32
-few s ts h k = omega (arith, count-trees ts, count-le IsFine (all s) (trees ts) h, k)
-
-pub list_few : (t : Tree) (ts : List Tree) → t ≡ only (many list ts) → IsOperand t → length ts < 2 ^ 32
-list_few t ts e h =
-    let k : IsOperand (only (many list ts)) = subst IsOperand e h in
-    few term ts (formed IsFine fine part [] (many list ts) k.closed.1.0).1 (kids-short list (trees ts) (part_short (many list ts) k.short))
-
-pub set_few : (t : Tree) (ts : List Tree) → t ≡ only (many set ts) → IsOperand t → length ts < 2 ^ 32
-set_few t ts e h =
-    let k : IsOperand (only (many set ts)) = subst IsOperand e h in
-    few term ts (formed IsFine fine part [] (many set ts) k.closed.1.0).1 (kids-short set (trees ts) (part_short (many set ts) k.short))
-
-pub map_few : (t : Tree) (ps : List (Tree × Tree)) → t ≡ only (many dict (map pair_tree ps)) → IsOperand t → length ps < 2 ^ 32
-map_few t ps e h =
-    let ts = map pair_tree ps in
-    let k : IsOperand (only (many dict ts)) = subst IsOperand e h in
-    subst (λ n. n < 2 ^ 32) (length-map ps pair_tree) (few (pair_of term) ts (formed IsFine fine part [] (many dict ts) k.closed.1.0).1 (kids-short dict (trees ts) (part_short (many dict ts) k.short)))
-
 -- members of a set, and pairs of a map, in normal order ascend
 codes-map : (ts : List Tree) → codes (trees ts) ≡ map code ts
 codes-map [] = refl
@@ -167,47 +105,46 @@ seen_other [] h = refl
 seen_other (p ∷ []) h = absurd (h refl)
 seen_other (p ∷ q ∷ ps) h = refl
 
--- only a set stands for a set, and only a map for a map
-pub only_set : (p : Part) (ts : Trees) → part_tree p ≡ node set ts → ((v : Vec Tree Global) → p ≡ part_of.Set v → ⊥) → ⊥
-only_set (part_of.Ground (ground.Bool b)) ts e h = cc
-only_set (part_of.Ground (ground.Int z)) ts e h = cc
-only_set (part_of.Ground (ground.Str x)) ts e h = cc
-only_set (part_of.Ground (ground.Uri x)) ts e h = cc
-only_set (part_of.Ground (ground.Bytes x)) ts e h = cc
-only_set (part_of.Fresh d) ts e h = cc
-only_set (part_of.Var i) ts e h = cc
-only_set (part_of.NameVar i) ts e h = cc
-only_set (part_of.List v) ts e h = cc
-only_set (part_of.Tuple v) ts e h = cc
-only_set (part_of.Set v) ts e h = h v refl
-only_set (part_of.Map v) ts e h = cc
-only_set (part_of.Send c xs q) ts e h = cc
-only_set (part_of.Receive q bs b) ts e h = cc
-only_set (part_of.New os b) ts e h = cc
-only_set (part_of.Match t cs) ts e h = cc
-only_set (part_of.Bundle r b) ts e h = cc
-only_set (part_of.Unary o a) ts e h = cc
-only_set (part_of.Binary o a b) ts e h = cc
-only_set (part_of.Method m t xs) ts e h = cc
+-- the members of a set that is a value, and the pairs of a map
+pub set-value : (t : Tree) (ts : List Tree) → t ≡ only (many set ts) → IsValue t → Ascend (λ x. x) ts
+set-value t ts e v = record { keys = set_operands t ts e v.operand; up = set_up t ts e v.normal }
 
-pub only_map : (p : Part) (ts : Trees) → part_tree p ≡ node dict ts → ((v : Vec (Tree × Tree) Global) → p ≡ part_of.Map v → ⊥) → ⊥
-only_map (part_of.Ground (ground.Bool b)) ts e h = cc
-only_map (part_of.Ground (ground.Int z)) ts e h = cc
-only_map (part_of.Ground (ground.Str x)) ts e h = cc
-only_map (part_of.Ground (ground.Uri x)) ts e h = cc
-only_map (part_of.Ground (ground.Bytes x)) ts e h = cc
-only_map (part_of.Fresh d) ts e h = cc
-only_map (part_of.Var i) ts e h = cc
-only_map (part_of.NameVar i) ts e h = cc
-only_map (part_of.List v) ts e h = cc
-only_map (part_of.Tuple v) ts e h = cc
-only_map (part_of.Set v) ts e h = cc
-only_map (part_of.Map v) ts e h = h v refl
-only_map (part_of.Send c xs q) ts e h = cc
-only_map (part_of.Receive q bs b) ts e h = cc
-only_map (part_of.New os b) ts e h = cc
-only_map (part_of.Match t cs) ts e h = cc
-only_map (part_of.Bundle r b) ts e h = cc
-only_map (part_of.Unary o a) ts e h = cc
-only_map (part_of.Binary o a b) ts e h = cc
-only_map (part_of.Method m t xs) ts e h = cc
+pub map-value : (t : Tree) (ps : List (Tree × Tree)) → t ≡ only (many dict (map pair_tree ps)) → IsValue t → ArePairs ps
+map-value t ps e v = record { keys = map_operands t ps e v.operand; up = map_up t (map pair_tree ps) e v.normal }
+
+pub as-value : (t u : Tree) → t ≡ u → IsOperand t → IsNormal t → IsValue u
+as-value t u e h n = record { operand = subst IsOperand e h; normal = subst IsNormal e n }
+
+-- pairs that ascend do so in their keys
+pub pairs-ascend : (ps : List (Tree × Tree)) → ArePairs ps → Ascend (λ p. p.0) ps
+pairs-ascend ps v = record { keys = v.keys; up = up-asc key_code ps (keys-up ps (all-each (λ p. IsOperand p.0) ps v.keys) v.up) }
+
+-- one member, and one pair
+pub one-member : (t : Tree) (ts : List Tree) → ts ≡ t ∷ [] → IsOperand t → Ascend (λ x. x) ts
+one-member t ts e h = subst (Ascend (λ x. x)) (sym e) (record { keys = All-cons IsOperand t [] h (All-nil IsOperand); up = (tt, tt) })
+
+pub one-pair : (p : Tree × Tree) (ps : List (Tree × Tree)) → ps ≡ p ∷ [] → IsOperand p.0 → ArePairs ps
+one-pair p ps e h = subst ArePairs (sym e) (record { keys = All-cons (λ q. IsOperand q.0) p [] h (All-nil (λ q. IsOperand q.0)); up = (tt, tt) })
+
+-- what was told of operands, and of a target, as they are seen
+pub both-seen : (b : Bool) (o : BinaryOp) (s r v w : Seen) (res : Result Tree FaultKind) → s ≡ v → r ≡ w → Tells b (on_kinds o v w) res → Tells b (on_kinds o s r) res
+both-seen b o s r v w res e f h = subst (λ x. Tells b (on_kinds o x r) res) (sym e) (subst (λ x. Tells b (on_kinds o v x) res) (sym f) h)
+
+pub target-seen : (b : Bool) (n : List ℕ) (xs : List Tree) (s v : Seen) (res : Result Tree FaultKind) → s ≡ v → Tells b (among_methods n xs (methods v)) res → Tells b (among_methods n xs (methods s)) res
+target-seen b n xs s v res e h = subst (λ x. Tells b (among_methods n xs (methods x)) res) (sym e) h
+
+-- a part is seen as what it is
+pub list-seen : (p : Part) (v : Vec Tree Global) (ts : List Tree) → p ≡ part_of.List v → ts ≡ v.items → seen_part (part_tree p) ≡ a_list ts
+list-seen p v ts e f = ap (λ q. seen_part (part_tree q)) e ∙ ap a_list (listed-trees v.items ∙ sym f)
+
+pub set-seen : (p : Part) (v : Vec Tree Global) (ts : List Tree) → p ≡ part_of.Set v → ts ≡ v.items → seen_part (part_tree p) ≡ a_set ts
+set-seen p v ts e f = ap (λ q. seen_part (part_tree q)) e ∙ ap a_set (listed-trees v.items ∙ sym f)
+
+pub map-seen : (p : Part) (v : Vec (Tree × Tree) Global) (ps : List (Tree × Tree)) → p ≡ part_of.Map v → ps ≡ v.items → seen_part (part_tree p) ≡ a_map (map pair_tree ps)
+map-seen p v ps e f = ap (λ q. seen_part (part_tree q)) e ∙ ap a_map (listed-trees (map pair_tree v.items) ∙ ap (map pair_tree) (sym f))
+
+pub set-part : (p : Part) (v : Vec Tree Global) (ts : List Tree) → p ≡ part_of.Set v → ts ≡ v.items → IsValue (only (part_tree p)) → Ascend (λ x. x) ts
+set-part p v ts e f h = set-value (only (part_tree p)) ts (ap (λ q. only (part_tree q)) e ∙ ap (λ l. only (many set l)) (sym f)) h
+
+pub map-part : (p : Part) (v : Vec (Tree × Tree) Global) (ps : List (Tree × Tree)) → p ≡ part_of.Map v → ps ≡ v.items → IsValue (only (part_tree p)) → ArePairs ps
+map-part p v ps e f h = map-value (only (part_tree p)) ps (ap (λ q. only (part_tree q)) e ∙ ap (λ l. only (many dict (map pair_tree l))) (sym f)) h

@@ -1,4 +1,3 @@
 pub mod Keys
 pub mod Merging
-pub mod Names
 pub mod Views

@@ -1,6 +1,9 @@
 -- How lists that ascend in their keys are walked.
-use Rattle.std.specs.Prelude.{ℕ, Bool, false, cond, List, [], ◌∷◌, Option, Some, None}
+use Rattle.std.specs.Prelude.{◌≡◌, ℕ, Bool, false, cond, List, [], ◌∷◌, drop, All}
 use Rattle.calculus.specs.Order.{up_to}
+use Rattle.calculus.specs.Tree.{Tree}
+use Rattle.calculus.specs.Code.{code}
+use Rattle.value_ops.specs.Answers.{IsOperand}
 use Rattle.coll_ops.specs.Keys.{same}
 
 -- those at the front whose keys are less than this one
@@ -18,11 +21,6 @@ abbrev pub starts : {X : Type 0} → (X → List ℕ) → List ℕ → List X �
 starts k c [] = false
 starts k c (y ∷ ys) = same (k y) c
 
--- the first of these, where it has this key
-abbrev pub first_with : {X : Type 0} → (X → List ℕ) → List ℕ → List X → Option X
-first_with k c [] = None
-first_with k c (y ∷ ys) = cond (same (k y) c) (Some y) None
-
 -- whether the last of these has this key
 abbrev pub ends : {X : Type 0} → (X → List ℕ) → List ℕ → List X → Bool
 ends k c [] = false
@@ -39,3 +37,14 @@ put_last k (z ∷ w ∷ zs) x = z ∷ put_last k (w ∷ zs) x
 abbrev pub put_all : {X : Type 0} → (X → List ℕ) → List X → List X → List X
 put_all k zs [] = zs
 put_all k zs (x ∷ xs) = put_all k (put_last k zs x) xs
+
+-- from the one place on, the first key that is not less than this one stands at the other, and is this one or not
+pub record IsSought {X : Type 0} (f : X → Tree) (t : Tree) (xs : List X) (start place : ℕ) (found : Bool) : Type 0 where
+  pub rest : drop place xs ≡ high (λ x. code (f x)) (code t) (drop start xs)
+  pub has : found ≡ starts (λ x. code (f x)) (code t) (drop place xs)
+
+-- those from the one place on whose keys are less than this one were put, up to the other place
+pub record PutsBelow {X : Type 0} (f : X → Tree) (t : Tree) (xs : List X) (start place : ℕ) (before after : List X) : Type 0 where
+  pub items : after ≡ put_all (λ x. code (f x)) before (low (λ x. code (f x)) (code t) (drop start xs))
+  pub rest : drop place xs ≡ high (λ x. code (f x)) (code t) (drop start xs)
+  pub keys : All (λ x. IsOperand (f x)) after

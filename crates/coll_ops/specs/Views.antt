@@ -1,9 +1,16 @@
--- Which kinds of value are collections.
-use Rattle.std.specs.Prelude.{⊤}
+-- Which kinds of value are collections, and what is told of them.
+use Rattle.std.specs.Prelude.{◌≡◌, Bool, false, List, map as each, All, Result, Ok, Err, ⊤}
+use Rattle.calculus.specs.declared.fault.FaultKind.{FaultKind}
 use Rattle.calculus.specs.declared.plain.BinaryOp.{BinaryOp}
 use Rattle.calculus.specs.declared.plain.BinaryOp.TheVariants as op
 use Rattle.calculus.specs.Tree.{Tree}
-use Rattle.calculus.specs.Operators.{Seen, a_bool, an_int, a_text, some_bytes, a_list, a_tuple, a_set, a_map, other, seen}
+use Rattle.calculus.specs.Code.{code}
+use Rattle.calculus.specs.Order.{IsAscending}
+use Rattle.calculus.specs.Operators.{Seen, a_list, a_tuple, a_set, a_map, seen}
+use Rattle.calculus.specs.Outcome.{Answer, gives, fails}
+use Rattle.rho_term.specs.Normal.{IsNormal}
+use Rattle.rho_term.specs.Parts.{pair_tree}
+use Rattle.value_ops.specs.Answers.{IsOperand}
 
 -- a list, a tuple, a set or a map
 abbrev pub IsCollectionKind : Seen → Type 0
@@ -23,27 +30,17 @@ IsNoEquality op.Eq = ⊥
 IsNoEquality op.Ne = ⊥
 IsNoEquality _ = ⊤
 
--- anything but a list
-abbrev pub IsNoList : Seen → Type 0
-IsNoList (a_list ts) = ⊥
-IsNoList _ = ⊤
+-- an operand in normal order
+pub record IsValue (t : Tree) : Type 0 where
+  pub operand : IsOperand t
+  pub normal : IsNormal t
 
--- anything but a tuple
-abbrev pub IsNoTuple : Seen → Type 0
-IsNoTuple (a_tuple ts) = ⊥
-IsNoTuple _ = ⊤
+-- pairs whose keys are operands, and which ascend in their codes
+pub record ArePairs (ps : List (Tree × Tree)) : Type 0 where
+  pub keys : All (λ p. IsOperand p.0) ps
+  pub up : IsAscending (each code (each pair_tree ps))
 
--- anything but a set
-abbrev pub IsNoSet : Seen → Type 0
-IsNoSet (a_set ts) = ⊥
-IsNoSet _ = ⊤
-
--- anything but a map
-abbrev pub IsNoMap : Seen → Type 0
-IsNoMap (a_map ts) = ⊥
-IsNoMap _ = ⊤
-
--- anything but an Int
-abbrev pub IsNoInt : Seen → Type 0
-IsNoInt (an_int z) = ⊥
-IsNoInt _ = ⊤
+-- a value is told, which counts unless making it failed, or a fault
+abbrev pub Tells : Bool → Answer Tree → Result Tree FaultKind → Type 0
+Tells failed a (Ok t) = failed ≡ false → a ≡ gives t
+Tells failed a (Err f) = a ≡ fails f

@@ -1,9 +1,9 @@
 // Members of sets, and pairs of maps, by their keys.
-ghost use Rattle.std.specs.Prelude.{◌≡◌, IfOk};
+ghost use Rattle.std.specs.Prelude.{◌≡◌, false};
 ghost use Rattle.calculus.specs.Tree.{Tree};
 
+use crate::maker::Maker;
 use rho_term::Term;
-use std::alloc::{AllocError, Global};
 
 /// What a set or a map keeps once for each key.
 pub(crate) trait Keyed: Drop {
@@ -13,9 +13,9 @@ pub(crate) trait Keyed: Drop {
     fn key(&self) -> &Term
         ensures { result.now ≡ key_tree self.now };
 
-    /// An equal one. Want of memory is the one error.
-    fn copied(&self, alloc: Global) -> Result<Self, AllocError>
-        ensures { IfOk result (λ x. x ≡ self.now) };
+    /// An equal one.
+    fn copied(&self, maker: &mut Maker) -> Self
+        ensures { maker.new.failed ≡ false → (maker.old.failed ≡ false) × (result ≡ self.now) };
 }
 
 // A member of a set is its own key.
@@ -26,8 +26,8 @@ impl Keyed for Term {
         self
     }
 
-    fn copied(&self, alloc: Global) -> Result<Term, AllocError> {
-        self.copy(alloc)
+    fn copied(&self, maker: &mut Maker) -> Term {
+        maker.copy(self)
     }
 }
 
@@ -38,9 +38,9 @@ impl Keyed for (Term, Term) {
         &self.0
     }
 
-    fn copied(&self, alloc: Global) -> Result<(Term, Term), AllocError> {
-        let key = self.0.copy(alloc)?;
-        let value = self.1.copy(alloc)?;
-        Ok((key, value))
+    fn copied(&self, maker: &mut Maker) -> (Term, Term) {
+        let key = maker.copy(&self.0);
+        let value = maker.copy(&self.1);
+        (key, value)
     }
 }

@@ -4,15 +4,15 @@
 //! of n members takes about n comparisons.
 #![tactic(auto)]
 
+mod binary;
 mod keyed;
 mod lists;
+mod maker;
 pub mod making;
 mod maps;
 mod merge;
-mod names;
 pub mod ops;
 mod sets;
-mod values;
 mod views;
 
 pub use making::{map_of, set_of};

@@ -1,154 +1,125 @@
 // Operators and methods of lists and tuples.
-ghost use Rattle.std.specs.Prelude.{◌≡◌, ◌<◌, ◌≤◌, ◌++◌, ◌^◌, pos, length, drop, take, All, IfOk};
+ghost use Rattle.std.specs.Prelude.{◌≡◌, ◌≤◌, ◌++◌, false, pos, All};
 ghost use Rattle.calculus.specs.Methods.{among_methods, methods, nth_at, slice};
 ghost use Rattle.calculus.specs.Operators.{on_kinds, an_int, a_list, a_tuple, of_list, of_set, seen};
-ghost use Rattle.calculus.specs.Outcome.{gives};
-ghost use Rattle.coll_ops.specs.Names.{name_of, takes_of};
-ghost use Rattle.value_ops.specs.Answers.{Answers, IsOperand};
+ghost use Rattle.coll_ops.specs.Views.{Tells};
+ghost use Rattle.value_ops.specs.Answers.{IsOperand};
 
-use crate::making::set_of;
-use crate::names::Name;
-use crate::values::{copies, copy_value, list_value, only_argument, size_value};
-use crate::views::{int_of, list_members, place_of};
-use calculus::{BinaryOp, FaultKind};
-use rho_term::Term;
-use std::alloc::{AllocError, Global};
-use value_ops::OpStop;
+use crate::maker::Maker;
+use crate::making::distinct;
+use crate::views::{index_of, range_of};
+use calculus::{BinaryOp, FaultKind, Ground};
+use rho_term::{Part, Term};
 
-/// An operator on a list and another process.
+/// An operator on two lists.
 pub(crate) fn list_binary(
-    alloc: Global,
+    maker: &mut Maker,
     op: BinaryOp,
     left: &[Term],
-    right: &Term,
-) -> Result<Term, OpStop>
-    ensures { Answers (on_kinds op (a_list left.now) (seen right.now)) result }
+    right: &[Term],
+) -> Result<Term, FaultKind>
+    ensures { Tells maker.new.failed (on_kinds op (a_list left.now) (a_list right.now)) result }
 {
-    let Some(others) = list_members(right) else {
-        return Err(OpStop::Fault(FaultKind::WrongType));
-    };
     match op {
-        BinaryOp::Append => append(alloc, left, others),
-        _ => Err(OpStop::Fault(FaultKind::WrongType)),
+        BinaryOp::Append => Ok(append(maker, left, right)),
+        _ => Err(FaultKind::WrongType),
     }
 }
 
-// The members of both, one list after the other.
-fn append(alloc: Global, left: &[Term], right: &[Term]) -> Result<Term, OpStop>
-    ensures { Answers (gives (of_list (left.now ++ right.now))) result }
+// A list of the members of both, one after the other.
+fn append(maker: &mut Maker, left: &[Term], right: &[Term]) -> Term
+    ensures { maker.new.failed ≡ false → result ≡ of_list (left.now ++ right.now) }
 {
-    let mut members = copies(alloc, left)?;
-    for term in right {
-        members.push(term.copy(alloc)?)?;
-    }
-    list_value(alloc, members)
+    let mut members = Vec::new(maker.alloc);
+    maker.add_copies(&mut members, left);
+    maker.add_copies(&mut members, right);
+    maker.value(Part::List(members))
 }
 
-/// A method of a list, with as many arguments as it takes.
+/// A list of these members.
+pub(crate) fn list_of(maker: &mut Maker, members: &[Term]) -> Term
+    ensures { maker.new.failed ≡ false → result ≡ of_list members.now }
+{
+    append(maker, members, &[])
+}
+
+/// A method of a list.
 pub(crate) fn list_method(
-    alloc: Global,
-    name: Name,
+    maker: &mut Maker,
+    name: &str,
     members: &[Term],
     args: &[Term],
-) -> Result<Term, OpStop>
-    requires operands { All IsOperand members.now }
-    requires few { length members.now < 2 ^ 32 }
-    requires takes { length args.now ≡ takes_of name }
-    ensures { Answers (among_methods (name_of name) args.now (methods (a_list members.now))) result }
+) -> Result<Term, FaultKind>
+    requires { All IsOperand members.now }
+    ensures { Tells maker.new.failed (among_methods name.now args.now (methods (a_list members.now))) result }
 {
-    match name {
-        Name::Length => size_value(alloc, members.len()),
-        Name::Nth => nth(alloc, members, only_argument(args)),
-        Name::Slice => slice(alloc, members, &args[0], &args[1]),
-        Name::ToSet => to_set(alloc, members),
-        _ => Err(OpStop::Fault(FaultKind::NoMethod)),
+    match (name, args) {
+        ("length", []) => Ok(maker.value(Part::Ground(Ground::Int(members.len() as i64)))),
+        ("toSet", []) => Ok(to_set(maker, members)),
+        ("nth", [index]) => nth(maker, members, index),
+        ("slice", [from, to]) => slice(maker, members, from, to),
+        _ => Err(FaultKind::NoMethod),
     }
 }
 
-/// A method of a tuple, with as many arguments as it takes.
+/// A method of a tuple.
 pub(crate) fn tuple_method(
-    alloc: Global,
-    name: Name,
+    maker: &mut Maker,
+    name: &str,
     members: &[Term],
     args: &[Term],
-) -> Result<Term, OpStop>
-    requires takes { length args.now ≡ takes_of name }
-    ensures { Answers (among_methods (name_of name) args.now (methods (a_tuple members.now))) result }
+) -> Result<Term, FaultKind>
+    ensures { Tells maker.new.failed (among_methods name.now args.now (methods (a_tuple members.now))) result }
 {
-    match name {
-        Name::Nth => nth(alloc, members, only_argument(args)),
-        _ => Err(OpStop::Fault(FaultKind::NoMethod)),
+    match (name, args) {
+        ("nth", [index]) => nth(maker, members, index),
+        _ => Err(FaultKind::NoMethod),
     }
 }
 
 // The member at an index.
-fn nth(alloc: Global, members: &[Term], index: &Term) -> Result<Term, OpStop>
-    ensures { Answers (nth_at (λ t. t) members.now (seen index.now)) result }
+fn nth(maker: &mut Maker, members: &[Term], index: &Term) -> Result<Term, FaultKind>
+    ensures { Tells maker.new.failed (nth_at (λ t. t) members.now (seen index.now)) result }
 {
-    let Some(number) = int_of(index) else {
-        return Err(OpStop::Fault(FaultKind::WrongType));
-    };
-    let Some(place) = place_of(number) else {
-        return Err(OpStop::Fault(FaultKind::Index));
-    };
-    if place >= members.len() {
-        return Err(OpStop::Fault(FaultKind::Index));
+    let index = index_of(index)?;
+    if index >= members.len() {
+        return Err(FaultKind::Index);
     }
-    copy_value(alloc, &members[place])
+    Ok(maker.copy(&members[index]))
 }
 
 // The members from one index up to another.
-fn slice(alloc: Global, members: &[Term], from: &Term, to: &Term) -> Result<Term, OpStop>
-    ensures { Answers (slice of_list members.now (seen from.now) (seen to.now)) result }
+fn slice(maker: &mut Maker, members: &[Term], from: &Term, to: &Term) -> Result<Term, FaultKind>
+    ensures { Tells maker.new.failed (slice of_list members.now (seen from.now) (seen to.now)) result }
 {
-    let Some(from) = int_of(from) else {
-        return Err(OpStop::Fault(FaultKind::WrongType));
-    };
-    let Some(to) = int_of(to) else {
-        return Err(OpStop::Fault(FaultKind::WrongType));
-    };
-    match place_of(from) {
-        Some(low) => slice_from(alloc, members, low, to),
-        None => Err(OpStop::Fault(FaultKind::Index)),
+    match range_of(from, to) {
+        Ok((low, high)) => slice_between(maker, members, low, high),
+        Err(kind) => Err(kind),
     }
-}
-
-// The members from one place up to an index.
-fn slice_from(alloc: Global, members: &[Term], low: usize, to: i64) -> Result<Term, OpStop>
-    ensures { Answers (slice of_list members.now (an_int (pos low)) (an_int to)) result }
-{
-    let Some(high) = place_of(to) else {
-        return Err(OpStop::Fault(FaultKind::Index));
-    };
-    if low > high {
-        return Err(OpStop::Fault(FaultKind::Index));
-    }
-    if high > members.len() {
-        return Err(OpStop::Fault(FaultKind::Index));
-    }
-    let part = copies_between(alloc, members, low, high)?;
-    list_value(alloc, part)
 }
 
 // The members from one place up to another.
-fn copies_between(
-    alloc: Global,
+fn slice_between(
+    maker: &mut Maker,
     members: &[Term],
     low: usize,
     high: usize,
-) -> Result<Vec<Term>, AllocError>
-    requires ends { low ≤ high }
-    requires inside { high ≤ length members.now }
-    ensures { IfOk result (λ v. v.items ≡ drop low (take high members.now)) }
+) -> Result<Term, FaultKind>
+    requires { low ≤ high }
+    ensures { Tells maker.new.failed (slice of_list members.now (an_int (pos low)) (an_int (pos high))) result }
 {
-    copies(alloc, &members[low..high])
+    if high > members.len() {
+        return Err(FaultKind::Index);
+    }
+    Ok(list_of(maker, &members[low..high]))
 }
 
 // The members, each once, as a set.
-fn to_set(alloc: Global, members: &[Term]) -> Result<Term, OpStop>
+fn to_set(maker: &mut Maker, members: &[Term]) -> Term
     requires { All IsOperand members.now }
-    ensures { Answers (gives (of_set members.now)) result }
+    ensures { maker.new.failed ≡ false → result ≡ of_set members.now }
 {
-    let copied = copies(alloc, members)?;
-    Ok(set_of(alloc, copied)?)
+    let mut copied = Vec::new(maker.alloc);
+    maker.add_copies(&mut copied, members);
+    distinct(maker, copied)
 }

@@ -1,219 +1,193 @@
 // Operators and methods of maps.
-ghost use Rattle.std.specs.Prelude.{◌≡◌, ◌<◌, ◌++◌, ◌∷◌, [], ◌^◌, length, map, All, MatchOption, IfOk};
-ghost use Rattle.calculus.specs.Code.{code};
-ghost use Rattle.calculus.specs.Normal.{ascending};
-ghost use Rattle.calculus.specs.Order.{IsAscending};
-ghost use Rattle.calculus.specs.Methods.{among_methods, methods, with_map, without_key, as_tuple};
-ghost use Rattle.calculus.specs.Operators.{on_kinds, a_map, of_map, of_set, of_list, found, holds, is_among, key_of, seen};
-ghost use Rattle.calculus.specs.Outcome.{gives};
-ghost use Rattle.calculus.specs.Shape.{leaf, two};
-ghost use Rattle.calculus.specs.Tree.{Tree, pair, par};
+ghost use Rattle.std.specs.Prelude.{◌≡◌, ◌++◌, ◌∷◌, [], false, map, All};
+ghost use Rattle.calculus.specs.Methods.{among_methods, methods, without_key, as_tuple};
+ghost use Rattle.calculus.specs.Operators.{on_kinds, a_map, of_map, of_set, of_list, found, key_of};
+ghost use Rattle.calculus.specs.Shape.{leaf, many, only, two};
+ghost use Rattle.calculus.specs.Tree.{dict, pair, par};
+ghost use Rattle.coll_ops.specs.Views.{ArePairs, IsValue, Tells};
 ghost use Rattle.rho_term.specs.Parts.{pair_tree};
-ghost use Rattle.coll_ops.specs.Names.{name_of, takes_of};
-ghost use Rattle.value_ops.specs.Answers.{Answers, IsOperand};
+ghost use Rattle.value_ops.specs.Answers.{IsOperand};
 
-use crate::merge::{find, last_of_each, merged, without};
-use crate::names::Name;
-use crate::values::{
-    bool_value, copy_value, list_value, map_value, only_argument, set_value, size_value,
-};
-use crate::views::map_pairs;
-use calculus::{BinaryOp, FaultKind};
+use crate::binary::kinds_binary;
+use crate::maker::Maker;
+use crate::merge::{contains, find_key, merged, put, without};
+use calculus::{BinaryOp, FaultKind, Ground};
 use rho_term::{Part, Term};
-use std::alloc::{AllocError, Global};
-use value_ops::OpStop;
+use std::slice::from_ref;
 
-/// An operator on a map and another process.
+/// An operator on two maps.
 pub(crate) fn map_binary(
-    alloc: Global,
+    maker: &mut Maker,
     op: BinaryOp,
     left: &[(Term, Term)],
-    right: &Term,
-) -> Result<Term, OpStop>
-    requires keys { All (λ p. IsOperand p.0) left.now }
-    requires up { IsAscending (map code (map pair_tree left.now)) }
-    requires right { IsOperand right.now }
-    ensures { Answers (on_kinds op (a_map (map pair_tree left.now)) (seen right.now)) result }
+    right: &[(Term, Term)],
+) -> Result<Term, FaultKind>
+    requires { ArePairs left.now × ArePairs right.now }
+    ensures { Tells maker.new.failed (on_kinds op (a_map (map pair_tree left.now)) (a_map (map pair_tree right.now))) result }
 {
-    let Some(others) = map_pairs(right) else {
-        return Err(OpStop::Fault(FaultKind::WrongType));
-    };
     match op {
-        BinaryOp::Append => union(alloc, left, others),
-        _ => Err(OpStop::Fault(FaultKind::WrongType)),
-    }
-}
-
-/// A method of a map, with as many arguments as it takes.
-pub(crate) fn map_method(
-    alloc: Global,
-    name: Name,
-    pairs: &[(Term, Term)],
-    args: &[Term],
-) -> Result<Term, OpStop>
-    requires keys { All (λ p. IsOperand p.0) pairs.now }
-    requires up { IsAscending (map code (map pair_tree pairs.now)) }
-    requires few { length pairs.now < 2 ^ 32 }
-    requires args { All IsOperand args.now }
-    requires takes { length args.now ≡ takes_of name }
-    ensures { Answers (among_methods (name_of name) args.now (methods (a_map (map pair_tree pairs.now)))) result }
-{
-    match name {
-        Name::Size => size_value(alloc, pairs.len()),
-        Name::Contains => contains(alloc, pairs, only_argument(args)),
-        Name::Get => get(alloc, pairs, only_argument(args)),
-        Name::GetOrElse => value_or(alloc, pairs, &args[0], &args[1]),
-        Name::Set => set_pair(alloc, pairs, &args[0], &args[1]),
-        Name::Delete => without_key(alloc, pairs, only_argument(args), args),
-        Name::Union => map_union(alloc, pairs, only_argument(args)),
-        Name::Keys => keys(alloc, pairs),
-        Name::ToList => to_list(alloc, pairs),
-        _ => Err(OpStop::Fault(FaultKind::NoMethod)),
+        BinaryOp::Append => Ok(union(maker, left, right)),
+        _ => Err(FaultKind::WrongType),
     }
 }
 
 // The pairs of both maps; of equal keys the pair of the right one.
-fn union(alloc: Global, left: &[(Term, Term)], right: &[(Term, Term)]) -> Result<Term, OpStop>
-    requires left { All (λ p. IsOperand p.0) left.now }
-    requires right { All (λ p. IsOperand p.0) right.now }
-    requires left_up { IsAscending (map code (map pair_tree left.now)) }
-    requires right_up { IsAscending (map code (map pair_tree right.now)) }
-    ensures { Answers (gives (of_map (map pair_tree left.now ++ map pair_tree right.now))) result }
+fn union(maker: &mut Maker, left: &[(Term, Term)], right: &[(Term, Term)]) -> Term
+    requires { maker.old.failed ≡ false → ArePairs left.now × ArePairs right.now }
+    ensures { maker.new.failed ≡ false → (maker.old.failed ≡ false) × (result ≡ of_map (map pair_tree left.now ++ map pair_tree right.now)) }
 {
-    let pairs = merged(alloc, left, right)?;
-    map_value(alloc, pairs)
+    let pairs = merged(maker, left, right);
+    maker.value(Part::Map(pairs))
 }
 
-// The union with a process that has to be a map.
-fn map_union(alloc: Global, pairs: &[(Term, Term)], other: &Term) -> Result<Term, OpStop>
-    requires keys { All (λ p. IsOperand p.0) pairs.now }
-    requires up { IsAscending (map code (map pair_tree pairs.now)) }
-    requires other { IsOperand other.now }
-    ensures { Answers (with_map (seen other.now) (λ qs. of_map (map pair_tree pairs.now ++ qs))) result }
+/// A method of a map, which has these pairs.
+pub(crate) fn map_method(
+    maker: &mut Maker,
+    name: &str,
+    target: &Term,
+    pairs: &[(Term, Term)],
+    args: &[Term],
+) -> Result<Term, FaultKind>
+    requires target { target.now ≡ only (many dict (map pair_tree pairs.now)) }
+    requires value { IsValue target.now }
+    requires args { All IsOperand args.now }
+    ensures { Tells maker.new.failed (among_methods name.now args.now (methods (a_map (map pair_tree pairs.now)))) result }
 {
-    match map_pairs(other) {
-        Some(others) => union(alloc, pairs, others),
-        None => Err(OpStop::Fault(FaultKind::WrongType)),
+    match args {
+        [] => map_plainly(maker, name, pairs),
+        [key] => map_given(maker, name, target, pairs, key),
+        [key, value] => map_given_two(maker, name, pairs, key, value),
+        _ => Err(FaultKind::NoMethod),
     }
 }
 
-// Whether a process is a key.
-fn contains(alloc: Global, pairs: &[(Term, Term)], key: &Term) -> Result<Term, OpStop>
-    requires keys { All (λ p. IsOperand p.0) pairs.now }
-    requires up { IsAscending (map code (map pair_tree pairs.now)) }
-    requires key { IsOperand key.now }
-    ensures { Answers (holds (is_among key.now (map key_of (map pair_tree pairs.now)))) result }
+// A method without arguments.
+fn map_plainly(maker: &mut Maker, name: &str, pairs: &[(Term, Term)]) -> Result<Term, FaultKind>
+    requires { ArePairs pairs.now }
+    ensures { Tells maker.new.failed (among_methods name.now [] (methods (a_map (map pair_tree pairs.now)))) result }
 {
-    match find(pairs, key) {
-        Some(_) => bool_value(alloc, true),
-        None => bool_value(alloc, false),
+    match name {
+        "size" => Ok(maker.value(Part::Ground(Ground::Int(pairs.len() as i64)))),
+        "keys" => Ok(keys(maker, pairs)),
+        "toList" => Ok(to_list(maker, pairs)),
+        _ => Err(FaultKind::NoMethod),
+    }
+}
+
+// A method of one argument.
+fn map_given(
+    maker: &mut Maker,
+    name: &str,
+    target: &Term,
+    pairs: &[(Term, Term)],
+    argument: &Term,
+) -> Result<Term, FaultKind>
+    requires target { target.now ≡ only (many dict (map pair_tree pairs.now)) }
+    requires value { IsValue target.now }
+    requires argument { IsOperand argument.now }
+    ensures { Tells maker.new.failed (among_methods name.now (argument.now ∷ []) (methods (a_map (map pair_tree pairs.now)))) result }
+{
+    match name {
+        "contains" => Ok(contains(maker, pairs, argument)),
+        "get" => Ok(get(maker, pairs, argument)),
+        "delete" => Ok(without_key(maker, pairs, argument)),
+        "union" => kinds_binary(maker, BinaryOp::Append, target, argument),
+        _ => Err(FaultKind::NoMethod),
+    }
+}
+
+// A method of two arguments.
+fn map_given_two(
+    maker: &mut Maker,
+    name: &str,
+    pairs: &[(Term, Term)],
+    key: &Term,
+    value: &Term,
+) -> Result<Term, FaultKind>
+    requires { ArePairs pairs.now × IsOperand key.now }
+    ensures { Tells maker.new.failed (among_methods name.now (key.now ∷ value.now ∷ []) (methods (a_map (map pair_tree pairs.now)))) result }
+{
+    match name {
+        "getOrElse" => Ok(value_or(maker, pairs, key, value)),
+        "set" => Ok(set_pair(maker, pairs, key, value)),
+        _ => Err(FaultKind::NoMethod),
     }
 }
 
 // The value at a key, or another value.
-fn value_or(
-    alloc: Global,
-    pairs: &[(Term, Term)],
-    key: &Term,
-    default: &Term,
-) -> Result<Term, OpStop>
-    requires keys { All (λ p. IsOperand p.0) pairs.now }
-    requires up { IsAscending (map code (map pair_tree pairs.now)) }
-    requires key { IsOperand key.now }
-    ensures { Answers (gives (found default.now key.now (map pair_tree pairs.now))) result }
+fn value_or(maker: &mut Maker, pairs: &[(Term, Term)], key: &Term, default: &Term) -> Term
+    requires { ArePairs pairs.now × IsOperand key.now }
+    ensures { maker.new.failed ≡ false → result ≡ found default.now key.now (map pair_tree pairs.now) }
 {
-    match find(pairs, key) {
-        Some(pair) => copy_value(alloc, &pair.1),
-        None => copy_value(alloc, default),
+    let (place, has) = find_key(pairs, 0, key);
+    if has {
+        maker.copy(&pairs[place].1)
+    } else {
+        maker.copy(default)
     }
 }
 
 // The value at a key, or Nil.
-fn get(alloc: Global, pairs: &[(Term, Term)], key: &Term) -> Result<Term, OpStop>
-    requires keys { All (λ p. IsOperand p.0) pairs.now }
-    requires up { IsAscending (map code (map pair_tree pairs.now)) }
-    requires key { IsOperand key.now }
-    ensures { Answers (gives (found (leaf par) key.now (map pair_tree pairs.now))) result }
+fn get(maker: &mut Maker, pairs: &[(Term, Term)], key: &Term) -> Term
+    requires { ArePairs pairs.now × IsOperand key.now }
+    ensures { maker.new.failed ≡ false → result ≡ found (leaf par) key.now (map pair_tree pairs.now) }
 {
-    value_or(alloc, pairs, key, &Term::nil(alloc))
+    let nil = Term::nil(maker.alloc);
+    value_or(maker, pairs, key, &nil)
 }
 
 // The pairs and one more, which wins.
-fn set_pair(alloc: Global, pairs: &[(Term, Term)], key: &Term, value: &Term) -> Result<Term, OpStop>
-    requires keys { All (λ p. IsOperand p.0) pairs.now }
-    requires up { IsAscending (map code (map pair_tree pairs.now)) }
-    requires key { IsOperand key.now }
-    ensures { Answers (gives (of_map (map pair_tree pairs.now ++ two pair key.now value.now ∷ []))) result }
+fn set_pair(maker: &mut Maker, pairs: &[(Term, Term)], key: &Term, value: &Term) -> Term
+    requires { ArePairs pairs.now × IsOperand key.now }
+    ensures { maker.new.failed ≡ false → result ≡ of_map (map pair_tree pairs.now ++ two pair key.now value.now ∷ []) }
 {
-    let mut one = Vec::new(alloc);
-    let key = key.copy(alloc)?;
-    let value = value.copy(alloc)?;
-    one.push((key, value))?;
-    union(alloc, pairs, one.as_slice())
+    let key = maker.copy(key);
+    let value = maker.copy(value);
+    let one = (key, value);
+    union(maker, pairs, from_ref(&one))
 }
 
-// The pairs with other keys than the one of this list.
-fn without_key(
-    alloc: Global,
-    pairs: &[(Term, Term)],
-    key: &Term,
-    gone: &[Term],
-) -> Result<Term, OpStop>
-    requires keys { All (λ p. IsOperand p.0) pairs.now }
-    requires up { IsAscending (map code (map pair_tree pairs.now)) }
-    requires key { IsOperand key.now }
-    requires one { gone.now ≡ key.now ∷ [] }
-    ensures { Answers (gives (of_map (without_key key.now (map pair_tree pairs.now)))) result }
+// The pairs with other keys.
+fn without_key(maker: &mut Maker, pairs: &[(Term, Term)], key: &Term) -> Term
+    requires { ArePairs pairs.now × IsOperand key.now }
+    ensures { maker.new.failed ≡ false → result ≡ of_map (without_key key.now (map pair_tree pairs.now)) }
 {
-    let pairs = without(alloc, pairs, gone)?;
-    map_value(alloc, pairs)
+    let others = without(maker, pairs, from_ref(key));
+    maker.value(Part::Map(others))
 }
 
 // The keys, as a set.
-fn keys(alloc: Global, pairs: &[(Term, Term)]) -> Result<Term, OpStop>
-    requires keys { All (λ p. IsOperand p.0) pairs.now }
-    requires up { IsAscending (map code (map pair_tree pairs.now)) }
-    ensures { Answers (gives (of_set (map key_of (map pair_tree pairs.now)))) result }
+fn keys(maker: &mut Maker, pairs: &[(Term, Term)]) -> Term
+    requires { ArePairs pairs.now }
+    ensures { maker.new.failed ≡ false → result ≡ of_set (map key_of (map pair_tree pairs.now)) }
 {
-    let copied = key_copies(alloc, pairs)?;
-    let kept = last_of_each(alloc, copied)?;
-    set_value(alloc, kept)
-}
-
-fn key_copies(alloc: Global, pairs: &[(Term, Term)]) -> Result<Vec<Term>, AllocError>
-    ensures { IfOk result (λ v. v.items ≡ map (λ p. p.0) pairs.now) }
-{
-    let mut keys = Vec::new(alloc);
+    let mut kept = Vec::new(maker.alloc);
     for pair in pairs {
-        keys.push(pair.0.copy(alloc)?)?;
+        let key = maker.copy(&pair.0);
+        put(maker, &mut kept, key);
     }
-    Ok(keys)
+    maker.value(Part::Set(kept))
 }
 
 // The pairs as tuples, in a list.
-fn to_list(alloc: Global, pairs: &[(Term, Term)]) -> Result<Term, OpStop>
-    requires { IsAscending (map code (map pair_tree pairs.now)) }
-    ensures { Answers (gives (of_list (map as_tuple (ascending (map pair_tree pairs.now))))) result }
+fn to_list(maker: &mut Maker, pairs: &[(Term, Term)]) -> Term
+    ensures { maker.new.failed ≡ false → result ≡ of_list (map as_tuple (map pair_tree pairs.now)) }
 {
-    let tuples = tuples(alloc, pairs)?;
-    list_value(alloc, tuples)
-}
-
-fn tuples(alloc: Global, pairs: &[(Term, Term)]) -> Result<Vec<Term>, AllocError>
-    ensures { IfOk result (λ v. v.items ≡ map as_tuple (map pair_tree pairs.now)) }
-{
-    let mut tuples = Vec::new(alloc);
+    let mut tuples = Vec::new(maker.alloc);
     for pair in pairs {
-        tuples.push(tuple_of(alloc, pair)?)?;
+        let tuple = tuple_of(maker, pair);
+        maker.add(&mut tuples, tuple);
     }
-    Ok(tuples)
+    maker.value(Part::List(tuples))
 }
 
-fn tuple_of(alloc: Global, pair: &(Term, Term)) -> Result<Term, AllocError>
-    ensures { IfOk result (λ t. t ≡ as_tuple (pair_tree pair.now)) }
+fn tuple_of(maker: &mut Maker, pair: &(Term, Term)) -> Term
+    ensures { maker.new.failed ≡ false → (maker.old.failed ≡ false) × (result ≡ as_tuple (pair_tree pair.now)) }
 {
-    let mut members = Vec::new(alloc);
-    members.push(pair.0.copy(alloc)?)?;
-    members.push(pair.1.copy(alloc)?)?;
-    Term::from_part(alloc, Part::Tuple(members))
+    let mut members = Vec::new(maker.alloc);
+    let key = maker.copy(&pair.0);
+    maker.add(&mut members, key);
+    let value = maker.copy(&pair.1);
+    maker.add(&mut members, value);
+    maker.value(Part::Tuple(members))
 }

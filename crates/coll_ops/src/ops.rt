@@ -1,17 +1,17 @@
 ghost use Rattle.std.specs.Prelude.{All};
 ghost use Rattle.calculus.specs.Methods.{among_methods, methods, method_answer};
-ghost use Rattle.calculus.specs.Operators.{binary_answer, on_kinds, seen};
-ghost use Rattle.coll_ops.specs.Names.{name_of};
+ghost use Rattle.calculus.specs.Operators.{binary_answer, seen};
+ghost use Rattle.coll_ops.specs.Views.{IsCollection, IsNoEquality, Tells};
 ghost use Rattle.value_ops.specs.Answers.{Answers, IsOperand};
-ghost use Rattle.coll_ops.specs.Views.{IsCollection, IsNoEquality};
 
-use crate::lists::{list_binary, list_method, tuple_method};
-use crate::maps::{map_binary, map_method};
-use crate::names::{Name, find_name, takes};
-use crate::sets::{set_binary, set_method};
-use crate::views::{list_members, map_pairs, set_members, tuple_members};
+use crate::binary::kinds_binary;
+use crate::lists::{list_method, tuple_method};
+use crate::maker::Maker;
+use crate::maps::map_method;
+use crate::sets::set_method;
+use crate::views::only_part;
 use calculus::{BinaryOp, FaultKind};
-use rho_term::Term;
+use rho_term::{Part, Term};
 use std::alloc::Global;
 use value_ops::OpStop;
 
@@ -28,28 +28,9 @@ pub fn coll_binary(alloc: Global, op: BinaryOp, left: &Term, right: &Term) -> Re
     requires right { IsOperand right.now }
     ensures { Answers (binary_answer op left.now right.now) result }
 {
-    kinds_binary(alloc, op, left, right)
-}
-
-fn kinds_binary(alloc: Global, op: BinaryOp, left: &Term, right: &Term) -> Result<Term, OpStop>
-    requires collection { IsCollection left.now }
-    requires left { IsOperand left.now }
-    requires right { IsOperand right.now }
-    ensures { Answers (on_kinds op (seen left.now) (seen right.now)) result }
-{
-    if let Some(members) = list_members(left) {
-        return list_binary(alloc, op, members, right);
-    }
-    if let Some(members) = set_members(left) {
-        return set_binary(alloc, op, members, right);
-    }
-    if let Some(pairs) = map_pairs(left) {
-        return map_binary(alloc, op, pairs, right);
-    }
-    match tuple_members(left) {
-        Some(_) => Err(OpStop::Fault(FaultKind::WrongType)),
-        None => unreachable!(),
-    }
+    let mut maker = Maker::new(alloc);
+    let told = kinds_binary(&mut maker, op, left, right);
+    maker.answer(told)
 }
 
 /// A method of a list, a tuple, a set or a map.
@@ -64,33 +45,30 @@ pub fn coll_method(alloc: Global, name: &str, target: &Term, args: &[Term]) -> R
     requires args { All IsOperand args.now }
     ensures { Answers (method_answer name.now target.now args.now) result }
 {
-    match find_name(name) {
-        Some(name) => named_method(alloc, name, target, args),
-        None => Err(OpStop::Fault(FaultKind::NoMethod)),
-    }
+    let mut maker = Maker::new(alloc);
+    let told = kinds_method(&mut maker, name, target, args);
+    maker.answer(told)
 }
 
-fn named_method(alloc: Global, name: Name, target: &Term, args: &[Term]) -> Result<Term, OpStop>
+fn kinds_method(
+    maker: &mut Maker,
+    name: &str,
+    target: &Term,
+    args: &[Term],
+) -> Result<Term, FaultKind>
     requires collection { IsCollection target.now }
     requires target { IsOperand target.now }
     requires args { All IsOperand args.now }
-    ensures { Answers (among_methods (name_of name) args.now (methods (seen target.now))) result }
+    ensures { Tells maker.new.failed (among_methods name.now args.now (methods (seen target.now))) result }
 {
-    let number = takes(name);
-    if args.len() != number {
-        return Err(OpStop::Fault(FaultKind::NoMethod));
-    }
-    if let Some(members) = list_members(target) {
-        return list_method(alloc, name, members, args);
-    }
-    if let Some(members) = tuple_members(target) {
-        return tuple_method(alloc, name, members, args);
-    }
-    if let Some(members) = set_members(target) {
-        return set_method(alloc, name, members, args);
-    }
-    match map_pairs(target) {
-        Some(pairs) => map_method(alloc, name, pairs, args),
-        None => unreachable!(),
+    let Some(part) = only_part(target) else {
+        return Err(FaultKind::NoMethod);
+    };
+    match part {
+        Part::List(members) => list_method(maker, name, members.as_slice(), args),
+        Part::Tuple(members) => tuple_method(maker, name, members.as_slice(), args),
+        Part::Set(members) => set_method(maker, name, target, members.as_slice(), args),
+        Part::Map(pairs) => map_method(maker, name, target, pairs.as_slice(), args),
+        _ => unreachable!(),
     }
 }

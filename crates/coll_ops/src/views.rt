@@ -1,19 +1,17 @@
-// What a process is seen as where it is one part.
-ghost use Rattle.std.specs.Prelude.{◌≡◌, ◌<◌, ◌^◌, ℕ, pos, negsuc, length, map, All, MatchOption, IfSome};
-ghost use Rattle.calculus.specs.Code.{code};
-ghost use Rattle.calculus.specs.Order.{IsAscending};
-ghost use Rattle.calculus.specs.Operators.{seen, an_int, a_list, a_tuple, a_set, a_map, other};
+// What a process is seen as: one part, an Int, an index or a range.
+ghost use Rattle.std.specs.Prelude.{◌≡◌, MatchOption};
+ghost use Rattle.calculus.specs.Operators.{seen, other};
 ghost use Rattle.calculus.specs.Shape.{only};
 ghost use Rattle.rho_term.specs.Normal.{IsNormal};
-ghost use Rattle.rho_term.specs.Parts.{part_tree, pair_tree};
-ghost use Rattle.value_ops.specs.Answers.{IsOperand};
-ghost use Rattle.coll_ops.specs.Views.{IsNoInt, IsNoList, IsNoTuple, IsNoSet, IsNoMap};
+ghost use Rattle.rho_term.specs.Parts.{part_tree};
+ghost use Rattle.value_ops.specs.Answers.{int_seen};
+ghost use Rattle.value_ops.specs.Places.{index_seen, range_seen};
 
-use calculus::Ground;
+use calculus::{FaultKind, Ground};
 use rho_term::{Part, Term};
 
-// The part of a process that has one.
-fn only_part(term: &Term) -> Option<&Part>
+/// The part of a process that has one.
+pub(crate) fn only_part(term: &Term) -> Option<&Part>
     ensures part { MatchOption result (seen term.now ≡ other) (λ p. term.now ≡ only (part_tree p.now)) }
     ensures normal { IsNormal term.now }
 {
@@ -25,61 +23,9 @@ fn only_part(term: &Term) -> Option<&Part>
     }
 }
 
-/// The members of a list.
-pub(crate) fn list_members(term: &Term) -> Option<&[Term]>
-    ensures list { MatchOption result (IsNoList (seen term.now)) (λ v. seen term.now ≡ a_list v.now) }
-    ensures operands { IsOperand term.now → IfSome result (λ v. All IsOperand v.now) }
-    ensures few { IsOperand term.now → IfSome result (λ v. length v.now < 2 ^ 32) }
-{
-    let part = only_part(term)?;
-    match part {
-        Part::List(members) => Some(members.as_slice()),
-        _ => None,
-    }
-}
-
-/// The members of a tuple.
-pub(crate) fn tuple_members(term: &Term) -> Option<&[Term]>
-    ensures { MatchOption result (IsNoTuple (seen term.now)) (λ v. seen term.now ≡ a_tuple v.now) }
-{
-    let part = only_part(term)?;
-    match part {
-        Part::Tuple(members) => Some(members.as_slice()),
-        _ => None,
-    }
-}
-
-/// The members of a set, ascending in their codes.
-pub(crate) fn set_members(term: &Term) -> Option<&[Term]>
-    ensures set { MatchOption result (IsNoSet (seen term.now)) (λ v. seen term.now ≡ a_set v.now) }
-    ensures up { IfSome result (λ v. IsAscending (map code v.now)) }
-    ensures operands { IsOperand term.now → IfSome result (λ v. All IsOperand v.now) }
-    ensures few { IsOperand term.now → IfSome result (λ v. length v.now < 2 ^ 32) }
-{
-    let part = only_part(term)?;
-    match part {
-        Part::Set(members) => Some(members.as_slice()),
-        _ => None,
-    }
-}
-
-/// The pairs of a map, ascending in their codes.
-pub(crate) fn map_pairs(term: &Term) -> Option<&[(Term, Term)]>
-    ensures pairs { MatchOption result (IsNoMap (seen term.now)) (λ v. seen term.now ≡ a_map (map pair_tree v.now)) }
-    ensures up { IfSome result (λ v. IsAscending (map code (map pair_tree v.now))) }
-    ensures operands { IsOperand term.now → IfSome result (λ v. All (λ p. IsOperand p.0) v.now) }
-    ensures few { IsOperand term.now → IfSome result (λ v. length v.now < 2 ^ 32) }
-{
-    let part = only_part(term)?;
-    match part {
-        Part::Map(pairs) => Some(pairs.as_slice()),
-        _ => None,
-    }
-}
-
-/// The number that an Int is.
-pub(crate) fn int_of(term: &Term) -> Option<i64>
-    ensures { MatchOption result (IsNoInt (seen term.now)) (λ i. seen term.now ≡ an_int i) }
+/// The Int that this process is.
+fn int_of(term: &Term) -> Option<i64>
+    ensures { result ≡ int_seen (seen term.now) }
 {
     let part = only_part(term)?;
     match part {
@@ -88,13 +34,28 @@ pub(crate) fn int_of(term: &Term) -> Option<i64>
     }
 }
 
-/// The place that a number names, if it is not negative.
-pub(crate) fn place_of(number: i64) -> Option<usize>
-    ensures { MatchOption result ((n : ℕ) × (number ≡ negsuc n)) (λ n. number ≡ pos n) }
+/// The index that an argument is.
+pub(crate) fn index_of(index: &Term) -> Result<usize, FaultKind>
+    ensures { result ≡ index_seen (seen index.now) }
 {
-    if number < 0 {
-        None
-    } else {
-        Some(number as usize)
+    let Some(index) = int_of(index) else {
+        return Err(FaultKind::WrongType);
+    };
+    if index < 0 {
+        return Err(FaultKind::Index);
     }
+    Ok(index as usize)
+}
+
+/// The indices that the arguments of `slice` are, the first no greater than the second.
+pub(crate) fn range_of(from: &Term, to: &Term) -> Result<(usize, usize), FaultKind>
+    ensures { result ≡ range_seen (seen from.now) (seen to.now) }
+{
+    let (Some(from), Some(to)) = (int_of(from), int_of(to)) else {
+        return Err(FaultKind::WrongType);
+    };
+    if from < 0 || to < from {
+        return Err(FaultKind::Index);
+    }
+    Ok((from as usize, to as usize))
 }

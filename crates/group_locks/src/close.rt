@@ -2,10 +2,11 @@
 ghost use Rattle.std.specs.Prelude.{◌≡◌, ◌<◌, ◌≤◌, [], Some, IfOk, OnOk, IfErr, IfSome, IsSome, length, vec_capacity};
 ghost use Rattle.std.specs.List.{All};
 ghost use Rattle.hub_rule.specs.Counts.{all_of, total, StandIn, EachOnceBelow};
-ghost use Rattle.hub_rule.specs.Stops.{FaultOf, FaultCause};
-ghost use Rattle.hub_rule.specs.Rule.{spent, RanBy};
+ghost use Rattle.hub_rule.specs.Stops.{FaultOf};
+ghost use Rattle.hub_rule.specs.Rule.{spent};
+ghost use Rattle.group_locks.specs.Ends.{CanHoldAll, HasEnded};
 ghost use Rattle.group_locks.specs.Seats.{AtRest, drawn_by, hand_of, over_of, memory_of, faults_of, stops_of, view_of_all, SettledButLast, EmptyWhereFound};
-ghost use Rattle.group_locks.specs.Seats.{opened_works, opened_shards, seat_count, limit_of, RanFrom, IsCharged, SettledWithin, Stand, CanHoldLeft, CanHoldDrawn};
+ghost use Rattle.group_locks.specs.Seats.{opened_works, seat_count, limit_of, RanFrom, IsCharged, SettledWithin};
 
 use crate::hub::{Hub, Pool};
 use crate::seat::Seat;
@@ -42,64 +43,6 @@ fn gather<S: Scene>(
     }
 }
 
-// What a hub leaves, with the entries as the seats drew them.
-#[derive(Drop)]
-struct Ended<S: Scene> {
-    lists: Vec<Vec<(u64, S::Entry)>>,
-    shards: Vec<S::Shard>,
-    left: Vec<S::Work>,
-    charged: u64,
-    stop: Option<StopCause>,
-}
-
-// Ends a hub, with the room that this takes.
-fn end<S: Scene>(
-    hub: Hub<S>,
-    seats: Vec<Seat<S>>,
-    mut lists: Vec<Vec<(u64, S::Entry)>>,
-    shards: Vec<S::Shard>,
-    left: Vec<S::Work>,
-) -> Ended<S>
-    requires seats { All (λ s. AtRest hub.table.shared.table_id s.state) seats.items }
-    requires count { length seats.items ≡ seat_count hub.table.shared.key }
-    requires left { CanHoldLeft (length (opened_works hub.table.shared.key)) (λ s. s.state) seats.items left }
-    requires room { (lists.items ≡ []) × (length seats.items ≤ vec_capacity lists) × (shards.items ≡ []) × (64 ≤ vec_capacity shards) }
-    ensures entries { all_of (λ l. l.items) result.lists.items ≡ all_of (λ s. drawn_by s.state) seats.items }
-    ensures shards { length result.shards.items ≡ 64 }
-    ensures ran { RanBy S.meaning (opened_shards hub.table.shared.key) (opened_works hub.table.shared.key)
-        (all_of (λ l. l.items) result.lists.items) result.shards.items result.left.items
-        (all_of (λ s. hand_of s.state) seats.items) (FaultCause S.meaning.faults result.stop) }
-    ensures empty { EmptyWhereFound (λ s. s.state) seats.items result.left.items }
-    ensures paid { IsCharged S.meaning.price hub.table.shared.key (λ s. s.state) seats.items result.charged }
-    ensures bounded { SettledWithin S.meaning.price hub.table.shared.key (λ s. s.state) seats.items }
-    ensures over { All (λ s. 0 < over_of s.state → limit_of hub.table.shared.key < result.charged) seats.items }
-    ensures memory { All (λ s. 0 < memory_of s.state → result.stop ≡ Some StopCause.NoMemory) seats.items }
-    ensures faulty { All (λ s. 0 < faults_of s.state → result.stop ≡ Some StopCause.Fault) seats.items }
-    ensures stop { All (λ s. 0 < stops_of s.state → IsSome result.stop) seats.items }
-{
-    let Hub {
-        table,
-        scene: _,
-        terms: _,
-        work: _,
-    } = hub;
-    let mut token = table.shared.load_new_seat::<Enter>(0).1;
-    gather(&table.shared, seats, &mut token, &mut lists);
-    let closed = table.close_with(token);
-    let charged = closed.word(CHARGED);
-    let stop_word = closed.word(STOP);
-    let stop = StopCause::of_code(stop_word);
-    let (shards, closed) = take_shards(closed, shards);
-    let left = take_left(closed, left);
-    Ended {
-        lists,
-        shards,
-        left,
-        charged,
-        stop,
-    }
-}
-
 /// What a hub leaves: the entries in the order of their numbers, the shards, the works that stood on the desks, what is charged, and why
 /// the hub was stopped, if it was.
 #[derive(Drop)]
@@ -111,48 +54,40 @@ pub struct Closed<S: Scene> {
     pub stop: Option<StopCause>,
 }
 
-// The same, with the entries in order.
-fn end_in_order<S: Scene>(
+// Ends a hub, with the room that this takes.
+fn end<S: Scene>(
     hub: Hub<S>,
     seats: Vec<Seat<S>>,
     room: Room<S::Entry, S::Shard, S::Work>,
 ) -> Closed<S>
     requires seats { All (λ s. AtRest hub.table.shared.table_id s.state) seats.items }
     requires count { length seats.items ≡ seat_count hub.table.shared.key }
-    requires left { CanHoldLeft (length (opened_works hub.table.shared.key)) (λ s. s.state) seats.items room.left }
-    requires drawn { (room.drawn.items ≡ []) × (length seats.items ≤ vec_capacity room.drawn) }
-    requires shards { (room.shards.items ≡ []) × (64 ≤ vec_capacity room.shards) }
-    requires order { CanHoldDrawn (λ s. s.state) seats.items room.places room.entries }
-    ensures count { length result.entries.items ≡ total (λ s. length (drawn_by s.state)) seats.items }
-    ensures drawn { All (λ s. StandIn result.entries.items (drawn_by s.state)) seats.items }
-    ensures once { EachOnceBelow (length result.entries.items) (all_of (λ s. drawn_by s.state) seats.items) }
-    ensures shards { length result.shards.items ≡ 64 }
-    ensures ran { RanFrom S.meaning hub.table.shared.key result.entries.items result.shards.items result.left.items
-        (all_of (λ s. hand_of s.state) seats.items) }
-    ensures empty { EmptyWhereFound (λ s. s.state) seats.items result.left.items }
-    ensures paid { IsCharged S.meaning.price hub.table.shared.key (λ s. s.state) seats.items result.charged }
-    ensures bounded { SettledWithin S.meaning.price hub.table.shared.key (λ s. s.state) seats.items }
-    ensures over { All (λ s. 0 < over_of s.state → limit_of hub.table.shared.key < result.charged) seats.items }
-    ensures memory { All (λ s. 0 < memory_of s.state → result.stop ≡ Some StopCause.NoMemory) seats.items }
-    ensures faulty { All (λ s. 0 < faults_of s.state → result.stop ≡ Some StopCause.Fault) seats.items }
-    ensures stop { All (λ s. 0 < stops_of s.state → IsSome result.stop) seats.items }
-    ensures fault { result.stop ≡ Some StopCause.Fault → FaultOf S.meaning.faults result.entries.items }
+    requires room { CanHoldAll (length (opened_works hub.table.shared.key)) (λ s. s.state) seats.items room }
+    ensures ended { HasEnded S.meaning hub.table.shared.key (λ s. s.state) seats.items result.entries.items
+        result.shards.items result.left.items result.charged result.stop }
 {
+    let Hub {
+        table,
+        scene: _,
+        terms: _,
+        work: _,
+    } = hub;
     let Room {
-        drawn,
+        drawn: mut lists,
         places,
         entries,
         shards,
         left,
     } = room;
-    let Ended {
-        lists: drawn,
-        shards,
-        left,
-        charged,
-        stop,
-    } = end(hub, seats, drawn, shards, left);
-    let entries = in_order(places, drawn, entries);
+    let mut token = table.shared.load_new_seat::<Enter>(0).1;
+    gather(&table.shared, seats, &mut token, &mut lists);
+    let closed = table.close_with(token);
+    let charged = closed.word(CHARGED);
+    let stop_word = closed.word(STOP);
+    let stop = StopCause::of_code(stop_word);
+    let (shards, closed) = take_shards(closed, shards);
+    let left = take_left(closed, left);
+    let entries = in_order(places, lists, entries);
     Closed {
         entries,
         shards,
@@ -192,7 +127,7 @@ impl<S: Scene> Hub<S> {
         let Some(room) = room_to_end(&seats, self.work as u64) else {
             return Err(Pool { hub: self, seats });
         };
-        Ok(end_in_order(self, seats, room))
+        Ok(end(self, seats, room))
     }
 }
 
@@ -201,34 +136,13 @@ fn room_to_end<S: Scene>(
     seats: &Vec<Seat<S>>,
     start: u64,
 ) -> Option<Room<S::Entry, S::Shard, S::Work>>
-    ensures drawn { IfSome result (λ r. (r.drawn.items ≡ []) × (length seats.now.items ≤ vec_capacity r.drawn)) }
-    ensures order { IfSome result (λ r. CanHoldDrawn (λ s. s.state) seats.now.items r.places r.entries) }
-    ensures shards { IfSome result (λ r. (r.shards.items ≡ []) × (64 ≤ vec_capacity r.shards)) }
-    ensures left { IfSome result (λ r. CanHoldLeft start (λ s. s.state) seats.now.items r.left) }
-{
-    let count = entry_count(seats)?;
-    let standing = left_count(seats, start);
-    room_for(*seats.allocator(), seats.len(), count, standing as usize).ok()
-}
-
-// How many entries all seats have.
-fn entry_count<S: Scene>(seats: &Vec<Seat<S>>) -> Option<usize>
-    ensures { IfSome result (λ n. n ≡ total (λ s. length (drawn_by s.state)) seats.now.items) }
+    ensures { IfSome result (λ r. CanHoldAll start (λ s. s.state) seats.now.items r) }
 {
     let mut count = 0usize;
+    let mut standing = start;
     for seat in seats {
         count = count.checked_add(seat.state.entries.len())?;
+        standing = standing.wrapping_add(seat.state.moved);
     }
-    Some(count)
-}
-
-// How many works stand on the desks, of so many at the start.
-fn left_count<S: Scene>(seats: &Vec<Seat<S>>, start: u64) -> u64
-    ensures { Stand start (λ s. s.state) seats.now.items result }
-{
-    let mut count = start;
-    for seat in seats {
-        count = count.wrapping_add(seat.state.moved);
-    }
-    count
+    room_for(*seats.allocator(), seats.len(), count, standing as usize).ok()
 }

@@ -1,21 +1,19 @@
 //! A seat, through which one worker steps.
-ghost use Rattle.std.specs.Prelude.{◌≡◌, ℕ, ◌+◌, ◌^◌, ◌<◌, true, false, ◌≤◌, [], ◌∷◌, ◌++◌, ◌%◌, ◌-◌, length, None, OnOk, IfErr, IfSome, IfNone, vec_len, vec_capacity};
+ghost use Rattle.std.specs.Prelude.{◌≡◌, ℕ, ◌+◌, ◌^◌, ◌<◌, true, false, [], ◌∷◌, ◌++◌, ◌%◌, ◌-◌, length, None, OnOk, IfErr, IfSome, IfNone};
 ghost use Rattle.std.specs.Int.{bit_at};
 ghost use Rattle.hub_rule.specs.Counts.{count, one_if, things_of, numbered};
-ghost use Rattle.hub_rule.specs.Rule.{after_commit, since_after, leaves, kept_if, owes, pays, Carries, ChangesPile, FindsLeave, FindsNoEnd, FindsEnd};
+ghost use Rattle.hub_rule.specs.Rule.{since_after, kept_if, owes, pays, Carries, FindsLeave, FindsNoEnd, FindsEnd};
 ghost use Rattle.hub_rule.specs.Stops.{HasFault};
 ghost use Rattle.hub_rule.specs.Meaning.{IsTold};
-ghost use Rattle.hub_rule.specs.Works.{hand, HasOneWork};
-ghost use Rattle.hub_steps.specs.Looks.{Looked};
 ghost use Rattle.group_locks.specs.Seats.{home_of, pile_of, hand_of, taken_by, offered_by, took_by, empty_of, drawn_by, held_by, since_of, tally_of};
 ghost use Rattle.group_locks.specs.Seats.{charged_by, due_of, over_of, stops_of, HasLeave, HasRoom, SameRoom, MayGoOn, FoundEnd, StopsFor};
 
 use crate::hub::Hub;
 use crate::state::SeatState;
 use hub_desks::leave_works;
-use hub_rule::{Board, Scene, StopCause, Terms};
+use hub_rule::{Scene, StopCause};
 use hub_steps::{draw_and_tell, find_work, give_turns, halt, may_go, pay, take_turns};
-use std::alloc::{AllocError, Global};
+use std::alloc::AllocError;
 use std::sync::Wait;
 
 /// A seat of a hub. One worker steps with it, and it can't be copied.
@@ -41,7 +39,16 @@ impl<S: Scene> Seat<S> {
         ensures turns { (k : ℕ) → count k (held_by self.new.state) ≡ bit_at shards k }
         ensures carries { Carries S.meaning [] (held_by self.new.state) (S.in_hand held.new) }
     {
-        take_group_at(rt, hub, &mut self.state, held, shards);
+        let state = &mut self.state;
+        take_turns(
+            rt,
+            &hub.scene,
+            &hub.table.shared,
+            &mut state.token,
+            held,
+            shards,
+        );
+        state.turns = shards;
     }
 
     /// Moves all shards in hand home, and gives their turns back. They are as they were when their turns were taken, changed by what this
@@ -57,7 +64,16 @@ impl<S: Scene> Seat<S> {
         ensures free { held_by self.new.state ≡ [] }
         ensures empty { (k : ℕ) → S.in_hand held.new k ≡ None }
     {
-        give_group_at(hub, &mut self.state, held);
+        let state = &mut self.state;
+        let shards = state.turns;
+        give_turns(
+            &hub.scene,
+            &hub.table.shared,
+            &mut state.token,
+            held,
+            shards,
+        );
+        state.turns = 0;
     }
 
     /// Reserves room for one further entry. All else stays as it was. The only error is want of memory, which an entry past 2^58 is too.
@@ -99,7 +115,12 @@ impl<S: Scene> Seat<S> {
             self.stop(hub, StopCause::NoMemory);
             return None;
         };
-        take_at(rt, &hub.table.shared, &mut self.state, hub.terms)
+        let state = &mut self.state;
+        let alloc = *state.entries.allocator();
+        let board = &hub.table.shared;
+        let found = find_work(rt, alloc, board, &mut state.token, state.desk, hub.terms);
+        state.moved = state.moved.wrapping_sub(u64::from(found.is_some()));
+        found
     }
 
     /// Puts the works that the seat's last entry offered on its desk, in their order. Where memory is wanting they come back, and stay in
@@ -123,7 +144,13 @@ impl<S: Scene> Seat<S> {
         ensures left { OnOk result (offered_by self.new.state ≡ []) }
         ensures back { IfErr result (λ v. (v ≡ ops) × (pile_of self.new.state ≡ pile_of self.old.state)) }
     {
-        leave_at(rt, &hub.table.shared, &mut self.state, ops)
+        let state = &mut self.state;
+        let alloc = *state.entries.allocator();
+        let count = ops.len() as u64;
+        let board = &hub.table.shared;
+        let left = leave_works(rt, alloc, board, &mut state.token, state.desk, ops);
+        state.moved = state.moved.wrapping_add(left_of(&left, count));
+        left
     }
 
     /// Draws the entry's number, and answers it. The seat has leave and room for the entry, has charged its entry before and left what that
@@ -154,7 +181,10 @@ impl<S: Scene> Seat<S> {
         ensures carries { Carries S.meaning (since_of self.new.state) (held_by self.new.state) (S.in_hand held.now) }
     {
         let _ = held;
-        commit_at::<S>(&hub.table.shared, &mut self.state, entry, offers)
+        let state = &mut self.state;
+        let number = draw_and_tell(&hub.table.shared, &mut state.token, &entry, offers);
+        state.entries.push_reserved((number, entry));
+        number
     }
 
     /// Whether the seat may draw a further entry: true only where this call found the stop unset and no more charged than the limit, false
@@ -221,103 +251,6 @@ impl<S: Scene> Seat<S> {
     }
 }
 
-fn take_group_at<S: Scene, R: Wait>(
-    rt: &R,
-    hub: &Hub<S>,
-    state: &mut SeatState<S::Entry, S::Shard, S::Work>,
-    held: &mut S::Held,
-    shards: u64,
-)
-    requires hub { home_of state.old ≡ hub.now.table.shared.table_id }
-    requires free { held_by state.old ≡ [] }
-    requires empty { (k : ℕ) → S.in_hand held.old k ≡ None }
-    ensures hub { home_of state.new ≡ home_of state.old }
-    ensures drawn { drawn_by state.new ≡ drawn_by state.old }
-    ensures since { since_of state.new ≡ [] }
-    ensures tally { tally_of state.new ≡ tally_of state.old }
-    ensures works { pile_of state.new ≡ pile_of state.old }
-    ensures room { SameRoom state.old state.new }
-    ensures turns { (k : ℕ) → count k (held_by state.new) ≡ bit_at shards k }
-    ensures carries { Carries S.meaning [] (held_by state.new) (S.in_hand held.new) }
-{
-    take_turns(
-        rt,
-        &hub.scene,
-        &hub.table.shared,
-        &mut state.token,
-        held,
-        shards,
-    );
-    state.turns = shards;
-}
-
-fn give_group_at<S: Scene>(
-    hub: &Hub<S>,
-    state: &mut SeatState<S::Entry, S::Shard, S::Work>,
-    held: &mut S::Held,
-)
-    requires hub { home_of state.old ≡ hub.now.table.shared.table_id }
-    requires carries { Carries S.meaning (since_of state.old) (held_by state.old) (S.in_hand held.old) }
-    ensures hub { home_of state.new ≡ home_of state.old }
-    ensures drawn { drawn_by state.new ≡ drawn_by state.old }
-    ensures room { SameRoom state.old state.new }
-    ensures tally { tally_of state.new ≡ tally_of state.old }
-    ensures works { pile_of state.new ≡ pile_of state.old }
-    ensures free { held_by state.new ≡ [] }
-    ensures empty { (k : ℕ) → S.in_hand held.new k ≡ None }
-{
-    let shards = state.turns;
-    give_turns(
-        &hub.scene,
-        &hub.table.shared,
-        &mut state.token,
-        held,
-        shards,
-    );
-    state.turns = 0;
-}
-
-fn commit_at<S: Scene>(
-    board: &Board<S>,
-    state: &mut SeatState<S::Entry, S::Shard, S::Work>,
-    entry: S::Entry,
-    offers: u64,
-) -> u64
-    requires table { (state.old.token.table_id ≡ board.now.table_id) × (board.now.table_id.words ≡ 800) }
-    requires leave { (state.old.token.me.0.tally.leave ≡ true) × (state.old.token.me.0.tally.due ≡ []) }
-    requires room { (vec_len state.old.entries < vec_capacity state.old.entries) × (vec_len state.old.entries < 2 ^ 58) }
-    requires within { (k : ℕ) → S.meaning.touched entry k ≡ true → 0 < count k state.old.token.me.0.held }
-    requires work { HasOneWork state.old.token.me.0.pile (S.meaning.takes entry) }
-    requires few { length (S.meaning.offers entry) < 2 ^ 57 + 64 }
-    requires offers { offers ≡ (length (S.meaning.offers entry) + (2 ^ 64 - one_if (S.meaning.ends entry))) % 2 ^ 64 }
-    requires allowed { IsTold S.meaning state.old.token.me.0.since state.old.token.me.0.held state.old.token.me.0.pile.took entry }
-    ensures hub { state.new.token.table_id ≡ state.old.token.table_id }
-    ensures view { (base : ℕ) × (state.new.token.me.0 ≡ after_commit S.meaning state.old.token.me.0 result entry base) }
-{
-    let number = draw_and_tell(board, &mut state.token, &entry, offers);
-    state.entries.push_reserved((number, entry));
-    number
-}
-
-fn take_at<S: Scene, R: Wait>(
-    rt: &R,
-    board: &Board<S>,
-    state: &mut SeatState<S::Entry, S::Shard, S::Work>,
-    terms: Terms,
-) -> Option<S::Work>
-    requires table { (state.old.token.table_id ≡ board.now.table_id) × (board.now.table_id.words ≡ 800) }
-    requires terms { (terms.limit ≡ board.now.key.terms.limit) × (1 ≤ terms.seats) × (terms.seats ≤ 32) }
-    requires idle { hand state.old.token.me.0.pile ≡ [] }
-    ensures hub { state.new.token.table_id ≡ state.old.token.table_id }
-    ensures room { SameRoom state.old state.new }
-    ensures looked { Looked state.old.token.me state.new.token.me result }
-{
-    let alloc = *state.entries.allocator();
-    let found = find_work(rt, alloc, board, &mut state.token, state.desk, terms);
-    state.moved = state.moved.wrapping_sub(u64::from(found.is_some()));
-    found
-}
-
 // How many works were left, of so many.
 fn left_of<T: Drop>(left: &Result<(), Vec<T>>, count: u64) -> u64
     ensures ok { OnOk left.now (result ≡ count) }
@@ -327,24 +260,4 @@ fn left_of<T: Drop>(left: &Result<(), Vec<T>>, count: u64) -> u64
         Ok(()) => count,
         Err(_) => 0,
     }
-}
-
-fn leave_at<S: Scene, R: Wait>(
-    rt: &R,
-    board: &Board<S>,
-    state: &mut SeatState<S::Entry, S::Shard, S::Work>,
-    ops: Vec<S::Work>,
-) -> Result<(), Vec<S::Work>>
-    requires table { (state.old.token.table_id ≡ board.now.table_id) × (board.now.table_id.words ≡ 800) }
-    requires ops { ops.items ≡ things_of state.old.token.me.0.pile.offered }
-    ensures hub { state.new.token.table_id ≡ state.old.token.table_id }
-    ensures room { SameRoom state.old state.new }
-    ensures ok { OnOk result (ChangesPile state.old.token state.new.token leaves) }
-    ensures err { IfErr result (λ v. (v ≡ ops) × (state.new.token.me ≡ state.old.token.me)) }
-{
-    let alloc = *state.entries.allocator();
-    let count = ops.len() as u64;
-    let left = leave_works(rt, alloc, board, &mut state.token, state.desk, ops);
-    state.moved = state.moved.wrapping_add(left_of(&left, count));
-    left
 }

@@ -1,28 +1,19 @@
-//! Answers about words of `rho`, tokens, prices, logs, seeds and states. A line is a kind and its fields.
+//! Answers about tokens, logs, seeds and states. A line is a kind and its fields.
 #![tactic(auto)]
 
 mod lexed;
 mod logs;
-mod prices;
 mod seeds;
 mod state_texts;
-mod words;
 
-use std::alloc::{AllocError, Global};
-use std::fmt::Debug;
+use std::alloc::Global;
 use table_lines::{LineFault, unescape};
-
-// What a fault is told as.
-fn told_fault<F: Debug + Drop>(alloc: Global, fault: F) -> Result<String, AllocError> {
-    format!(in alloc; "{fault:?}")
-}
 
 /// The answer to a line of this kind with this text.
 fn answer_text(alloc: Global, word: &str, text: &[u8]) -> Result<String, LineFault> {
     match word {
         "tokens" => lexed::tokens(alloc, text),
         "token-count" => lexed::token_count(alloc, text),
-        "prices" => prices::prices(alloc, text),
         "digest" => seeds::digest_of(alloc, text),
         _ => Err(LineFault::Kind),
     }
@@ -31,8 +22,6 @@ fn answer_text(alloc: Global, word: &str, text: &[u8]) -> Result<String, LineFau
 /// The answer to a line of this kind with these fields.
 pub fn answer(alloc: Global, word: &str, fields: &str) -> Result<String, LineFault> {
     match word {
-        "words" => words::asked(alloc, fields),
-        "standard-prices" => prices::standard_prices(alloc),
         "write-log" => logs::write(alloc, fields),
         "read-log" => logs::read(alloc, fields),
         "cuts-of-log" => logs::cuts(alloc, fields),

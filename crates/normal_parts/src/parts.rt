@@ -1,30 +1,12 @@
-// Lists of parts.
+// Parts of closed forms.
 
-ghost use Rattle.std.specs.Prelude.{◌≡◌, ◌∷◌, [], map, IfOk};
+ghost use Rattle.std.specs.Prelude.{◌≡◌, map, IfOk};
 ghost use Rattle.rho_term.specs.Parts.{part_tree, pat_part_tree};
 ghost use Rattle.code_order.specs.Made.{reordered};
 
 use code_order::with_order;
 use rho_term::{Part, PatPart};
 use std::alloc::{AllocError, Global};
-
-/// One part.
-pub fn one_part(alloc: Global, part: Part) -> Result<Vec<Part>, AllocError>
-    ensures { IfOk result (λ v. map part_tree v.items ≡ part_tree part ∷ []) }
-{
-    let mut parts = Vec::new(alloc);
-    parts.push(part)?;
-    Ok(parts)
-}
-
-/// One part of a pattern.
-pub fn one_pat_part(alloc: Global, part: PatPart) -> Result<Vec<PatPart>, AllocError>
-    ensures { IfOk result (λ v. map pat_part_tree v.items ≡ pat_part_tree part ∷ []) }
-{
-    let mut parts = Vec::new(alloc);
-    parts.push(part)?;
-    Ok(parts)
-}
 
 /// The parts of a closed form, each in order, as parts of a pattern.
 pub fn closed_parts(alloc: Global, parts: Vec<Part>) -> Result<Vec<PatPart>, AllocError>

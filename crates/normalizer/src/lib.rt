@@ -2,6 +2,7 @@
 #![tactic(auto)]
 
 mod make;
+mod maker;
 pub mod normal;
 
 pub use normal::normalize;

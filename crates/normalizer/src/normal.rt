@@ -7,7 +7,7 @@ ghost use Rattle.scope.specs.Rules.{broken_rules};
 ghost use Rattle.scope_faults.specs.Walks.{Judges};
 
 use crate::make::make_term;
-use bound_names::Names;
+use crate::maker::Maker;
 use calculus::Proc;
 use rho_term::Term;
 use scope_check::check_scope;
@@ -24,7 +24,8 @@ pub fn normalize(alloc: Global, p: &Proc) -> Result<Term, ScopeFault>
     ensures congruent { IfOk result (λ t. IsTrue (congruent t (bare (proc_written p.now)))) }
 {
     check_scope(alloc, p)?;
-    let mut scope = Names::new(alloc);
-    let term = make_term(alloc, &mut scope, p)?;
+    let mut maker = Maker::new(alloc);
+    let term = make_term(&mut maker, p);
+    let term = maker.made(term)?;
     Ok(term)
 }

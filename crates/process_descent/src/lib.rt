@@ -2,12 +2,12 @@
 #![tactic(auto)]
 
 mod atom;
+mod form;
 mod left;
 mod operation;
 mod parser;
 mod pattern;
 mod pattern_atom;
 mod process;
-mod receive;
 
 pub use parser::Parser;

@@ -26,6 +26,7 @@ pub fn answer<F: Fn(&Meeting, &[String], &mut Outside) -> Result<Ended, AllocErr
         "deploy-failing" => deploy_failing(run, &mut harness, fields),
         "deploy-and-replay" => deploy_and_replay(run, &mut harness, fields),
         "replay" => replay(run, &mut harness, fields),
+        "replay-failing" => replay_failing(run, &mut harness, fields),
         _ => harness.fail(LineFault::Kind),
     }
     harness.told()
@@ -161,6 +162,13 @@ fn tell_status(harness: &mut Harness) {
     harness.tell_made(status);
 }
 
+// Keeps the inputs of a replay, the log as these digits, which takes four calls of the files.
+fn keep_with_log(harness: &mut Harness, log: &str, source: &str) {
+    keep_inputs(harness, EMPTY, PRICES, source);
+    let log = hex_bytes(harness.alloc, log);
+    harness.keep_read("l", log);
+}
+
 /// A replay. The fields are what is shown, the digits of the log, and the source.
 fn replay<F: Fn(&Meeting, &[String], &mut Outside) -> Result<Ended, AllocError>>(
     run: &F,
@@ -170,9 +178,24 @@ fn replay<F: Fn(&Meeting, &[String], &mut Outside) -> Result<Ended, AllocError>>
     requires { F.IsAlwaysCallable run.now }
 {
     let (shows, log, source) = three(harness, fields);
-    keep_inputs(harness, EMPTY, PRICES, source);
-    let log = hex_bytes(harness.alloc, log);
-    harness.keep_read("l", log);
+    keep_with_log(harness, log, source);
+    run_replay(run, harness);
+    tell_all(harness, Of::Run, shows);
+}
+
+/// A replay of which one call of the shelf fails. The fields are its number, what is shown, the digits of the log, and the
+/// source.
+fn replay_failing<F: Fn(&Meeting, &[String], &mut Outside) -> Result<Ended, AllocError>>(
+    run: &F,
+    harness: &mut Harness,
+    fields: &str,
+)
+    requires { F.IsAlwaysCallable run.now }
+{
+    let (call, fields) = split(harness, fields, " ");
+    let (shows, log, source) = three(harness, fields);
+    keep_with_log(harness, log, source);
+    fail_file(harness, call);
     run_replay(run, harness);
     tell_all(harness, Of::Run, shows);
 }

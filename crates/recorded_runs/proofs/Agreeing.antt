@@ -105,7 +105,7 @@ module _ (steps : ℕ) (p : Left) (play : IsLeftBySource [] (made_task steps) ma
 
   -- where its log is refused digests clash
   refused-clash : (f : ReplayFault) → IsSettled (status.Replay f) (made_replay steps p.steps) → ShowsClash steps p.steps
-  refused-clash f (inr c) = inr c
+  refused-clash f (inr c) = inr c.0
   refused-clash f (inl k) = go kept.answer
     where
       go : ((o : Outcome) × (Answers (given_in [] (made_task steps) kept.process) (made_header steps) p.steps (replayed o) × IsLeftByOutcome o p)) ⊎ ShowsAClash (made_deploy steps kept.process) p.steps → ShowsClash steps p.steps

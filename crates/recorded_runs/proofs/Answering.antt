@@ -24,7 +24,7 @@ use Rattle.run_inputs.specs.declared.acceptance.ReplayInputs.{ReplayInputs}
 use Rattle.run_status.specs.Endings.{status_of, HasEnded}
 use Rattle.run_status.specs.declared.status.Status.{Status}
 use Rattle.run_status.specs.declared.status.Status.TheVariants as status
-use Rattle.recorded_runs.specs.Replaying.{given_in, AreReadAs, IsAnswerTo, HasClash, SaysAnswer, IsSettled, status_for, IsLeftByOutcome, IsLeftByAnswer, IsLeftByReplay}
+use Rattle.recorded_runs.specs.Replaying.{IsOfSteps, given_in, AreReadAs, IsAnswerTo, HasClash, RefusesStepsAlone, SaysAnswer, IsSettled, status_for, IsLeftByOutcome, IsLeftByAnswer, IsLeftByReplay}
 use Rattle.recorded_runs.specs.ReplayPlans.{given_of, header_in, steps_in, ClashIn, IsRefusedBy, IsReplayPlan}
 use Rattle.recorded_runs.specs.Replays.{TellsAnswer, EndsIfRun}
 use Rattle.recorded_runs.specs.declared.replaying.ReplayPlan.{ReplayPlan}
@@ -95,10 +95,10 @@ ends_if_run inputs s A B w x y t o a = go (t (replayed o) a)
         neither (inl p) = x p
         neither (inr q) = y q
 
-    go : (s ≡ status.NoMemory) ⊎ (SaysAnswer (replayed o) s ⊎ HasClash inputs) → HasEnded s ⊎ HasClash inputs
+    go : (s ≡ status.NoMemory) ⊎ (SaysAnswer (replayed o) s ⊎ (HasClash inputs × RefusesStepsAlone s)) → HasEnded s ⊎ HasClash inputs
     go (inl m) = inl (subst HasEnded (sym m) tt)
     go (inr (inl h)) = inl (says-end s o no-fault h)
-    go (inr (inr c)) = inr c
+    go (inr (inr c)) = inr c.0
 
 module _ (rows : List Row) (r : ReplayInputs) (inputs : Task × List ℕ) (i : IsGiven r inputs) (state : IsStateOf r.inputs.base.text.items rows) (spelt : IsSourceOf r.inputs.source.items r.inputs.term) where
   -- the inputs that were read
@@ -136,9 +136,9 @@ module _ (rows : List Row) (r : ReplayInputs) (inputs : Task × List ℕ) (i : I
   pub settled_refusal : (f : ReplayFault) → IsRefusedBy rows f r → IsSettled (status.Replay f) inputs
   settled_refusal f b = go b.answer
     where
-      go : Answers (given_of rows r) (header_in r) (steps_in r) (refused b.refusal) ⊎ ((header_refusal (given_of rows r) (header_in r) ≡ None) × ClashIn rows r) → IsSettled (status.Replay f) inputs
+      go : Answers (given_of rows r) (header_in r) (steps_in r) (refused b.refusal) ⊎ ((header_refusal (given_of rows r) (header_in r) ≡ None) × (ClashIn rows r × IsOfSteps f)) → IsSettled (status.Replay f) inputs
       go (inl a) = inl (refused b.refusal, (b.is, moved-answer (refused b.refusal) a))
-      go (inr c) = inr (moved-clash c.0 c.1)
+      go (inr c) = inr (moved-clash c.0 c.1.0, c.1.1)
 
   module _ (p : ReplayPlan) (plan : IsReplayPlan rows r p) where
     -- a replay that left this
@@ -157,19 +157,24 @@ module _ (rows : List Row) (r : ReplayInputs) (inputs : Task × List ℕ) (i : I
         }
 
     -- and the outcome that it says
-    settled-by : (s : Status) → ((o : Outcome) → verdict_of plan.left.report.verdict ≡ o.verdict → SaysAnswer (replayed o) s) → IsSettled s inputs
-    settled-by s says = go plan.answer
+    settled-by : (s : Status) → RefusesStepsAlone s → ((o : Outcome) → verdict_of plan.left.report.verdict ≡ o.verdict → SaysAnswer (replayed o) s) → IsSettled s inputs
+    settled-by s alone says = go plan.answer
       where
         go : ((o : Outcome) × (Answers (given_of rows r) (header_in r) plan.left.steps (replayed o) × IsLeftByOutcome o plan.left)) ⊎ Clashes (deploy_under (header_in r).limit (given_of rows r)) plan.left.steps → IsSettled s inputs
         go (inl k) = inl (replayed k.0, (says k.0 k.1.1.verdict_is, moved-answer (replayed k.0) (subst (λ (ss : List Step). Answers (given_of rows r) (header_in r) ss (replayed k.0)) plan.steps_are k.1.0)))
-        go (inr c) = inr (moved-clash plan.right (subst (λ (ss : List Step). Clashes (deploy_under (header_in r).limit (given_of rows r)) ss) plan.steps_are c))
+        go (inr c) = inr (moved-clash plan.right (subst (λ (ss : List Step). Clashes (deploy_under (header_in r).limit (given_of rows r)) ss) plan.steps_are c), alone)
 
     pub settled_fault : IsSettled status.WriteFault inputs
-    settled_fault = settled-by status.WriteFault (λ o e. tt)
+    settled_fault = settled-by status.WriteFault tt (λ o e. tt)
 
     pub settled_verdict : IsSettled (status_of p.verdict) inputs
-    settled_verdict = subst (λ (v : Ending). IsSettled (status_of v) inputs) (sym plan.verdict) (settled-by (status_of plan.left.report.verdict) (says plan.left.report.verdict))
+    settled_verdict = subst (λ (v : Ending). IsSettled (status_of v) inputs) (sym plan.verdict) (settled-by (status_of plan.left.report.verdict) (alone plan.left.report.verdict) (says plan.left.report.verdict))
       where
+        alone : (v : Ending) → RefusesStepsAlone (status_of v)
+        alone ending.Done = tt
+        alone ending.Exhausted = tt
+        alone (ending.Faulted step kind) = tt
+
         says : (v : Ending) (o : Outcome) → verdict_of v ≡ o.verdict → SaysAnswer (replayed o) (status_of v)
         says ending.Done o e = ap status_for e
         says ending.Exhausted o e = ap status_for e

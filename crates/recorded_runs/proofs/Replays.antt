@@ -1,5 +1,5 @@
 -- What a replay came to.
-use Rattle.std.proofs.Common.{◌≡◌, ◌≢◌, ◌∙◌, ◌⊎◌, inl, inr, ℕ, List, [], length, refl, sym, ap, subst, Result, Ok, Err, Option, Some, None, IfSome}
+use Rattle.std.proofs.Common.{◌≡◌, ◌≢◌, ◌∙◌, ◌⊎◌, inl, inr, ℕ, true, List, [], length, refl, sym, ap, subst, Result, Ok, Err, Option, Some, None, IfSome}
 use Rattle.std.specs.Prelude.{IsErrAnd, IsPermutation, ⊤}
 use Rattle.std.proofs.lemmas.List.{length-map}
 use Rattle.calculus.specs.Log.{Step, Header}
@@ -13,8 +13,9 @@ use Rattle.states.proofs.Groups.{root_ignores_order, text_ignores_order}
 use Rattle.run_verdict.specs.View.{verdict_of}
 use Rattle.run_verdict.specs.declared.verdict.Verdict.{Verdict as Ending}
 use Rattle.run_verdict.specs.declared.verdict.Verdict.TheVariants as ending
-use Rattle.replay_faults.specs.Refusals.{refusal_of}
+use Rattle.replay_faults.specs.Refusals.{is_of_header, refusal_of}
 use Rattle.replay_faults.specs.declared.fault.ReplayFault.{ReplayFault}
+use Rattle.replay_faults.specs.declared.fault.ReplayFault.TheVariants.{WrongBase, WrongSource, WrongPrices, WrongLimit, NoRun, Reducible, NoMemory}
 use Rattle.replay_answers.specs.Answers.{IsReplayed, IsAnswered}
 use Rattle.replay_answers.specs.declared.replayed.Replayed.{Replayed}
 use Rattle.base_states.specs.Bases.{IsStateOf}
@@ -23,7 +24,7 @@ use Rattle.run_status.specs.Statuses.{ReplayStatusOf}
 use Rattle.run_status.specs.declared.status.Status.{Status}
 use Rattle.recorded_runs.specs.Runs.{Left, printed}
 use Rattle.recorded_runs.proofs.Running.{silent}
-use Rattle.recorded_runs.specs.Replaying.{IsLeftByOutcome, IsLeftByAnswer}
+use Rattle.recorded_runs.specs.Replaying.{IsLeftByOutcome, IsLeftByAnswer, IsOfSteps}
 use Rattle.recorded_runs.specs.ReplayPlans.{given_of, header_in, steps_in, ClashIn, IsReplayStop, IsReplayPlan, IsPlanned}
 use Rattle.recorded_runs.specs.declared.replaying.ReplayPlan.{ReplayPlan}
 
@@ -70,19 +71,32 @@ module _ (rows made base : List Row) (digest text : List ℕ) where
       other : faulted step kind ≡ done → ⊥
       other k = cc
 
+no-refusal-is : (x : Refusal) → None ≡ Some x → ⊥
+no-refusal-is x e = cc
+
+-- a refusal under a right header is one of the steps
+of-steps : (f : ReplayFault) (x : Refusal) → refusal_of f ≡ Some x → (is_of_header f ≡ true → None ≡ refusal_of f) → IsOfSteps f
+of-steps (WrongBase log state) x e n = absurd (no-refusal-is _ (n refl))
+of-steps (WrongSource log given) x e n = absurd (no-refusal-is _ (n refl))
+of-steps (WrongPrices log given) x e n = absurd (no-refusal-is _ (n refl))
+of-steps (WrongLimit log most) x e n = absurd (no-refusal-is _ (n refl))
+of-steps (NoRun step) x e n = tt
+of-steps (Reducible cont taken) x e n = tt
+of-steps NoMemory x e n = absurd (no-refusal-is x e)
+
 module _ (rows : List Row) (r : ReplayInputs) (state : IsStateOf r.inputs.base.text.items rows) (result : Result Replayed ReplayFault)
     (header : (x : Refusal) → header_refusal (given_of rows r) (header_in r) ≡ Some x → IsErrAnd result (λ e. refusal_of e ≡ Some x))
     (answered : IsAnswered (given_of rows r) (header_in r) (steps_in r) result ⊎ ClashIn rows r) where
-  module _ (f : ReplayFault) (is : result ≡ Err f) where
+  module _ (f : ReplayFault) (is : result ≡ Err f) (named : is_of_header f ≡ true → header_refusal (given_of rows r) (header_in r) ≡ refusal_of f) where
     answer-of : (x : Refusal) → refusal_of f ≡ Some x → (o : Option Refusal) → header_refusal (given_of rows r) (header_in r) ≡ o
-        → Answers (given_of rows r) (header_in r) (steps_in r) (refused x) ⊎ ((header_refusal (given_of rows r) (header_in r) ≡ None) × ClashIn rows r)
+        → Answers (given_of rows r) (header_in r) (steps_in r) (refused x) ⊎ ((header_refusal (given_of rows r) (header_in r) ≡ None) × (ClashIn rows r × IsOfSteps f))
     answer-of x e None h = go answered
       where
-        go : IsAnswered (given_of rows r) (header_in r) (steps_in r) result ⊎ ClashIn rows r → Answers (given_of rows r) (header_in r) (steps_in r) (refused x) ⊎ ((header_refusal (given_of rows r) (header_in r) ≡ None) × ClashIn rows r)
+        go : IsAnswered (given_of rows r) (header_in r) (steps_in r) result ⊎ ClashIn rows r → Answers (given_of rows r) (header_in r) (steps_in r) (refused x) ⊎ ((header_refusal (given_of rows r) (header_in r) ≡ None) × (ClashIn rows r × IsOfSteps f))
         go (inl a) =
             let b = subst (λ (v : Result Replayed ReplayFault). IsAnswered (given_of rows r) (header_in r) (steps_in r) v) is a in
             inl (subst (λ (o : Option Refusal). IfSome o (λ y. Answers (given_of rows r) (header_in r) (steps_in r) (refused y))) e b)
-        go (inr c) = inr (h, c)
+        go (inr c) = inr (h, (c, of-steps f x e (λ k. sym h ∙ named k)))
     answer-of x e (Some y) h =
         let same : refusal_of f ≡ Some y = subst (λ (v : Result Replayed ReplayFault). IsErrAnd v (λ k. refusal_of k ≡ Some y)) is (header y h) in
         inl (by_header (h ∙ (sym same ∙ e)))

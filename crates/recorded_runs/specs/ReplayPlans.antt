@@ -19,7 +19,7 @@ use Rattle.run_reports.specs.Report.{report_line}
 use Rattle.run_status.specs.declared.status.Status.{Status}
 use Rattle.run_status.specs.declared.status.Status.TheVariants as status
 use Rattle.recorded_runs.specs.Runs.{Left, bytes_of, printed}
-use Rattle.recorded_runs.specs.Replaying.{given_in, IsLeftByAnswer}
+use Rattle.recorded_runs.specs.Replaying.{given_in, IsLeftByAnswer, IsOfSteps}
 use Rattle.recorded_runs.specs.declared.replaying.ReplayPlan.{ReplayPlan}
 
 -- the file of a plan under these names
@@ -42,12 +42,12 @@ steps_in r = map step_of r.log.steps.items
 abbrev pub ClashIn : List Row → ReplayInputs → Type 0
 ClashIn rows r = Clashes (deploy_under (header_in r).limit (given_of rows r)) (steps_in r)
 
--- why the log is refused, from these rows: this is the answer to it, or its header is right and digests clash
+-- why the log is refused, from these rows: this is the answer to it; or its header is right, digests clash, and the fault is one of its steps
 pub record IsRefusedBy (rows : List Row) (f : ReplayFault) (r : ReplayInputs) : Type 0 where
   pub refusal : Refusal
   pub is : refusal_of f ≡ Some refusal
   pub answer : Answers (given_of rows r) (header_in r) (steps_in r) (refused refusal)
-      ⊎ ((header_refusal (given_of rows r) (header_in r) ≡ None) × ClashIn rows r)
+      ⊎ ((header_refusal (given_of rows r) (header_in r) ≡ None) × (ClashIn rows r × IsOfSteps f))
 
 -- the status of a log that is refused, or of want of memory
 abbrev pub IsReplayStop : List Row → ReplayInputs → Status → Type 0

@@ -13,6 +13,8 @@ use Rattle.sources.specs.Sources.{IsSourceOf}
 use Rattle.run_verdict.specs.View.{verdict_of}
 use Rattle.run_verdict.specs.declared.verdict.Verdict.TheVariants as ending
 use Rattle.replay_faults.specs.Refusals.{refusal_of}
+use Rattle.replay_faults.specs.declared.fault.ReplayFault.{ReplayFault}
+use Rattle.replay_faults.specs.declared.fault.ReplayFault.TheVariants.{NoRun, Reducible}
 use Rattle.replay_answers.specs.Answers.{Clashes}
 use Rattle.replay_answers.specs.Bases.{asked}
 use Rattle.rho_outside.specs.Causes.{Rose}
@@ -72,9 +74,20 @@ SaysAnswer (refused r) _ = ⊥
 SaysAnswer (replayed o) status.WriteFault = ⊤
 SaysAnswer (replayed o) s = s ≡ status_for o.verdict
 
--- the answer to the log of these inputs is one that a status says, or digests clash
+-- a fault of a log's steps: neither one of its header nor want of memory
+abbrev pub IsOfSteps : ReplayFault → Type 0
+IsOfSteps (NoRun step) = ⊤
+IsOfSteps (Reducible cont taken) = ⊤
+IsOfSteps _ = ⊥
+
+-- a status that refuses a log refuses its steps, and not its header
+abbrev pub RefusesStepsAlone : Status → Type 0
+RefusesStepsAlone (status.Replay f) = IsOfSteps f
+RefusesStepsAlone _ = ⊤
+
+-- the answer to the log of these inputs is one that a status says; or digests clash, and the status refuses nothing but steps
 abbrev pub IsSettled : Status → Task × List ℕ → Type 0
-IsSettled s inputs = ((answer : Answer) × (SaysAnswer answer s × IsAnswerTo inputs answer)) ⊎ HasClash inputs
+IsSettled s inputs = ((answer : Answer) × (SaysAnswer answer s × IsAnswerTo inputs answer)) ⊎ (HasClash inputs × RefusesStepsAlone s)
 
 -- what is left is what a replayed run came to: its verdict, its cost, the root of the rows that it leaves, whose text is the next state, and its output
 pub record IsLeftByOutcome (outcome : Outcome) (left : Left) : Type 0 where

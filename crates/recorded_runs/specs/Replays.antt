@@ -16,12 +16,12 @@ use Rattle.run_inputs.specs.Ended.{ReplayEnds}
 use Rattle.run_status.specs.Endings.{OnRefusal, OnHalt, OnVerdict, HasEnded}
 use Rattle.run_status.specs.declared.status.Status.{Status}
 use Rattle.run_status.specs.declared.status.Status.TheVariants.{WriteFault, NoMemory}
-use Rattle.recorded_runs.specs.Replaying.{IsAnswerTo, HasClash, SaysAnswer, IsSettled, ReplayLeaves, ReplayLeavesInPart}
+use Rattle.recorded_runs.specs.Replaying.{IsAnswerTo, HasClash, RefusesStepsAlone, SaysAnswer, IsSettled, ReplayLeaves, ReplayLeavesInPart}
 use Rattle.run_reports.specs.World.{World}
 
--- where the log of these inputs has this answer, a status says it, or memory is wanted, or digests clash
+-- where the log of these inputs has this answer, a status says it, or memory is wanted, or digests clash, and the status refuses nothing but steps
 abbrev pub TellsAnswer : Task × List ℕ → Status → Type 0
-TellsAnswer inputs s = (answer : Answer) → IsAnswerTo inputs answer → (s ≡ NoMemory) ⊎ (SaysAnswer answer s ⊎ HasClash inputs)
+TellsAnswer inputs s = (answer : Answer) → IsAnswerTo inputs answer → (s ≡ NoMemory) ⊎ (SaysAnswer answer s ⊎ (HasClash inputs × RefusesStepsAlone s))
 
 -- where the log of these inputs is answered by an outcome, the replay ended with a verdict or memory is wanted, or digests clash
 abbrev pub EndsIfRun : Task × List ℕ → Status → Type 0

@@ -1,5 +1,5 @@
 -- The answer to a log from what its steps settle to.
-use Rattle.std.proofs.Common.{◌≡◌, ◌<◌, ℕ, List, length, map, sym, subst, inl, inr}
+use Rattle.std.proofs.Common.{◌≡◌, ℕ, List, length, map, sym, subst, inl, inr}
 use Rattle.std.specs.Prelude.{◌⊎◌, Result, Err}
 use Rattle.calculus.specs.Log.{Step, Header}
 use Rattle.calculus.specs.Rows.{Row}

@@ -1,6 +1,6 @@
 -- Rows that may be stored have channels.
-use Rattle.std.proofs.Common.{◌≡◌, ◌≢◌, ◌≤◌, ℕ, true, List, [], ◌∷◌, length, map as each, sym, subst, arith, inl, inr}
-use Rattle.std.specs.Prelude.{All, IsPermutation}
+use Rattle.std.proofs.Common.{◌≡◌, ◌≢◌, ◌≤◌, true, List, [], ◌∷◌, length, map as each, sym, subst, arith, inl, inr}
+use Rattle.std.specs.Prelude.{IsPermutation}
 use Rattle.calculus.proofs.Members.{Member}
 use Rattle.calculus.proofs.Permutations.{moved_so}
 use Rattle.calculus.specs.Tree.{send, receive, Tree, node}

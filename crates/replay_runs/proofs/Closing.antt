@@ -1,9 +1,9 @@
 -- The answer to a log whose hub is closed.
-use Rattle.std.proofs.Common.{◌≡◌, ◌≢◌, ◌<◌, ℕ, true, List, [], ◌∷◌, ◌++◌, length, map as each, refl, ap, sym, ◌∙◌, subst, arith, inl, inr}
-use Rattle.std.specs.Prelude.{◌⊎◌, None, Result, Ok, Err, IsPermutation}
+use Rattle.std.proofs.Common.{◌≡◌, ◌≢◌, true, List, [], refl, ap, sym, ◌∙◌, subst, arith, inl, inr}
+use Rattle.std.specs.Prelude.{◌⊎◌, Result, Ok, Err, IsPermutation}
 use Rattle.calculus.proofs.Permutations.{join, moved_so}
 use Rattle.calculus.specs.Log.{Step, Header}
-use Rattle.calculus.specs.Rows.{channels, Row, stdout, stdout_ack}
+use Rattle.calculus.specs.Rows.{channels, Row}
 use Rattle.calculus.specs.Runs.{Deploy, Work, Verdict, done, exhausted, faulted, verdict, next_rows, IsEnd}
 use Rattle.calculus.specs.Steps.{Bag, differ, standing, stored_rows}
 use Rattle.events.specs.Events.{first_ids, AreFresh}
@@ -12,9 +12,8 @@ use Rattle.events.proofs.Accounts.{distinct}
 use Rattle.events.proofs.Counts.{ids, AreDistinct, differ-distinct, distinct-differ}
 use Rattle.events.proofs.Orders.{times-moved}
 use Rattle.events.proofs.Standing.{built_ins, ids-times, standing-times}
-use Rattle.replays.specs.Replays.{Given, refused, no_run, reducible, Answers, by_step, by_rest, by_end, deploy_under, outcome_of, output_of}
-use Rattle.least_step.specs.declared.least.LeastStep.{LeastStep}
-use Rattle.least_step.specs.Least.{HasRows, IsLeast, NothingIsUsedUp}
+use Rattle.replays.specs.Replays.{Given, by_rest, by_end, deploy_under, outcome_of, output_of}
+use Rattle.least_step.specs.Least.{HasRows, NothingIsUsedUp}
 use Rattle.least_step.proofs.Past.{legal_lists_use_nothing_up}
 use Rattle.run_verdict.specs.View.{verdict_of}
 use Rattle.run_verdict.specs.declared.verdict.Verdict.{Verdict as Ended}

@@ -5,6 +5,7 @@ mod basis;
 pub mod ending;
 mod racing;
 pub mod runs;
+mod unfolding;
 
 pub use ending::{Raced, answer_of};
 pub use replay_answers::{ReplayFault, Replayed};

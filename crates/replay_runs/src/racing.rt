@@ -13,6 +13,7 @@ ghost use Rattle.replay_runs.specs.Racing.{arrivals, IsRaced};
 
 use crate::Raced;
 use crate::basis::Basis;
+use crate::unfolding::Unfolder;
 use event_log::Log;
 use group_locks::Closed;
 use name_seed::Seed;
@@ -82,7 +83,7 @@ pub(crate) fn race<N: ReplayNames + Sync, R: Threads + Wait + Sync, G: Gate + Sy
     let shards = open_shards(alloc, basis.base)?;
     let tasks = first_tasks(alloc, offers)?;
     let rig = Rig::from_log(alloc, &log)?;
-    let tables: LogReplay<N> = LogReplay::new(log, rig, *prices, limit);
+    let tables: LogReplay<N, Unfolder> = LogReplay::new(log, rig, *prices, limit);
     let closed = replay_side_by_side(crew, tables, shards, tasks)?;
     let Closed {
         entries,

@@ -41,5 +41,5 @@ held-send = let a = seen-send in search (sendable, crosses, maps_cross) depth 60
 pub held-sync : IsSync Held.the_row
 held-sync = let a = seen-sync in search (sendable, crosses, maps_cross) depth 60
 
-pub replay-sync : (N : RattleType) → IsSync N → IsSync (Replay.the_row N)
-replay-sync n s = search (sendable, crosses, maps_cross) depth 60
+pub replay-sync : (N U : RattleType) → IsSync N → IsSync U → IsSync (Replay.the_row N U)
+replay-sync n u s t = search (sendable, crosses, maps_cross) depth 60

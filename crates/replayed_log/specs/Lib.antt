@@ -1,3 +1,4 @@
 pub mod Names
+pub mod Unfolding
 pub mod Replay
 pub mod Making

@@ -8,6 +8,8 @@ pub mod names;
 pub mod shared;
 mod tables;
 mod tries;
+pub mod unfolding;
 
 pub use crate::log_replay::LogReplay;
 pub use crate::names::ReplayNames;
+pub use crate::unfolding::{StepUnfolder, UnfoldedStep};

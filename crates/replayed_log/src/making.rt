@@ -7,6 +7,7 @@ ghost use Rattle.replay_hub.specs.Values.{line_items};
 ghost use Rattle.replayed_log.specs.Making.{IsMade};
 
 use crate::tries::{arrivals, hub_tries, with_tries};
+use crate::unfolding::StepUnfolder;
 use event_log::LogStep;
 use name_seed::Seed;
 use price_table::Prices;
@@ -15,7 +16,6 @@ use replay_shards::{Ready, ShardedChannel, ShardedRow, sharded_rows};
 use replay_worker::Doing;
 use std::alloc::{AllocError, Global};
 use std::snapshot::Snapshot;
-use step_work::{line_of, work_body};
 
 // A line in a box; None where it is empty. Want of memory is the one error.
 fn kept_line(alloc: Global, line: Vec<u8>) -> Result<Option<Box<Vec<u8>>>, AllocError>
@@ -29,7 +29,7 @@ fn kept_line(alloc: Global, line: Vec<u8>) -> Result<Option<Box<Vec<u8>>>, Alloc
 }
 
 /// The step that a try names, done with what was found. Want of memory is the one error.
-pub(crate) fn make_step(
+pub(crate) fn make_step<U: StepUnfolder>(
     alloc: Global,
     prices: &Prices,
     limit: u64,
@@ -46,15 +46,8 @@ pub(crate) fn make_step(
     let Ready { found, next } = ready;
     let comm = prices.comm();
     let seed = Seed::comm(&step.cont, step.taken.as_slice(), step.repeat);
-    let worked = work_body(
-        alloc,
-        &found.body,
-        found.bound.as_slice(),
-        &seed,
-        prices,
-        limit,
-    )?;
-    let line = kept_line(alloc, line_of(alloc, &found)?)?;
+    let worked = U::unfold_step(alloc, &found, &seed, prices, limit)?;
+    let line = kept_line(alloc, worked.line)?;
     let next = hub_tries(alloc, next)?;
     let offers = sharded_rows(alloc, worked.offers)?;
     let made = Made {

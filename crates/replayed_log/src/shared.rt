@@ -28,7 +28,7 @@ pub fn hand_crosses(held: &ReplayHeld) {
     crosses(held);
 }
 
-/// Threads may share a log that is replayed, where they may share its names.
-pub fn log_is_shared<N: Sync>(log: &LogReplay<N>) {
+/// Threads may share a log that is replayed, where they may share its names and what unfolds its steps.
+pub fn log_is_shared<N: Sync, U: Sync>(log: &LogReplay<N, U>) {
     shares(log);
 }

@@ -13,13 +13,14 @@ use crate::log_replay::LogReplay;
 use crate::making::make_step;
 use crate::names::ReplayNames;
 use crate::tries::{hub_tries, with_tries};
+use crate::unfolding::StepUnfolder;
 use replay_hub::{Coming, ReplayTerms, Try};
 use replay_shards::{ReplayHeld, ReplayShard, ShardedChannel, ShardedRow, first_tries};
 use replay_worker::{Arriving, Doing, Looked, ReplayTables};
 use std::alloc::{AllocError, Global};
 use std::snapshot::Snapshot;
 
-impl<N: ReplayNames> ReplayTerms for LogReplay<N> {
+impl<N: ReplayNames, U> ReplayTerms for LogReplay<N, U> {
     type Row = ShardedRow;
 
     type Channel = ShardedChannel;
@@ -49,7 +50,7 @@ impl<N: ReplayNames> ReplayTerms for LogReplay<N> {
     }
 }
 
-impl<N: ReplayNames> ReplayTables for LogReplay<N> {
+impl<N: ReplayNames, U: StepUnfolder> ReplayTables for LogReplay<N, U> {
     ghost knows = { IsReplayOf N.deploy N.steps };
 
     fn hand(&self, alloc: Global) -> Result<ReplayHeld, AllocError> {
@@ -116,7 +117,7 @@ impl<N: ReplayNames> ReplayTables for LogReplay<N> {
             return Ok(Looked::Idle);
         };
         let step = &self.log.steps[tried.step as usize];
-        let doing = make_step(alloc, &self.prices, self.limit, step, tried, ready)?;
+        let doing = make_step::<U>(alloc, &self.prices, self.limit, step, tried, ready)?;
         Ok(Looked::Fits(doing))
     }
 

@@ -1,5 +1,7 @@
 -- A loop that copies things one after another.
 use Rattle.std.proofs.Common.{◌≡◌, ℕ, ◌+◌, ◌<◌, ◌≤◌, List, [], ◌∷◌, ◌++◌, map, drop, length, get_or, ap, sym, ◌∙◌, append_assoc}
+use Rattle.calculus.specs.Shape.{two}
+use Rattle.calculus.specs.Tree.{Label, Tree}
 use Rattle.std.specs.Prelude.{Bool, false, Result, Ok, Err, IfOk}
 use Rattle.std.specs.declared.alloc.AllocError.{AllocError}
 use Rattle.std.proofs.lemmas.List.{append-nil, drop_all, drop_more, map-append}
@@ -37,3 +39,7 @@ pub made-copy : {T S : Type 0} (b o : Bool) (f : T → S) (x : T) (y : S) (res :
     → (b ≡ false → (o ≡ false) × (f x ≡ y)) → IfOk res (λ v. f v ≡ y)
 made-copy b o f x y (Ok v) p q = ap f p.1 ∙ (q p.0).1
 made-copy b o f x y (Err e) p q = tt
+
+-- two constituents that are the same
+pub two-same : (l : Label) (t u v w : Tree) → t ≡ v → u ≡ w → two l t u ≡ two l v w
+two-same l t u v w a b = ap (λ x. two l x u) a ∙ ap (two l v) b

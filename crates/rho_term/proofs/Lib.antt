@@ -1,4 +1,5 @@
+pub mod Turns
 pub mod Measuring
-pub mod Faulting
+pub mod Forms
 pub mod Trees
 pub mod Copying

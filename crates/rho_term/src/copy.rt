@@ -125,54 +125,42 @@ pub(crate) fn copy_part(copier: &mut Copier, part: &Part) -> Part
             channel,
             args,
             persistent,
-        } => {
-            let channel = copy_term(copier, channel);
-            let args = copy_terms(copier, args);
-            let persistent = *persistent;
-            Part::Send {
-                channel,
-                args,
-                persistent,
-            }
-        }
-        Part::Receive { kind, binds, body } => {
-            let binds = copy_binds(copier, binds);
-            let body = copy_term(copier, body);
-            let kind = *kind;
-            Part::Receive { kind, binds, body }
-        }
-        Part::New { names, body } => {
-            let names = copier.list(names.clone());
-            let body = copy_term(copier, body);
-            Part::New { names, body }
-        }
-        Part::Match { target, cases } => {
-            let target = copy_term(copier, target);
-            let cases = copy_cases(copier, cases);
-            Part::Match { target, cases }
-        }
-        Part::Bundle { rights, body } => {
-            let body = copy_term(copier, body);
-            let rights = *rights;
-            Part::Bundle { rights, body }
-        }
-        Part::Unary { op, arg } => {
-            let arg = copy_term(copier, arg);
-            let op = *op;
-            Part::Unary { op, arg }
-        }
-        Part::Binary { op, left, right } => {
-            let left = copy_term(copier, left);
-            let right = copy_term(copier, right);
-            let op = *op;
-            Part::Binary { op, left, right }
-        }
-        Part::Method { name, target, args } => {
-            let name = copier.text(name);
-            let target = copy_term(copier, target);
-            let args = copy_terms(copier, args);
-            Part::Method { name, target, args }
-        }
+        } => Part::Send {
+            channel: copy_term(copier, channel),
+            args: copy_terms(copier, args),
+            persistent: *persistent,
+        },
+        Part::Receive { kind, binds, body } => Part::Receive {
+            kind: *kind,
+            binds: copy_binds(copier, binds),
+            body: copy_term(copier, body),
+        },
+        Part::New { names, body } => Part::New {
+            names: copier.list(names.clone()),
+            body: copy_term(copier, body),
+        },
+        Part::Match { target, cases } => Part::Match {
+            target: copy_term(copier, target),
+            cases: copy_cases(copier, cases),
+        },
+        Part::Bundle { rights, body } => Part::Bundle {
+            rights: *rights,
+            body: copy_term(copier, body),
+        },
+        Part::Unary { op, arg } => Part::Unary {
+            op: *op,
+            arg: copy_term(copier, arg),
+        },
+        Part::Binary { op, left, right } => Part::Binary {
+            op: *op,
+            left: copy_term(copier, left),
+            right: copy_term(copier, right),
+        },
+        Part::Method { name, target, args } => Part::Method {
+            name: copier.text(name),
+            target: copy_term(copier, target),
+            args: copy_terms(copier, args),
+        },
     }
 }
 
@@ -200,14 +188,10 @@ fn copy_pat_part(copier: &mut Copier, part: &PatPart) -> PatPart
         PatPart::Same(process) => PatPart::Same(copy_term(copier, process)),
         PatPart::Ground(value) => PatPart::Ground(copy_ground(copier, value)),
         PatPart::Both(left, right) => {
-            let left = copy_pat(copier, left);
-            let right = copy_pat(copier, right);
-            PatPart::Both(left, right)
+            PatPart::Both(copy_pat(copier, left), copy_pat(copier, right))
         }
         PatPart::Either(left, right) => {
-            let left = copy_pat(copier, left);
-            let right = copy_pat(copier, right);
-            PatPart::Either(left, right)
+            PatPart::Either(copy_pat(copier, left), copy_pat(copier, right))
         }
         PatPart::Not(inner) => PatPart::Not(copy_pat(copier, inner)),
         PatPart::List(members, rest) => PatPart::List(copy_pats(copier, members), *rest),
@@ -218,21 +202,15 @@ fn copy_pat_part(copier: &mut Copier, part: &PatPart) -> PatPart
             channel,
             args,
             persistent,
-        } => {
-            let channel = copy_pat(copier, channel);
-            let args = copy_pats(copier, args);
-            let persistent = *persistent;
-            PatPart::Send {
-                channel,
-                args,
-                persistent,
-            }
-        }
-        PatPart::Bundle { rights, body } => {
-            let body = copy_pat(copier, body);
-            let rights = *rights;
-            PatPart::Bundle { rights, body }
-        }
+        } => PatPart::Send {
+            channel: copy_pat(copier, channel),
+            args: copy_pats(copier, args),
+            persistent: *persistent,
+        },
+        PatPart::Bundle { rights, body } => PatPart::Bundle {
+            rights: *rights,
+            body: copy_pat(copier, body),
+        },
         PatPart::Closed(part) => PatPart::Closed(copy_part(copier, part)),
     }
 }
@@ -278,13 +256,10 @@ fn copy_binds(copier: &mut Copier, binds: &Vec<TermBind>) -> Vec<TermBind>
 pub(crate) fn copy_bind(copier: &mut Copier, bind: &TermBind) -> TermBind
     ensures { copier.new.failed ≡ false → (copier.old.failed ≡ false) × (bind_tree result ≡ bind_tree bind.now) }
 {
-    let pats = copy_pats(copier, &bind.pats);
-    let channel = copy_term(copier, &bind.channel);
-    let rest = bind.rest;
     TermBind {
-        pats,
-        rest,
-        channel,
+        pats: copy_pats(copier, &bind.pats),
+        rest: bind.rest,
+        channel: copy_term(copier, &bind.channel),
     }
 }
 

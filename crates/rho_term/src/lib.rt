@@ -6,8 +6,8 @@
 
 mod copy;
 mod faults;
-mod lengths;
 mod measure;
+mod measures;
 pub mod op;
 mod room;
 pub mod term;

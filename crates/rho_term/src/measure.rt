@@ -1,182 +1,213 @@
-// The heights of parts and of what stands in them. Beside it each call says that what it measured is in normal order.
+// The measures of parts and of what stands in them. A process and a pattern keep theirs, so none that stands inside is
+// walked again. Beside them each call says that what it measured is in normal order. What stands in a row is measured
+// with the four bytes of its number.
 
-ghost use Rattle.std.specs.Prelude.{◌≡◌, ◌+◌, max, map, All};
-ghost use Rattle.calculus.specs.Tree.{trees};
-ghost use Rattle.calculus.specs.Size.{height, heights};
-ghost use Rattle.rho_term.specs.Parts.{part_tree, pat_part_tree, pair_tree, bind_tree, case_tree, term_tree, pat_tree};
-ghost use Rattle.rho_term.specs.Normal.{IsNormal, AreNormal, IsOrdered};
-ghost use Rattle.rho_term.specs.Measures.{in_u32};
+ghost use Rattle.std.specs.Prelude.{◌≡◌, map, All};
+ghost use Rattle.calculus.specs.Form.{term, part as of_part, a_bind, a_case, pat, name_pat, pat_part, row_of, pair_of};
+ghost use Rattle.calculus.specs.Shape.{leaf as leaf_of, many};
+ghost use Rattle.calculus.specs.Tree.{trees, row, fresh};
+ghost use Rattle.rho_term.specs.Parts.{part_tree, pat_part_tree, ground_tree, pair_tree, bind_tree, case_tree, term_tree, pat_tree};
+ghost use Rattle.rho_term.specs.Normal.{AreNormal, IsOrdered};
+ghost use Rattle.rho_term.specs.Measures.{sign};
+ghost use Rattle.rho_term.specs.Sizes.{in_u64, size};
+ghost use Rattle.rho_term.specs.Faults.{faults};
+ghost use Rattle.rho_term.specs.Measured.{IsCount, IsMeasured, IsFormMeasured};
 
+use crate::faults::{closed_faults, digest_faults, name_part_faults};
+use crate::measures::{Measures, greater, join, leaf, one, plus, tuple, two};
 use crate::term::{Part, PatPart, Term, TermBind, TermCase, TermPat};
+use calculus::Ground;
 
-/// The height of a process of these parts.
-pub(crate) fn parts_height(parts: &Vec<Part>) -> u32
-    ensures height { result ≡ in_u32 (height (term_tree parts.now.items)) }
+/// The measures of a process of these parts.
+pub(crate) fn parts_measures(parts: &Vec<Part>) -> Measures
+    ensures count { IsCount term (term_tree parts.now.items) result }
     ensures normal { All (λ p. IsOrdered (part_tree p)) parts.now.items → AreNormal (trees (map part_tree parts.now.items)) }
 {
-    let mut greatest = 0;
+    let mut total = leaf(4);
     for part in parts {
-        greatest = greater(greatest, part_height(part));
+        total = join(total, part_measures(part));
     }
-    greatest
+    total
 }
 
-/// The height of a pattern of these parts.
-#[cycle(measure)]
-pub(crate) fn pat_parts_height(parts: &Vec<PatPart>) -> u32
-    ensures height { result ≡ in_u32 (height (pat_tree parts.now.items)) }
+/// The measures of a pattern of these parts, and whether it has faults as a pattern of names.
+pub(crate) fn pat_parts_measures(parts: &Vec<PatPart>) -> (Measures, u32)
+    ensures count { IsCount pat (pat_tree parts.now.items) result.0 }
+    ensures names { result.1 ≡ sign (faults name_pat (pat_tree parts.now.items)) }
     ensures normal { All (λ p. IsOrdered (pat_part_tree p)) parts.now.items → AreNormal (trees (map pat_part_tree parts.now.items)) }
 {
-    let mut greatest = 0;
+    let mut total = leaf(4);
+    let mut names = 0;
     for part in parts {
-        greatest = greater(greatest, pat_part_height(part));
+        let found = pat_part_measures(part);
+        total = join(total, found);
+        names = greater(names, name_part_faults(part, found.faults));
     }
-    greatest
+    (total, names)
 }
 
-#[cycle(measure)]
-fn part_height(part: &Part) -> u32
-    ensures height { result ≡ in_u32 (height (part_tree part.now)) }
-    ensures normal { IsOrdered (part_tree part.now) → IsNormal (part_tree part.now) }
+/// The measures of a part of a process.
+pub(crate) fn part_measures(part: &Part) -> Measures
+    ensures { IsFormMeasured of_part (part_tree part.now) result }
 {
     match part {
-        Part::Ground(_) => 0,
-        Part::Fresh(_) => 0,
-        Part::Var(_) => 0,
-        Part::NameVar(_) => 0,
-        Part::List(members) => above(terms_height(members)),
-        Part::Tuple(members) => above(terms_height(members)),
-        Part::Set(members) => above(terms_height(members)),
-        Part::Map(pairs) => above(pairs_height(pairs)),
-        Part::Send { channel, args, .. } => above(greater(channel.height(), terms_height(args))),
-        Part::Receive { binds, body, .. } => above(greater(binds_height(binds), body.height())),
-        Part::New { body, .. } => above(body.height()),
-        Part::Match { target, cases } => above(greater(target.height(), cases_height(cases))),
-        Part::Bundle { body, .. } => above(body.height()),
-        Part::Unary { arg, .. } => above(arg.height()),
-        Part::Binary { left, right, .. } => above(greater(left.height(), right.height())),
-        Part::Method { target, args, .. } => above(greater(target.height(), terms_height(args))),
-    }
-}
-
-#[cycle(measure)]
-fn pat_part_height(part: &PatPart) -> u32
-    ensures height { result ≡ in_u32 (height (pat_part_tree part.now)) }
-    ensures normal { IsOrdered (pat_part_tree part.now) → IsNormal (pat_part_tree part.now) }
-{
-    match part {
-        PatPart::Wild => 0,
-        PatPart::Var => 0,
-        PatPart::NameVar => 0,
-        PatPart::Simple(_) => 0,
-        PatPart::Same(process) => above(process.height()),
-        PatPart::Ground(_) => 0,
-        PatPart::Both(left, right) => above(greater(pat_height(left), pat_height(right))),
-        PatPart::Either(left, right) => above(greater(pat_height(left), pat_height(right))),
-        PatPart::Not(inner) => above(pat_height(inner)),
-        PatPart::List(members, _) => above(pats_height(members)),
-        PatPart::Tuple(members) => above(pats_height(members)),
-        PatPart::Set(members, _) => above(pats_height(members)),
-        PatPart::Map(pairs, _) => above(pat_pairs_height(pairs)),
-        PatPart::Send { channel, args, .. } => {
-            above(greater(pat_height(channel), pats_height(args)))
+        Part::Ground(value) => leaf(ground_len(value)),
+        Part::Fresh(name) => fresh_measures(&name.0),
+        Part::Var(_) => leaf(5),
+        Part::NameVar(_) => leaf(5),
+        Part::List(members) => one(1, terms_measures(members)),
+        Part::Tuple(members) => tuple(members.len(), terms_measures(members)),
+        Part::Set(members) => one(1, terms_measures(members)),
+        Part::Map(pairs) => one(1, pairs_measures(pairs)),
+        Part::Send { channel, args, .. } => two(2, channel.measures(), terms_measures(args)),
+        Part::Receive { binds, body, .. } => two(2, binds_measures(binds), body.measures()),
+        Part::New { names, body } => one(plus(5, names.len() as u64), body.measures()),
+        Part::Match { target, cases } => two(1, target.measures(), cases_measures(cases)),
+        Part::Bundle { body, .. } => one(2, body.measures()),
+        Part::Unary { arg, .. } => one(2, arg.measures()),
+        Part::Binary { left, right, .. } => two(2, left.measures(), right.measures()),
+        Part::Method { name, target, args } => {
+            let length = plus(5, name.as_str().len() as u64);
+            two(length, target.measures(), terms_measures(args))
         }
-        PatPart::Bundle { body, .. } => above(pat_height(body)),
-        PatPart::Closed(part) => part_height(part),
     }
 }
 
-#[cycle(measure)]
-fn pat_height(pat: &TermPat) -> u32
-    ensures height { result ≡ in_u32 (height pat.now) }
-    ensures normal { IsNormal pat.now }
+// The measures of a part of a pattern. A remainder takes one byte.
+fn pat_part_measures(part: &PatPart) -> Measures
+    ensures { IsFormMeasured pat_part (pat_part_tree part.now) result }
 {
-    pat_parts_height(&pat.parts)
+    match part {
+        PatPart::Wild => leaf(1),
+        PatPart::Var => leaf(1),
+        PatPart::NameVar => Measures {
+            height: 0,
+            faults: 1,
+            length: 1,
+        },
+        PatPart::Simple(_) => leaf(2),
+        PatPart::Same(process) => one(1, process.measures()),
+        PatPart::Ground(value) => leaf(ground_len(value)),
+        PatPart::Both(left, right) => two(1, left.measures(), right.measures()),
+        PatPart::Either(left, right) => two(1, left.measures(), right.measures()),
+        PatPart::Not(inner) => one(1, inner.measures()),
+        PatPart::List(members, _) => one(2, pats_measures(members)),
+        PatPart::Tuple(members) => tuple(members.len(), pats_measures(members)),
+        PatPart::Set(members, _) => one(2, pats_measures(members)),
+        PatPart::Map(pairs, _) => one(2, pat_pairs_measures(pairs)),
+        PatPart::Send { channel, args, .. } => two(2, channel.name_measures(), pats_measures(args)),
+        PatPart::Bundle { body, .. } => one(2, body.measures()),
+        PatPart::Closed(part) => closed_measures(part),
+    }
 }
 
-fn terms_height(terms: &Vec<Term>) -> u32
-    ensures height { result ≡ in_u32 (heights (trees terms.now.items)) }
-    ensures normal { AreNormal (trees terms.now.items) }
+// A closed form in a pattern.
+fn closed_measures(part: &Part) -> Measures
+    ensures { IsFormMeasured pat_part (part_tree part.now) result }
 {
-    let mut greatest = 0;
+    let found = part_measures(part);
+    Measures {
+        height: found.height,
+        faults: closed_faults(part, found.faults),
+        length: found.length,
+    }
+}
+
+fn terms_measures(terms: &Vec<Term>) -> Measures
+    ensures { IsMeasured (row_of term) (many row terms.now.items) result }
+{
+    let mut total = leaf(4);
     for term in terms {
-        greatest = greater(greatest, term.height());
+        total = join(total, term.measures());
     }
-    greatest
+    total
 }
 
-fn pairs_height(pairs: &Vec<(Term, Term)>) -> u32
-    ensures height { result ≡ in_u32 (heights (trees (map pair_tree pairs.now.items))) }
-    ensures normal { AreNormal (trees (map pair_tree pairs.now.items)) }
+fn pairs_measures(pairs: &Vec<(Term, Term)>) -> Measures
+    ensures { IsMeasured (row_of (pair_of term)) (many row (map pair_tree pairs.now.items)) result }
 {
-    let mut greatest = 0;
+    let mut total = leaf(4);
     for pair in pairs {
-        let height = greater(pair.0.height(), pair.1.height());
-        greatest = greater(greatest, height);
+        let both = join(pair.0.measures(), pair.1.measures());
+        total = join(total, both);
     }
-    greatest
+    total
 }
 
-#[cycle(measure)]
-fn binds_height(binds: &Vec<TermBind>) -> u32
-    ensures height { result ≡ in_u32 (heights (trees (map bind_tree binds.now.items))) }
-    ensures normal { AreNormal (trees (map bind_tree binds.now.items)) }
+// A bind has its channel, its patterns in a row, and one byte for the remainder.
+fn binds_measures(binds: &Vec<TermBind>) -> Measures
+    ensures { IsMeasured (row_of a_bind) (many row (map bind_tree binds.now.items)) result }
 {
-    let mut greatest = 0;
+    let mut total = leaf(4);
     for bind in binds {
-        let height = greater(bind.channel.height(), pats_height(&bind.pats));
-        greatest = greater(greatest, height);
+        let pats = join(leaf(1), name_pats_measures(&bind.pats));
+        let both = join(bind.channel.measures(), pats);
+        total = join(total, both);
     }
-    greatest
+    total
 }
 
-#[cycle(measure)]
-fn cases_height(cases: &Vec<TermCase>) -> u32
-    ensures height { result ≡ in_u32 (heights (trees (map case_tree cases.now.items))) }
-    ensures normal { AreNormal (trees (map case_tree cases.now.items)) }
+fn cases_measures(cases: &Vec<TermCase>) -> Measures
+    ensures { IsMeasured (row_of a_case) (many row (map case_tree cases.now.items)) result }
 {
-    let mut greatest = 0;
+    let mut total = leaf(4);
     for case in cases {
-        let height = greater(pat_height(&case.pat), case.body.height());
-        greatest = greater(greatest, height);
+        let both = join(case.pat.measures(), case.body.measures());
+        total = join(total, both);
     }
-    greatest
+    total
 }
 
-#[cycle(measure)]
-fn pats_height(pats: &Vec<TermPat>) -> u32
-    ensures height { result ≡ in_u32 (heights (trees pats.now.items)) }
-    ensures normal { AreNormal (trees pats.now.items) }
+fn pats_measures(pats: &Vec<TermPat>) -> Measures
+    ensures { IsMeasured (row_of pat) (many row pats.now.items) result }
 {
-    let mut greatest = 0;
+    let mut total = leaf(4);
     for pat in pats {
-        greatest = greater(greatest, pat_height(pat));
+        total = join(total, pat.measures());
     }
-    greatest
+    total
 }
 
-#[cycle(measure)]
-fn pat_pairs_height(pairs: &Vec<(TermPat, TermPat)>) -> u32
-    ensures height { result ≡ in_u32 (heights (trees (map pair_tree pairs.now.items))) }
-    ensures normal { AreNormal (trees (map pair_tree pairs.now.items)) }
+// Patterns of names, which may have name variables.
+fn name_pats_measures(pats: &Vec<TermPat>) -> Measures
+    ensures { IsMeasured (row_of name_pat) (many row pats.now.items) result }
 {
-    let mut greatest = 0;
+    let mut total = leaf(4);
+    for pat in pats {
+        total = join(total, pat.name_measures());
+    }
+    total
+}
+
+fn pat_pairs_measures(pairs: &Vec<(TermPat, TermPat)>) -> Measures
+    ensures { IsMeasured (row_of (pair_of pat)) (many row (map pair_tree pairs.now.items)) result }
+{
+    let mut total = leaf(4);
     for pair in pairs {
-        let height = greater(pat_height(&pair.0), pat_height(&pair.1));
-        greatest = greater(greatest, height);
+        let both = join(pair.0.measures(), pair.1.measures());
+        total = join(total, both);
     }
-    greatest
+    total
 }
 
-fn greater(a: u32, b: u32) -> u32
-    ensures { result ≡ max a b }
+fn fresh_measures(digest: &[u8]) -> Measures
+    ensures { IsFormMeasured of_part (leaf_of (fresh digest.now)) result }
 {
-    a.max(b)
+    Measures {
+        height: 0,
+        faults: digest_faults(digest),
+        length: plus(1, digest.len() as u64),
+    }
 }
 
-// One more, as far as a u32 goes.
-fn above(height: u32) -> u32
-    ensures { result ≡ in_u32 (height + 1) }
+fn ground_len(value: &Ground) -> u64
+    ensures { result ≡ in_u64 (size (ground_tree value.now)) }
 {
-    height.saturating_add(1)
+    match value {
+        Ground::Bool(_) => 2,
+        Ground::Int(_) => 9,
+        Ground::Str(text) => plus(5, text.as_str().len() as u64),
+        Ground::Uri(text) => plus(5, text.as_str().len() as u64),
+        Ground::Bytes(bytes) => plus(5, bytes.len() as u64),
+    }
 }

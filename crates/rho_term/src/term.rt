@@ -1,19 +1,19 @@
 ghost use Rattle.std.specs.Prelude.{◌≡◌, ◌≤◌, true, All, IfOk, MatchResult};
 ghost use Rattle.calculus.specs.Tree.{par};
 ghost use Rattle.calculus.specs.Shape.{leaf, only};
-ghost use Rattle.calculus.specs.Form.{term, part};
+ghost use Rattle.calculus.specs.Form.{term, part, pat as process_pat, name_pat};
 ghost use Rattle.calculus.specs.Size.{height};
 ghost use Rattle.rho_term.specs.Parts.{part_tree, pat_part_tree, bind_tree, term_tree, pat_tree};
 ghost use Rattle.rho_term.specs.Normal.{IsNormal, IsOrdered};
-ghost use Rattle.rho_term.specs.Measures.{in_u32, sign};
+ghost use Rattle.rho_term.specs.Measures.{in_u32};
+ghost use Rattle.rho_term.specs.Measured.{IsMeasured};
 ghost use Rattle.rho_term.specs.Sizes.{in_u64, size as code_size};
 ghost use Rattle.rho_term.specs.Faults.{faults};
 ghost use Rattle.rho_term.specs.Taken.{IsSetOf, IsNoSet, IsMapOf, IsNoMap, IsMatchOf, IsNoMatch, IsBundleOf, IsNoBundle, IsOfferedBy, IsNoSend, IsNoReceive};
 
 use crate::copy::{Copier, copy_bind, copy_part, copy_pat, copy_term};
-use crate::faults::{part_faults, parts_faults};
-use crate::lengths::{part_len, parts_len};
-use crate::measure::{parts_height, pat_parts_height};
+use crate::measure::{part_measures, parts_measures, pat_parts_measures};
+use crate::measures::Measures;
 use crate::op::Op;
 use crate::room::with_room;
 use calculus::{BinaryOp, Digest, Ground, Kind, Origin, Rights, Simple, TermRest, UnaryOp};
@@ -28,7 +28,7 @@ use std::marker::Model;
 pub struct Term {
     parts: Vec<Part>,
     height: u32,
-    fault_count: u32,
+    faults: u32,
     code_length: u64,
 }
 
@@ -38,7 +38,7 @@ impl Drop for Term {
         let Term {
             parts: _parts,
             height: _,
-            fault_count: _,
+            faults: _,
             code_length: _,
         } = self;
     }
@@ -156,13 +156,23 @@ impl Drop for Part {
 /// `NameVar`.
 #[cycle(term)]
 pub struct TermPat {
-    pub parts: Vec<PatPart>,
+    parts: Vec<PatPart>,
+    height: u32,
+    faults: u32,
+    name_faults: u32,
+    code_length: u64,
 }
 
 impl Drop for TermPat {
     #[cycle(let_go)]
     fn drop(self) {
-        let TermPat { parts: _parts } = self;
+        let TermPat {
+            parts: _parts,
+            height: _,
+            faults: _,
+            name_faults: _,
+            code_length: _,
+        } = self;
     }
 }
 
@@ -274,11 +284,11 @@ impl Model for Term {
     ghost coded = { tree_code };
 
     ghost use Rattle.rho_term.specs.Parts.{term_tree};
-    ghost use Rattle.rho_term.specs.Measured.{IsMeasured};
+    ghost use Rattle.rho_term.specs.Measured.{IsKept};
 
     ghost view = { λ a. term_tree a.parts.items };
 
-    ghost invariant = { λ a. IsMeasured (term_tree a.parts.items) a.height a.fault_count a.code_length };
+    ghost invariant = { λ a. IsKept (term_tree a.parts.items) a.height a.faults a.code_length };
 
     ghost size = { weight };
 
@@ -295,11 +305,11 @@ impl Model for TermPat {
     ghost coded = { tree_code };
 
     ghost use Rattle.rho_term.specs.Parts.{pat_tree};
-    ghost use Rattle.rho_term.specs.Normal.{IsNormal};
+    ghost use Rattle.rho_term.specs.Measured.{IsPatKept};
 
     ghost view = { λ a. pat_tree a.parts.items };
 
-    ghost invariant = { λ a. IsNormal (pat_tree a.parts.items) };
+    ghost invariant = { λ a. IsPatKept (pat_tree a.parts.items) a.height a.faults a.name_faults a.code_length };
 
     ghost size = { weight };
 
@@ -316,7 +326,7 @@ impl Term {
         Term {
             parts: Vec::new(alloc),
             height: 0,
-            fault_count: 0,
+            faults: 0,
             code_length: 4,
         }
     }
@@ -328,14 +338,12 @@ impl Term {
         requires members { All (λ p. IsOrdered (part_tree p)) parts.items }
         ensures { result ≡ term_tree parts.items }
     {
-        let height = parts_height(&parts);
-        let fault_count = parts_faults(&parts);
-        let code_length = parts_len(&parts);
+        let measures = parts_measures(&parts);
         Term {
             parts,
-            height,
-            fault_count,
-            code_length,
+            height: measures.height,
+            faults: measures.faults,
+            code_length: measures.length,
         }
     }
 
@@ -366,7 +374,7 @@ impl Term {
         let Term {
             parts,
             height: _,
-            fault_count: _,
+            faults: _,
             code_length: _,
         } = self;
         parts
@@ -395,15 +403,18 @@ impl Term {
         ensures faultless { faults term self.now ≡ 0 → result ≡ true }
         ensures normal { IsNormal self.now }
     {
-        self.fault_count == 0
+        self.faults == 0
     }
 
-    // Its faults: some where it has some. How many is not said.
-    pub(crate) fn faults(&self) -> u32
-        ensures faults { sign result ≡ sign (faults term self.now) }
-        ensures normal { IsNormal self.now }
+    // Its measures, which were taken when it was made.
+    pub(crate) fn measures(&self) -> Measures
+        ensures { IsMeasured term self.now result }
     {
-        self.fault_count
+        Measures {
+            height: self.height,
+            faults: self.faults,
+            length: self.code_length,
+        }
     }
 
     // The same process from parts that stand for the same trees.
@@ -414,7 +425,7 @@ impl Term {
         Term {
             parts,
             height: self.height,
-            fault_count: self.fault_count,
+            faults: self.faults,
             code_length: self.code_length,
         }
     }
@@ -436,8 +447,14 @@ impl TermPat {
         requires { All (λ p. IsOrdered (pat_part_tree p)) parts.items }
         ensures { result ≡ pat_tree parts.items }
     {
-        let _height = pat_parts_height(&parts);
-        TermPat { parts }
+        let (measures, name_faults) = pat_parts_measures(&parts);
+        TermPat {
+            parts,
+            height: measures.height,
+            faults: measures.faults,
+            name_faults,
+            code_length: measures.length,
+        }
     }
 
     /// The parts, in written order.
@@ -453,8 +470,35 @@ impl TermPat {
         requires { pat_tree parts.items ≡ self.now }
         ensures { result ≡ self.now }
     {
-        let _parts = self.parts();
-        TermPat { parts }
+        TermPat {
+            parts,
+            height: self.height,
+            faults: self.faults,
+            name_faults: self.name_faults,
+            code_length: self.code_length,
+        }
+    }
+
+    // Its measures as a pattern of processes, which were taken when it was made.
+    pub(crate) fn measures(&self) -> Measures
+        ensures { IsMeasured process_pat self.now result }
+    {
+        Measures {
+            height: self.height,
+            faults: self.faults,
+            length: self.code_length,
+        }
+    }
+
+    // Its measures as a pattern of names.
+    pub(crate) fn name_measures(&self) -> Measures
+        ensures { IsMeasured name_pat self.now result }
+    {
+        Measures {
+            height: self.height,
+            faults: self.name_faults,
+            length: self.code_length,
+        }
     }
 
     /// An equal pattern. Want of memory is the one error.
@@ -546,7 +590,7 @@ impl Part {
     pub fn code_len(&self) -> u64
         ensures { result ≡ in_u64 (code_size (part_tree self.now)) }
     {
-        part_len(self)
+        part_measures(self).length
     }
 
     /// Whether it is without a fault, as a process is.
@@ -555,7 +599,7 @@ impl Part {
         ensures faultless { faults part (part_tree self.now) ≡ 0 → result ≡ true }
         ensures normal { IsOrdered (part_tree self.now) → IsNormal (part_tree self.now) }
     {
-        part_faults(self) == 0
+        part_measures(self).faults == 0
     }
 }
 

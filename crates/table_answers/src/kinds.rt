@@ -11,12 +11,9 @@ pub enum Table {
 }
 
 /// The kinds of lines, each with its table.
-const KINDS: [(&str, Table); 42] = [
-    ("words", Table::Low),
+const KINDS: [(&str, Table); 39] = [
     ("tokens", Table::Low),
     ("token-count", Table::Low),
-    ("prices", Table::Low),
-    ("standard-prices", Table::Low),
     ("write-log", Table::Low),
     ("read-log", Table::Low),
     ("cuts-of-log", Table::Low),

@@ -1,6 +1,7 @@
-//! Terms and names in scope, by calls that no text spells.
+//! Terms, names in scope, bytes that differ and names of URIs, by calls that no text spells.
 #![tactic(auto)]
 
+mod calls;
 mod made_terms;
 mod maker;
 mod names;
@@ -24,5 +25,17 @@ fn put_all(alloc: Global, told: &mut String) -> Result<(), LineFault> {
         told,
         "last_of_equal_names_is_found",
         names::last_of_equal_names_is_found(alloc)?,
+    )?;
+    put_case(
+        alloc,
+        told,
+        "the_first_difference_is_found",
+        calls::the_first_difference_is_found(alloc)?,
+    )?;
+    put_case(
+        alloc,
+        told,
+        "two_uris_have_names",
+        calls::two_uris_have_names(alloc)?,
     )
 }

@@ -1,6 +1,6 @@
 -- The order of two forms of one kind, from the orders of their data and of their constituents.
-use Rattle.std.proofs.Common.{◌≡◌, ℕ, ◌<◌, ◌^◌, List, [], ◌∷◌, ◌++◌, map, length, refl, sym, ap, ◌∙◌, subst, arith, length-append, append_assoc}
-use Rattle.std.specs.Ordering.{nat_cmp, ordering_then}
+use Rattle.std.proofs.Common.{◌≡◌, ℕ, ◌<◌, ◌^◌, false, List, [], ◌∷◌, ◌++◌, map, length, refl, sym, ap, ◌∙◌, subst, arith, length-append, append_assoc}
+use Rattle.std.specs.Ordering.{nat_cmp, ordering_then, is_ne}
 use Rattle.std.specs.declared.cmp.Ordering.{Ordering}
 use Rattle.std.proofs.lemmas.List.{length-map}
 use Rattle.calculus.specs.Tree.{Label, row, rest, new, Tree, none, also, trees}
@@ -16,12 +16,16 @@ use Rattle.calculus.proofs.Formed.{Holds, length-code}
 use Rattle.calculus.proofs.Tails.{IsFine, length-text}
 use Rattle.calculus.proofs.Splitting.{head-short}
 use Rattle.term_order.specs.Orders.{Suits, ComparesAs, ThenCompares}
-use Rattle.term_order.proofs.Comparing.{then_equal, then_assoc, cmp-equal}
+use Rattle.term_order.proofs.Comparing.{undecided, then_equal, then_assoc, cmp-equal}
 use Rattle.term_order.proofs.Suiting.{SuitAll, kids_suit, first_suits, others_suit, code_is, cmp_form, cmp_tree}
 
 -- the heads of two forms stand in this order, where both are short
 abbrev pub HeadsCompare : Label → Label → ℕ → Ordering → Type 0
 HeadsCompare l m n o = length (head l n) < 2 ^ 32 → length (head m n) < 2 ^ 32 → o ≡ byte_cmp (head l n) (head m n)
+
+-- an order after one that leaves it to this
+pub follows : (o : Ordering) (s : Sort) (t u : Tree) (r : Ordering) → is_ne o ≡ false → ComparesAs s t u r → ThenCompares o s t u r
+follows o s t u r n c h k = c h k ∙ undecided o (byte_cmp (code t) (code u)) n
 
 -- two bytes of which the first are equal
 pub cmp-byte : (t x y : ℕ) (o : Ordering) → o ≡ nat_cmp x y → o ≡ byte_cmp (t ∷ x ∷ []) (t ∷ y ∷ [])

@@ -12,40 +12,6 @@ use crate::terms::{term_order, then_term};
 use rho_term::{TermBind, TermCase};
 use std::cmp::Ordering;
 
-#[cycle(order)]
-fn binds_order(xs: &[TermBind], ys: &[TermBind]) -> Ordering
-    ensures { ComparesAs (row_of a_bind) (many row (map bind_tree xs.now)) (many row (map bind_tree ys.now)) result }
-{
-    let by_number = xs.len().cmp(&ys.len());
-    if by_number.is_ne() {
-        return by_number;
-    }
-    for i in 0..xs.len() {
-        let order = bind_order(&xs[i], &ys[i]);
-        if order.is_ne() {
-            return order;
-        }
-    }
-    Ordering::Equal
-}
-
-#[cycle(order)]
-fn cases_order(xs: &[TermCase], ys: &[TermCase]) -> Ordering
-    ensures { ComparesAs (row_of a_case) (many row (map case_tree xs.now)) (many row (map case_tree ys.now)) result }
-{
-    let by_number = xs.len().cmp(&ys.len());
-    if by_number.is_ne() {
-        return by_number;
-    }
-    for i in 0..xs.len() {
-        let order = case_order(&xs[i], &ys[i]);
-        if order.is_ne() {
-            return order;
-        }
-    }
-    Ordering::Equal
-}
-
 // The channel stands first.
 #[cycle(order)]
 fn bind_order(a: &TermBind, b: &TermBind) -> Ordering
@@ -71,7 +37,17 @@ pub(crate) fn then_binds(first: Ordering, xs: &[TermBind], ys: &[TermBind]) -> O
     if first.is_ne() {
         return first;
     }
-    binds_order(xs, ys)
+    let by_number = xs.len().cmp(&ys.len());
+    if by_number.is_ne() {
+        return by_number;
+    }
+    for i in 0..xs.len() {
+        let order = bind_order(&xs[i], &ys[i]);
+        if order.is_ne() {
+            return order;
+        }
+    }
+    Ordering::Equal
 }
 
 #[cycle(order)]
@@ -81,5 +57,15 @@ pub(crate) fn then_cases(first: Ordering, xs: &[TermCase], ys: &[TermCase]) -> O
     if first.is_ne() {
         return first;
     }
-    cases_order(xs, ys)
+    let by_number = xs.len().cmp(&ys.len());
+    if by_number.is_ne() {
+        return by_number;
+    }
+    for i in 0..xs.len() {
+        let order = case_order(&xs[i], &ys[i]);
+        if order.is_ne() {
+            return order;
+        }
+    }
+    Ordering::Equal
 }

@@ -13,7 +13,7 @@ use crate::ground::{
     origins_order, rights_order, text_order, unary_op_order,
 };
 use crate::pairs::pairs_order;
-use crate::terms::{term_order, terms_order, then_term, then_terms};
+use crate::terms::{term_order, then_term, then_terms};
 use calculus::{BinaryOp, Digest, Ground, Kind, Origin, Rights, UnaryOp};
 use rho_term::{Part, Term, TermBind, TermCase};
 use std::cmp::Ordering;
@@ -129,7 +129,7 @@ fn list_order(xs: &[Term], b: &Part) -> Ordering
     ensures { ComparesAs part (many list xs.now) (part_tree b.now) result }
 {
     match b {
-        Part::List(ys) => terms_order(xs, ys),
+        Part::List(ys) => then_terms(Ordering::Equal, xs, ys),
         _ => 0x20.cmp(&part_tag(b)),
     }
 }
@@ -139,7 +139,7 @@ fn tuple_order(xs: &[Term], b: &Part) -> Ordering
     ensures { ComparesAs part (many tuple xs.now) (part_tree b.now) result }
 {
     match b {
-        Part::Tuple(ys) => terms_order(xs, ys),
+        Part::Tuple(ys) => then_terms(Ordering::Equal, xs, ys),
         _ => 0x21.cmp(&part_tag(b)),
     }
 }
@@ -149,7 +149,7 @@ fn set_order(xs: &[Term], b: &Part) -> Ordering
     ensures { ComparesAs part (many set xs.now) (part_tree b.now) result }
 {
     match b {
-        Part::Set(ys) => terms_order(xs, ys),
+        Part::Set(ys) => then_terms(Ordering::Equal, xs, ys),
         _ => 0x22.cmp(&part_tag(b)),
     }
 }

@@ -39,23 +39,6 @@ fn pat_parts_order(xs: &[PatPart], ys: &[PatPart]) -> Ordering
 }
 
 #[cycle(order)]
-fn pats_order(xs: &[TermPat], ys: &[TermPat]) -> Ordering
-    ensures { ComparesAs (row_of name_pat) (many row xs.now) (many row ys.now) result }
-{
-    let by_number = xs.len().cmp(&ys.len());
-    if by_number.is_ne() {
-        return by_number;
-    }
-    for i in 0..xs.len() {
-        let order = pat_order(&xs[i], &ys[i]);
-        if order.is_ne() {
-            return order;
-        }
-    }
-    Ordering::Equal
-}
-
-#[cycle(order)]
 fn pat_pairs_order(xs: &[(TermPat, TermPat)], ys: &[(TermPat, TermPat)]) -> Ordering
     ensures { ComparesAs (row_of (pair_of name_pat)) (many row (map pair_tree xs.now)) (many row (map pair_tree ys.now)) result }
 {
@@ -98,7 +81,17 @@ pub(crate) fn then_pats(first: Ordering, xs: &[TermPat], ys: &[TermPat]) -> Orde
     if first.is_ne() {
         return first;
     }
-    pats_order(xs, ys)
+    let by_number = xs.len().cmp(&ys.len());
+    if by_number.is_ne() {
+        return by_number;
+    }
+    for i in 0..xs.len() {
+        let order = pat_order(&xs[i], &ys[i]);
+        if order.is_ne() {
+            return order;
+        }
+    }
+    Ordering::Equal
 }
 
 #[cycle(order)]
@@ -248,7 +241,7 @@ fn list_pat_order(members: &[TermPat], remainder: TermRest, b: &PatPart) -> Orde
 {
     match b {
         PatPart::List(other_members, other_rest) => {
-            let by_members = pats_order(members, other_members);
+            let by_members = then_pats(Ordering::Equal, members, other_members);
             by_members.then(rest_order(remainder, *other_rest))
         }
         _ => 0x20.cmp(&pat_tag(b)),
@@ -260,7 +253,7 @@ fn tuple_pat_order(members: &[TermPat], b: &PatPart) -> Ordering
     ensures { ComparesAs name_part (many tuple members.now) (pat_part_tree b.now) result }
 {
     match b {
-        PatPart::Tuple(other_members) => pats_order(members, other_members),
+        PatPart::Tuple(other_members) => then_pats(Ordering::Equal, members, other_members),
         _ => 0x21.cmp(&pat_tag(b)),
     }
 }
@@ -271,7 +264,7 @@ fn set_pat_order(members: &[TermPat], remainder: TermRest, b: &PatPart) -> Order
 {
     match b {
         PatPart::Set(other_members, other_rest) => {
-            let by_members = pats_order(members, other_members);
+            let by_members = then_pats(Ordering::Equal, members, other_members);
             by_members.then(rest_order(remainder, *other_rest))
         }
         _ => 0x22.cmp(&pat_tag(b)),
@@ -333,7 +326,10 @@ fn closed_order(x: &Part, b: &PatPart) -> Ordering
     let tag = closed_tag(x);
     match b {
         PatPart::Ground(y) => part_ground_order(x, y),
-        PatPart::Closed(y) => closed_forms_order(x, y),
+        PatPart::Closed(y) => {
+            let _other_tag = closed_tag(y);
+            part_order(x, y)
+        }
         _ => tag.cmp(&pat_tag(b)),
     }
 }
@@ -345,13 +341,4 @@ fn part_ground_order(x: &Part, b: &Ground) -> Ordering
         Part::Ground(y) => ground_order(y, b),
         _ => part_tag(x).cmp(&ground_tag(b)),
     }
-}
-
-#[cycle(order)]
-fn closed_forms_order(x: &Part, y: &Part) -> Ordering
-    ensures { ComparesAs name_part (part_tree x.now) (part_tree y.now) result }
-{
-    let _tag = closed_tag(x);
-    let _other_tag = closed_tag(y);
-    part_order(x, y)
 }

@@ -26,23 +26,6 @@ pub fn term_order(a: &Term, b: &Term) -> Ordering
     parts_order(a.parts(), b.parts())
 }
 
-#[cycle(order)]
-pub(crate) fn terms_order(xs: &[Term], ys: &[Term]) -> Ordering
-    ensures { ComparesAs (row_of term) (many row xs.now) (many row ys.now) result }
-{
-    let by_number = xs.len().cmp(&ys.len());
-    if by_number.is_ne() {
-        return by_number;
-    }
-    for i in 0..xs.len() {
-        let order = term_order(&xs[i], &ys[i]);
-        if order.is_ne() {
-            return order;
-        }
-    }
-    Ordering::Equal
-}
-
 // Where the first order decides, the rest is not walked.
 #[cycle(order)]
 pub(crate) fn then_term(first: Ordering, a: &Term, b: &Term) -> Ordering
@@ -61,5 +44,15 @@ pub(crate) fn then_terms(first: Ordering, xs: &[Term], ys: &[Term]) -> Ordering
     if first.is_ne() {
         return first;
     }
-    terms_order(xs, ys)
+    let by_number = xs.len().cmp(&ys.len());
+    if by_number.is_ne() {
+        return by_number;
+    }
+    for i in 0..xs.len() {
+        let order = term_order(&xs[i], &ys[i]);
+        if order.is_ne() {
+            return order;
+        }
+    }
+    Ordering::Equal
 }

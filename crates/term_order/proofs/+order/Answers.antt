@@ -2,7 +2,7 @@ use Rattle.std.proofs.Common.{sym, ap, subst, refl, ◌∙◌, ◌≤◌, [], �
 use Rattle.std.specs.Prelude.{string_bytes}
 use Rattle.std.specs.declared.cmp.Ordering.TheVariants.{Equal}
 use Rattle.calculus.specs.Form.{term, part, a_bind, a_case, a_rest, pat, name_pat, name_part, row_of, pair_of}
-use Rattle.calculus.specs.Tree.{weight, weights, trees, par, row, tuple, set, dict, pair, send, receive, bind, new, match, case, bundle, binary, method, rest, both, either, not_this, list_pattern, set_pattern, map_pattern}
+use Rattle.calculus.specs.Tree.{weight, weights, trees, par, row, list, tuple, set, dict, pair, send, receive, bind, new, match, case, bundle, binary, method, rest, both, either, not_this, list_pattern, set_pattern, map_pattern}
 use Rattle.calculus.specs.Shape.{leaf, one, two, many}
 use Rattle.calculus.specs.Code.{byte_of}
 use Rattle.calculus.specs.Kinds.{kind_number, rights_number, binary_op_number}
@@ -11,7 +11,7 @@ use Rattle.rho_term.proofs.Trees.{weight-at, tree-at}
 use Rattle.term_order.specs.Orders.{ComparesAs, ThenCompares, IsClosedTag}
 use Rattle.term_order.proofs.Closed.{for_pat, for_pats, for_pat_pairs, as_part, closed_apart}
 use Rattle.term_order.proofs.Comparing.{equal_numbers}
-use Rattle.term_order.proofs.Forms.{one_cmp, two_cmp, three_cmp, many_cmp, then_rest, cmp-byte, cmp-tagged_text, cmp-tagged_origins, moved}
+use Rattle.term_order.proofs.Forms.{one_cmp, two_cmp, three_cmp, many_cmp, follows, then_rest, cmp-byte, cmp-tagged_text, cmp-tagged_origins, moved}
 use Rattle.term_order.proofs.Rows.{by_number, at_start, at_end, member_decides, goes_on, by_number_of, at_start_of, at_end_of, member_decides_of, goes_on_of}
 use Rattle.term_order.proofs.+order.Goals as goal
 
@@ -47,37 +47,39 @@ parts::parts_order-returns t c =
     let e = equal_numbers (length c.args.xs.now) (length c.args.ys.now) c.cmp-by_number.result c.cmp-by_number.ensures (sym c.is_ne.ensures ∙ c.if-is_ne.false) in
     at_end_of part_tree part c.args.xs.now c.args.ys.now c.loop-i.i c.loop-i.invariant c.loop-i-test.false (omega arith)
 
-pub terms::terms_order-returns-then-is_ne : goal.terms::terms_order-returns-then-is_ne
-terms::terms_order-returns-then-is_ne t c = by_number term c.args.xs.now c.args.ys.now c.cmp-by_number.result c.cmp-by_number.ensures (sym c.is_ne.ensures ∙ c.if-is_ne.true)
+pub terms::then_terms-returns-then-is_ne-2 : goal.terms::then_terms-returns-then-is_ne-2
+terms::then_terms-returns-then-is_ne-2 t c =
+    follows c.args.first (row_of term) _ _ c.cmp-by_number.result (sym c.is_ne.ensures ∙ c.if-is_ne.false) (by_number term c.args.xs.now c.args.ys.now c.cmp-by_number.result c.cmp-by_number.ensures (sym c.is_ne-2.ensures ∙ c.if-is_ne-2.true))
 
-pub terms::terms_order-loop-i-init : goal.terms::terms_order-loop-i-init
-terms::terms_order-loop-i-init t c = at_start term c.args.xs.now c.args.ys.now c.cmp-by_number.result c.cmp-by_number.ensures (sym c.is_ne.ensures ∙ c.if-is_ne.false)
+pub terms::then_terms-loop-i-init : goal.terms::then_terms-loop-i-init
+terms::then_terms-loop-i-init t c = at_start term c.args.xs.now c.args.ys.now c.cmp-by_number.result c.cmp-by_number.ensures (sym c.is_ne-2.ensures ∙ c.if-is_ne-2.false)
 
-pub terms::terms_order-term_order-order-requires : goal.terms::terms_order-term_order-order-requires
-terms::terms_order-term_order-order-requires t c =
+pub terms::then_terms-term_order-order-requires : goal.terms::then_terms-term_order-order-requires
+terms::then_terms-term_order-order-requires t c =
     let w : weight c.index-xs-i.result ≤ weights (trees c.args.xs.now) = rw c.index-xs-i.is (tree-at _ _ _ c.loop-i-test.true) in
     (omega (arith, w), tt)
 
-pub terms::terms_order-returns-then-is_ne-2 : goal.terms::terms_order-returns-then-is_ne-2
-terms::terms_order-returns-then-is_ne-2 t c =
-    let e = equal_numbers (length c.args.xs.now) (length c.args.ys.now) c.cmp-by_number.result c.cmp-by_number.ensures (sym c.is_ne.ensures ∙ c.if-is_ne.false) in
+pub terms::then_terms-returns-then-is_ne-3 : goal.terms::then_terms-returns-then-is_ne-3
+terms::then_terms-returns-then-is_ne-3 t c =
+    let e = equal_numbers (length c.args.xs.now) (length c.args.ys.now) c.cmp-by_number.result c.cmp-by_number.ensures (sym c.is_ne-2.ensures ∙ c.if-is_ne-2.false) in
     let x = c.index-xs-i in
     let y = c.index-ys-i in
-    member_decides term c.args.xs.now c.args.ys.now c.loop-i.i c.loop-i.invariant
-    x.result y.result c.loop-i-test.true (omega arith) x.is y.is c.term_order-order.result c.term_order-order.ensures (sym c.is_ne-in-loop-i.ensures ∙ c.if-is_ne-2.true)
+    follows c.args.first (row_of term) _ _ c.term_order-order.result (sym c.is_ne.ensures ∙ c.if-is_ne.false)
+    (member_decides term c.args.xs.now c.args.ys.now c.loop-i.i c.loop-i.invariant
+    x.result y.result c.loop-i-test.true (omega arith) x.is y.is c.term_order-order.result c.term_order-order.ensures (sym c.is_ne-in-loop-i.ensures ∙ c.if-is_ne-3.true))
 
-pub terms::terms_order-loop-i-preserved : goal.terms::terms_order-loop-i-preserved
-terms::terms_order-loop-i-preserved t c =
-    let e = equal_numbers (length c.args.xs.now) (length c.args.ys.now) c.cmp-by_number.result c.cmp-by_number.ensures (sym c.is_ne.ensures ∙ c.if-is_ne.false) in
+pub terms::then_terms-loop-i-preserved : goal.terms::then_terms-loop-i-preserved
+terms::then_terms-loop-i-preserved t c =
+    let e = equal_numbers (length c.args.xs.now) (length c.args.ys.now) c.cmp-by_number.result c.cmp-by_number.ensures (sym c.is_ne-2.ensures ∙ c.if-is_ne-2.false) in
     let x = c.index-xs-i in
     let y = c.index-ys-i in
     goes_on term c.args.xs.now c.args.ys.now c.loop-i.i c.loop-i.invariant
-    x.result y.result c.loop-i-test.true (omega arith) x.is y.is c.term_order-order.result c.term_order-order.ensures (sym c.is_ne-in-loop-i.ensures ∙ c.if-is_ne-2.false)
+    x.result y.result c.loop-i-test.true (omega arith) x.is y.is c.term_order-order.result c.term_order-order.ensures (sym c.is_ne-in-loop-i.ensures ∙ c.if-is_ne-3.false)
 
-pub terms::terms_order-returns : goal.terms::terms_order-returns
-terms::terms_order-returns t c =
-    let e = equal_numbers (length c.args.xs.now) (length c.args.ys.now) c.cmp-by_number.result c.cmp-by_number.ensures (sym c.is_ne.ensures ∙ c.if-is_ne.false) in
-    at_end term c.args.xs.now c.args.ys.now c.loop-i.i c.loop-i.invariant c.loop-i-test.false (omega arith)
+pub terms::then_terms-returns : goal.terms::then_terms-returns
+terms::then_terms-returns t c =
+    let e = equal_numbers (length c.args.xs.now) (length c.args.ys.now) c.cmp-by_number.result c.cmp-by_number.ensures (sym c.is_ne-2.ensures ∙ c.if-is_ne-2.false) in
+    follows c.args.first (row_of term) _ _ Equal (sym c.is_ne.ensures ∙ c.if-is_ne.false) (at_end term c.args.xs.now c.args.ys.now c.loop-i.i c.loop-i.invariant c.loop-i-test.false (omega arith))
 
 pub pairs::pairs_order-returns-then-is_ne : goal.pairs::pairs_order-returns-then-is_ne
 pairs::pairs_order-returns-then-is_ne t c = by_number_of pair_tree (pair_of term) c.args.xs.now c.args.ys.now c.cmp-by_number.result c.cmp-by_number.ensures (sym c.is_ne.ensures ∙ c.if-is_ne.true)
@@ -111,69 +113,73 @@ pairs::pairs_order-returns t c =
     let e = equal_numbers (length c.args.xs.now) (length c.args.ys.now) c.cmp-by_number.result c.cmp-by_number.ensures (sym c.is_ne.ensures ∙ c.if-is_ne.false) in
     at_end_of pair_tree (pair_of term) c.args.xs.now c.args.ys.now c.loop-i.i c.loop-i.invariant c.loop-i-test.false (omega arith)
 
-pub binds::binds_order-returns-then-is_ne : goal.binds::binds_order-returns-then-is_ne
-binds::binds_order-returns-then-is_ne t c = by_number_of bind_tree a_bind c.args.xs.now c.args.ys.now c.cmp-by_number.result c.cmp-by_number.ensures (sym c.is_ne.ensures ∙ c.if-is_ne.true)
+pub binds::then_binds-returns-then-is_ne-2 : goal.binds::then_binds-returns-then-is_ne-2
+binds::then_binds-returns-then-is_ne-2 t c =
+    follows c.args.first (row_of a_bind) _ _ c.cmp-by_number.result (sym c.is_ne.ensures ∙ c.if-is_ne.false) (by_number_of bind_tree a_bind c.args.xs.now c.args.ys.now c.cmp-by_number.result c.cmp-by_number.ensures (sym c.is_ne-2.ensures ∙ c.if-is_ne-2.true))
 
-pub binds::binds_order-loop-i-init : goal.binds::binds_order-loop-i-init
-binds::binds_order-loop-i-init t c = at_start_of bind_tree a_bind c.args.xs.now c.args.ys.now c.cmp-by_number.result c.cmp-by_number.ensures (sym c.is_ne.ensures ∙ c.if-is_ne.false)
+pub binds::then_binds-loop-i-init : goal.binds::then_binds-loop-i-init
+binds::then_binds-loop-i-init t c = at_start_of bind_tree a_bind c.args.xs.now c.args.ys.now c.cmp-by_number.result c.cmp-by_number.ensures (sym c.is_ne-2.ensures ∙ c.if-is_ne-2.false)
 
-pub binds::binds_order-bind_order-order-requires : goal.binds::binds_order-bind_order-order-requires
-binds::binds_order-bind_order-order-requires t c =
+pub binds::then_binds-bind_order-order-requires : goal.binds::then_binds-bind_order-order-requires
+binds::then_binds-bind_order-order-requires t c =
     let w : weight (bind_tree c.index-xs-i.result) ≤ weights (trees (map bind_tree c.args.xs.now)) = rw c.index-xs-i.is (weight-at bind_tree _ _ _ c.loop-i-test.true) in
     (omega (arith, w), tt)
 
-pub binds::binds_order-returns-then-is_ne-2 : goal.binds::binds_order-returns-then-is_ne-2
-binds::binds_order-returns-then-is_ne-2 t c =
-    let e = equal_numbers (length c.args.xs.now) (length c.args.ys.now) c.cmp-by_number.result c.cmp-by_number.ensures (sym c.is_ne.ensures ∙ c.if-is_ne.false) in
+pub binds::then_binds-returns-then-is_ne-3 : goal.binds::then_binds-returns-then-is_ne-3
+binds::then_binds-returns-then-is_ne-3 t c =
+    let e = equal_numbers (length c.args.xs.now) (length c.args.ys.now) c.cmp-by_number.result c.cmp-by_number.ensures (sym c.is_ne-2.ensures ∙ c.if-is_ne-2.false) in
     let x = c.index-xs-i in
     let y = c.index-ys-i in
-    member_decides_of bind_tree a_bind c.args.xs.now c.args.ys.now c.loop-i.i c.loop-i.invariant
-    x.result y.result c.loop-i-test.true (omega arith) x.is y.is c.bind_order-order.result c.bind_order-order.ensures (sym c.is_ne-in-loop-i.ensures ∙ c.if-is_ne-2.true)
+    follows c.args.first (row_of a_bind) _ _ c.bind_order-order.result (sym c.is_ne.ensures ∙ c.if-is_ne.false)
+    (member_decides_of bind_tree a_bind c.args.xs.now c.args.ys.now c.loop-i.i c.loop-i.invariant
+    x.result y.result c.loop-i-test.true (omega arith) x.is y.is c.bind_order-order.result c.bind_order-order.ensures (sym c.is_ne-in-loop-i.ensures ∙ c.if-is_ne-3.true))
 
-pub binds::binds_order-loop-i-preserved : goal.binds::binds_order-loop-i-preserved
-binds::binds_order-loop-i-preserved t c =
-    let e = equal_numbers (length c.args.xs.now) (length c.args.ys.now) c.cmp-by_number.result c.cmp-by_number.ensures (sym c.is_ne.ensures ∙ c.if-is_ne.false) in
+pub binds::then_binds-loop-i-preserved : goal.binds::then_binds-loop-i-preserved
+binds::then_binds-loop-i-preserved t c =
+    let e = equal_numbers (length c.args.xs.now) (length c.args.ys.now) c.cmp-by_number.result c.cmp-by_number.ensures (sym c.is_ne-2.ensures ∙ c.if-is_ne-2.false) in
     let x = c.index-xs-i in
     let y = c.index-ys-i in
     goes_on_of bind_tree a_bind c.args.xs.now c.args.ys.now c.loop-i.i c.loop-i.invariant
-    x.result y.result c.loop-i-test.true (omega arith) x.is y.is c.bind_order-order.result c.bind_order-order.ensures (sym c.is_ne-in-loop-i.ensures ∙ c.if-is_ne-2.false)
+    x.result y.result c.loop-i-test.true (omega arith) x.is y.is c.bind_order-order.result c.bind_order-order.ensures (sym c.is_ne-in-loop-i.ensures ∙ c.if-is_ne-3.false)
 
-pub binds::binds_order-returns : goal.binds::binds_order-returns
-binds::binds_order-returns t c =
-    let e = equal_numbers (length c.args.xs.now) (length c.args.ys.now) c.cmp-by_number.result c.cmp-by_number.ensures (sym c.is_ne.ensures ∙ c.if-is_ne.false) in
-    at_end_of bind_tree a_bind c.args.xs.now c.args.ys.now c.loop-i.i c.loop-i.invariant c.loop-i-test.false (omega arith)
+pub binds::then_binds-returns : goal.binds::then_binds-returns
+binds::then_binds-returns t c =
+    let e = equal_numbers (length c.args.xs.now) (length c.args.ys.now) c.cmp-by_number.result c.cmp-by_number.ensures (sym c.is_ne-2.ensures ∙ c.if-is_ne-2.false) in
+    follows c.args.first (row_of a_bind) _ _ Equal (sym c.is_ne.ensures ∙ c.if-is_ne.false) (at_end_of bind_tree a_bind c.args.xs.now c.args.ys.now c.loop-i.i c.loop-i.invariant c.loop-i-test.false (omega arith))
 
-pub binds::cases_order-returns-then-is_ne : goal.binds::cases_order-returns-then-is_ne
-binds::cases_order-returns-then-is_ne t c = by_number_of case_tree a_case c.args.xs.now c.args.ys.now c.cmp-by_number.result c.cmp-by_number.ensures (sym c.is_ne.ensures ∙ c.if-is_ne.true)
+pub binds::then_cases-returns-then-is_ne-2 : goal.binds::then_cases-returns-then-is_ne-2
+binds::then_cases-returns-then-is_ne-2 t c =
+    follows c.args.first (row_of a_case) _ _ c.cmp-by_number.result (sym c.is_ne.ensures ∙ c.if-is_ne.false) (by_number_of case_tree a_case c.args.xs.now c.args.ys.now c.cmp-by_number.result c.cmp-by_number.ensures (sym c.is_ne-2.ensures ∙ c.if-is_ne-2.true))
 
-pub binds::cases_order-loop-i-init : goal.binds::cases_order-loop-i-init
-binds::cases_order-loop-i-init t c = at_start_of case_tree a_case c.args.xs.now c.args.ys.now c.cmp-by_number.result c.cmp-by_number.ensures (sym c.is_ne.ensures ∙ c.if-is_ne.false)
+pub binds::then_cases-loop-i-init : goal.binds::then_cases-loop-i-init
+binds::then_cases-loop-i-init t c = at_start_of case_tree a_case c.args.xs.now c.args.ys.now c.cmp-by_number.result c.cmp-by_number.ensures (sym c.is_ne-2.ensures ∙ c.if-is_ne-2.false)
 
-pub binds::cases_order-case_order-order-requires : goal.binds::cases_order-case_order-order-requires
-binds::cases_order-case_order-order-requires t c =
+pub binds::then_cases-case_order-order-requires : goal.binds::then_cases-case_order-order-requires
+binds::then_cases-case_order-order-requires t c =
     let w : weight (case_tree c.index-xs-i.result) ≤ weights (trees (map case_tree c.args.xs.now)) = rw c.index-xs-i.is (weight-at case_tree _ _ _ c.loop-i-test.true) in
     (omega (arith, w), tt)
 
-pub binds::cases_order-returns-then-is_ne-2 : goal.binds::cases_order-returns-then-is_ne-2
-binds::cases_order-returns-then-is_ne-2 t c =
-    let e = equal_numbers (length c.args.xs.now) (length c.args.ys.now) c.cmp-by_number.result c.cmp-by_number.ensures (sym c.is_ne.ensures ∙ c.if-is_ne.false) in
+pub binds::then_cases-returns-then-is_ne-3 : goal.binds::then_cases-returns-then-is_ne-3
+binds::then_cases-returns-then-is_ne-3 t c =
+    let e = equal_numbers (length c.args.xs.now) (length c.args.ys.now) c.cmp-by_number.result c.cmp-by_number.ensures (sym c.is_ne-2.ensures ∙ c.if-is_ne-2.false) in
     let x = c.index-xs-i in
     let y = c.index-ys-i in
-    member_decides_of case_tree a_case c.args.xs.now c.args.ys.now c.loop-i.i c.loop-i.invariant
-    x.result y.result c.loop-i-test.true (omega arith) x.is y.is c.case_order-order.result c.case_order-order.ensures (sym c.is_ne-in-loop-i.ensures ∙ c.if-is_ne-2.true)
+    follows c.args.first (row_of a_case) _ _ c.case_order-order.result (sym c.is_ne.ensures ∙ c.if-is_ne.false)
+    (member_decides_of case_tree a_case c.args.xs.now c.args.ys.now c.loop-i.i c.loop-i.invariant
+    x.result y.result c.loop-i-test.true (omega arith) x.is y.is c.case_order-order.result c.case_order-order.ensures (sym c.is_ne-in-loop-i.ensures ∙ c.if-is_ne-3.true))
 
-pub binds::cases_order-loop-i-preserved : goal.binds::cases_order-loop-i-preserved
-binds::cases_order-loop-i-preserved t c =
-    let e = equal_numbers (length c.args.xs.now) (length c.args.ys.now) c.cmp-by_number.result c.cmp-by_number.ensures (sym c.is_ne.ensures ∙ c.if-is_ne.false) in
+pub binds::then_cases-loop-i-preserved : goal.binds::then_cases-loop-i-preserved
+binds::then_cases-loop-i-preserved t c =
+    let e = equal_numbers (length c.args.xs.now) (length c.args.ys.now) c.cmp-by_number.result c.cmp-by_number.ensures (sym c.is_ne-2.ensures ∙ c.if-is_ne-2.false) in
     let x = c.index-xs-i in
     let y = c.index-ys-i in
     goes_on_of case_tree a_case c.args.xs.now c.args.ys.now c.loop-i.i c.loop-i.invariant
-    x.result y.result c.loop-i-test.true (omega arith) x.is y.is c.case_order-order.result c.case_order-order.ensures (sym c.is_ne-in-loop-i.ensures ∙ c.if-is_ne-2.false)
+    x.result y.result c.loop-i-test.true (omega arith) x.is y.is c.case_order-order.result c.case_order-order.ensures (sym c.is_ne-in-loop-i.ensures ∙ c.if-is_ne-3.false)
 
-pub binds::cases_order-returns : goal.binds::cases_order-returns
-binds::cases_order-returns t c =
-    let e = equal_numbers (length c.args.xs.now) (length c.args.ys.now) c.cmp-by_number.result c.cmp-by_number.ensures (sym c.is_ne.ensures ∙ c.if-is_ne.false) in
-    at_end_of case_tree a_case c.args.xs.now c.args.ys.now c.loop-i.i c.loop-i.invariant c.loop-i-test.false (omega arith)
+pub binds::then_cases-returns : goal.binds::then_cases-returns
+binds::then_cases-returns t c =
+    let e = equal_numbers (length c.args.xs.now) (length c.args.ys.now) c.cmp-by_number.result c.cmp-by_number.ensures (sym c.is_ne-2.ensures ∙ c.if-is_ne-2.false) in
+    follows c.args.first (row_of a_case) _ _ Equal (sym c.is_ne.ensures ∙ c.if-is_ne.false) (at_end_of case_tree a_case c.args.xs.now c.args.ys.now c.loop-i.i c.loop-i.invariant c.loop-i-test.false (omega arith))
 
 pub patterns::pat_parts_order-returns-then-is_ne : goal.patterns::pat_parts_order-returns-then-is_ne
 patterns::pat_parts_order-returns-then-is_ne t c = by_number_of pat_part_tree name_part c.args.xs.now c.args.ys.now c.cmp-by_number.result c.cmp-by_number.ensures (sym c.is_ne.ensures ∙ c.if-is_ne.true)
@@ -207,37 +213,39 @@ patterns::pat_parts_order-returns t c =
     let e = equal_numbers (length c.args.xs.now) (length c.args.ys.now) c.cmp-by_number.result c.cmp-by_number.ensures (sym c.is_ne.ensures ∙ c.if-is_ne.false) in
     at_end_of pat_part_tree name_part c.args.xs.now c.args.ys.now c.loop-i.i c.loop-i.invariant c.loop-i-test.false (omega arith)
 
-pub patterns::pats_order-returns-then-is_ne : goal.patterns::pats_order-returns-then-is_ne
-patterns::pats_order-returns-then-is_ne t c = by_number name_pat c.args.xs.now c.args.ys.now c.cmp-by_number.result c.cmp-by_number.ensures (sym c.is_ne.ensures ∙ c.if-is_ne.true)
+pub patterns::then_pats-returns-then-is_ne-2 : goal.patterns::then_pats-returns-then-is_ne-2
+patterns::then_pats-returns-then-is_ne-2 t c =
+    follows c.args.first (row_of name_pat) _ _ c.cmp-by_number.result (sym c.is_ne.ensures ∙ c.if-is_ne.false) (by_number name_pat c.args.xs.now c.args.ys.now c.cmp-by_number.result c.cmp-by_number.ensures (sym c.is_ne-2.ensures ∙ c.if-is_ne-2.true))
 
-pub patterns::pats_order-loop-i-init : goal.patterns::pats_order-loop-i-init
-patterns::pats_order-loop-i-init t c = at_start name_pat c.args.xs.now c.args.ys.now c.cmp-by_number.result c.cmp-by_number.ensures (sym c.is_ne.ensures ∙ c.if-is_ne.false)
+pub patterns::then_pats-loop-i-init : goal.patterns::then_pats-loop-i-init
+patterns::then_pats-loop-i-init t c = at_start name_pat c.args.xs.now c.args.ys.now c.cmp-by_number.result c.cmp-by_number.ensures (sym c.is_ne-2.ensures ∙ c.if-is_ne-2.false)
 
-pub patterns::pats_order-pat_order-order-requires : goal.patterns::pats_order-pat_order-order-requires
-patterns::pats_order-pat_order-order-requires t c =
+pub patterns::then_pats-pat_order-order-requires : goal.patterns::then_pats-pat_order-order-requires
+patterns::then_pats-pat_order-order-requires t c =
     let w : weight c.index-xs-i.result ≤ weights (trees c.args.xs.now) = rw c.index-xs-i.is (tree-at _ _ _ c.loop-i-test.true) in
     (omega (arith, w), tt)
 
-pub patterns::pats_order-returns-then-is_ne-2 : goal.patterns::pats_order-returns-then-is_ne-2
-patterns::pats_order-returns-then-is_ne-2 t c =
-    let e = equal_numbers (length c.args.xs.now) (length c.args.ys.now) c.cmp-by_number.result c.cmp-by_number.ensures (sym c.is_ne.ensures ∙ c.if-is_ne.false) in
+pub patterns::then_pats-returns-then-is_ne-3 : goal.patterns::then_pats-returns-then-is_ne-3
+patterns::then_pats-returns-then-is_ne-3 t c =
+    let e = equal_numbers (length c.args.xs.now) (length c.args.ys.now) c.cmp-by_number.result c.cmp-by_number.ensures (sym c.is_ne-2.ensures ∙ c.if-is_ne-2.false) in
     let x = c.index-xs-i in
     let y = c.index-ys-i in
-    member_decides name_pat c.args.xs.now c.args.ys.now c.loop-i.i c.loop-i.invariant
-    x.result y.result c.loop-i-test.true (omega arith) x.is y.is c.pat_order-order.result c.pat_order-order.ensures (sym c.is_ne-in-loop-i.ensures ∙ c.if-is_ne-2.true)
+    follows c.args.first (row_of name_pat) _ _ c.pat_order-order.result (sym c.is_ne.ensures ∙ c.if-is_ne.false)
+    (member_decides name_pat c.args.xs.now c.args.ys.now c.loop-i.i c.loop-i.invariant
+    x.result y.result c.loop-i-test.true (omega arith) x.is y.is c.pat_order-order.result c.pat_order-order.ensures (sym c.is_ne-in-loop-i.ensures ∙ c.if-is_ne-3.true))
 
-pub patterns::pats_order-loop-i-preserved : goal.patterns::pats_order-loop-i-preserved
-patterns::pats_order-loop-i-preserved t c =
-    let e = equal_numbers (length c.args.xs.now) (length c.args.ys.now) c.cmp-by_number.result c.cmp-by_number.ensures (sym c.is_ne.ensures ∙ c.if-is_ne.false) in
+pub patterns::then_pats-loop-i-preserved : goal.patterns::then_pats-loop-i-preserved
+patterns::then_pats-loop-i-preserved t c =
+    let e = equal_numbers (length c.args.xs.now) (length c.args.ys.now) c.cmp-by_number.result c.cmp-by_number.ensures (sym c.is_ne-2.ensures ∙ c.if-is_ne-2.false) in
     let x = c.index-xs-i in
     let y = c.index-ys-i in
     goes_on name_pat c.args.xs.now c.args.ys.now c.loop-i.i c.loop-i.invariant
-    x.result y.result c.loop-i-test.true (omega arith) x.is y.is c.pat_order-order.result c.pat_order-order.ensures (sym c.is_ne-in-loop-i.ensures ∙ c.if-is_ne-2.false)
+    x.result y.result c.loop-i-test.true (omega arith) x.is y.is c.pat_order-order.result c.pat_order-order.ensures (sym c.is_ne-in-loop-i.ensures ∙ c.if-is_ne-3.false)
 
-pub patterns::pats_order-returns : goal.patterns::pats_order-returns
-patterns::pats_order-returns t c =
-    let e = equal_numbers (length c.args.xs.now) (length c.args.ys.now) c.cmp-by_number.result c.cmp-by_number.ensures (sym c.is_ne.ensures ∙ c.if-is_ne.false) in
-    at_end name_pat c.args.xs.now c.args.ys.now c.loop-i.i c.loop-i.invariant c.loop-i-test.false (omega arith)
+pub patterns::then_pats-returns : goal.patterns::then_pats-returns
+patterns::then_pats-returns t c =
+    let e = equal_numbers (length c.args.xs.now) (length c.args.ys.now) c.cmp-by_number.result c.cmp-by_number.ensures (sym c.is_ne-2.ensures ∙ c.if-is_ne-2.false) in
+    follows c.args.first (row_of name_pat) _ _ Equal (sym c.is_ne.ensures ∙ c.if-is_ne.false) (at_end name_pat c.args.xs.now c.args.ys.now c.loop-i.i c.loop-i.invariant c.loop-i-test.false (omega arith))
 
 pub patterns::pat_pairs_order-returns-then-is_ne : goal.patterns::pat_pairs_order-returns-then-is_ne
 patterns::pat_pairs_order-returns-then-is_ne t c = by_number_of pair_tree (pair_of name_pat) c.args.xs.now c.args.ys.now c.cmp-by_number.result c.cmp-by_number.ensures (sym c.is_ne.ensures ∙ c.if-is_ne.true)
@@ -277,10 +285,20 @@ terms::term_order-returns t c =
     let f = subst (λ x. ComparesAs term x (many par (map part_tree c.parts-2.result.now)) c.parts_order.result) (sym c.parts.ensures.parts) e in
     moved term c.args.a.now _ _ c.parts_order.result (sym c.parts-2.ensures.parts) f
 
+pub parts::list_order-returns-in-List : goal.parts::list_order-returns-in-List
+parts::list_order-returns-in-List t c =
+    let e = many_cmp part term list (0x20 ∷ []) refl (λ n. refl) c.args.xs.now c.deref.result.now c.then_terms.result c.then_terms.ensures in
+    moved part _ _ _ c.then_terms.result (ap (λ zs. many list zs) c.deref.ensures.value ∙ sym (ap part_tree c.in-List.is)) e
+
+pub parts::tuple_order-returns-in-Tuple : goal.parts::tuple_order-returns-in-Tuple
+parts::tuple_order-returns-in-Tuple t c =
+    let e = many_cmp part term tuple (0x21 ∷ []) refl (λ n. refl) c.args.xs.now c.deref.result.now c.then_terms.result c.then_terms.ensures in
+    moved part _ _ _ c.then_terms.result (ap (λ zs. many tuple zs) c.deref.ensures.value ∙ sym (ap part_tree c.in-Tuple.is)) e
+
 pub parts::set_order-returns-in-Set : goal.parts::set_order-returns-in-Set
 parts::set_order-returns-in-Set t c =
-    let e = many_cmp part term set (0x22 ∷ []) refl (λ n. refl) c.args.xs.now c.deref.result.now c.terms_order.result c.terms_order.ensures in
-    moved part _ _ _ c.terms_order.result (ap (λ zs. many set zs) c.deref.ensures.value ∙ sym (ap part_tree c.in-Set.is)) e
+    let e = many_cmp part term set (0x22 ∷ []) refl (λ n. refl) c.args.xs.now c.deref.result.now c.then_terms.result c.then_terms.ensures in
+    moved part _ _ _ c.then_terms.result (ap (λ zs. many set zs) c.deref.ensures.value ∙ sym (ap part_tree c.in-Set.is)) e
 
 pub parts::map_order-returns-in-Map : goal.parts::map_order-returns-in-Map
 parts::map_order-returns-in-Map t c =
@@ -374,8 +392,8 @@ pub patterns::tuple_pat_order-returns-in-Tuple : goal.patterns::tuple_pat_order-
 patterns::tuple_pat_order-returns-in-Tuple t c =
     let xs = c.args.members.now in
     let ys = c.deref.result.now in
-    let r = c.pats_order.result in
-    let e = many_cmp name_part pat tuple (0x21 ∷ []) refl (λ n. refl) xs ys r (for_pats Equal (many row xs) (many row ys) r c.pats_order.ensures) in
+    let r = c.then_pats.result in
+    let e = many_cmp name_part pat tuple (0x21 ∷ []) refl (λ n. refl) xs ys r (for_pats Equal (many row xs) (many row ys) r c.then_pats.ensures) in
     moved name_part _ _ _ r (ap (λ zs. many tuple zs) c.deref.ensures.value ∙ sym (ap pat_part_tree c.in-Tuple.is)) e
 
 pub patterns::both_order-returns-in-Both : goal.patterns::both_order-returns-in-Both
@@ -430,20 +448,20 @@ pub patterns::list_pat_order-returns-in-List : goal.patterns::list_pat_order-ret
 patterns::list_pat_order-returns-in-List t c =
     let p = c.args.remainder in
     let q = c.in-List.other_rest in
-    let o = c.pats_order-by_members.result in
+    let o = c.then_pats-by_members.result in
     let r = c.then.result in
     let e = two_cmp name_part (row_of pat) a_rest list_pattern list_pattern (many row c.args.members.now) (leaf (rest p)) (many row c.deref.result.now) (leaf (rest q)) Equal o r refl refl
-    (λ a b. refl) (for_pats Equal _ _ o c.pats_order-by_members.ensures) (then_rest o c.rest_order.result r p q c.then.ensures c.rest_order.ensures) in
+    (λ a b. refl) (for_pats Equal _ _ o c.then_pats-by_members.ensures) (then_rest o c.rest_order.result r p q c.then.ensures c.rest_order.ensures) in
     moved name_part _ _ _ r (ap (λ zs. two list_pattern (many row zs) (leaf (rest q))) c.deref.ensures.value ∙ sym (ap pat_part_tree c.in-List.is)) e
 
 pub patterns::set_pat_order-returns-in-Set : goal.patterns::set_pat_order-returns-in-Set
 patterns::set_pat_order-returns-in-Set t c =
     let p = c.args.remainder in
     let q = c.in-Set.other_rest in
-    let o = c.pats_order-by_members.result in
+    let o = c.then_pats-by_members.result in
     let r = c.then.result in
     let e = two_cmp name_part (row_of pat) a_rest set_pattern set_pattern (many row c.args.members.now) (leaf (rest p)) (many row c.deref.result.now) (leaf (rest q)) Equal o r refl refl
-    (λ a b. refl) (for_pats Equal _ _ o c.pats_order-by_members.ensures) (then_rest o c.rest_order.result r p q c.then.ensures c.rest_order.ensures) in
+    (λ a b. refl) (for_pats Equal _ _ o c.then_pats-by_members.ensures) (then_rest o c.rest_order.result r p q c.then.ensures c.rest_order.ensures) in
     moved name_part _ _ _ r (ap (λ zs. two set_pattern (many row zs) (leaf (rest q))) c.deref.ensures.value ∙ sym (ap pat_part_tree c.in-Set.is)) e
 
 pub patterns::map_pat_order-returns-in-Map : goal.patterns::map_pat_order-returns-in-Map
@@ -456,13 +474,15 @@ patterns::map_pat_order-returns-in-Map t c =
     (λ a b. refl) (for_pat_pairs Equal _ _ o c.pat_pairs_order-by_pairs.ensures) (then_rest o c.rest_order.result r p q c.then.ensures c.rest_order.ensures) in
     moved name_part _ _ _ r (ap (λ zs. two map_pattern (many row (map pair_tree zs)) (leaf (rest q))) c.deref.ensures.value ∙ sym (ap pat_part_tree c.in-Map.is)) e
 
-pub patterns::closed_forms_order-returns : goal.patterns::closed_forms_order-returns
-patterns::closed_forms_order-returns t c =
+pub patterns::closed_order-returns-in-Closed : goal.patterns::closed_order-returns-in-Closed
+patterns::closed_order-returns-in-Closed t c =
     let x = c.args.x.now in
-    let y = c.args.y.now in
+    let y = c.in-Closed.y in
+    let r = c.part_order.result in
     let f = c.closed_tag-tag.ensures in
     let g = c.closed_tag-other_tag.ensures in
-    λ h k. c.part_order.ensures (as_part x (subst IsClosedTag f.is (f.own h)) h) (as_part y (subst IsClosedTag g.is (g.own k)) k)
+    let e : ComparesAs name_part (part_tree x) (part_tree y) r = λ h k. c.part_order.ensures (as_part x (subst IsClosedTag f.is (f.own h)) h) (as_part y (subst IsClosedTag g.is (g.own k)) k) in
+    moved name_part _ _ _ r (sym (ap pat_part_tree c.in-Closed.is)) e
 
 pub patterns::closed_order-returns-in_default : goal.patterns::closed_order-returns-in_default
 patterns::closed_order-returns-in_default t c =

@@ -15,11 +15,8 @@ decreases-parts::parts_order l = 8 * weight (many row (map part_tree l.xs.now))
 abbrev pub decreases-terms::term_order : goal.decreases-terms::term_order
 decreases-terms::term_order l = 8 * weight l.a.now + 1
 
-abbrev pub invariant-terms::terms_order-loop-i : goal.invariant-terms::terms_order-loop-i
-invariant-terms::terms_order-loop-i l = Reaches term l.xs l.ys l.i
-
-abbrev pub decreases-terms::terms_order : goal.decreases-terms::terms_order
-decreases-terms::terms_order l = 8 * weight (many row l.xs.now)
+abbrev pub invariant-terms::then_terms-loop-i : goal.invariant-terms::then_terms-loop-i
+invariant-terms::then_terms-loop-i l = Reaches term l.xs l.ys l.i
 
 abbrev pub invariant-pairs::pairs_order-loop-i : goal.invariant-pairs::pairs_order-loop-i
 invariant-pairs::pairs_order-loop-i l = Reaches (pair_of term) (map pair_tree l.xs) (map pair_tree l.ys) l.i
@@ -36,17 +33,11 @@ decreases-terms::then_term l = 8 * weight l.a.now + 2
 abbrev pub decreases-terms::then_terms : goal.decreases-terms::then_terms
 decreases-terms::then_terms l = 8 * weight (many row l.xs.now) + 1
 
-abbrev pub invariant-binds::binds_order-loop-i : goal.invariant-binds::binds_order-loop-i
-invariant-binds::binds_order-loop-i l = Reaches a_bind (map bind_tree l.xs) (map bind_tree l.ys) l.i
+abbrev pub invariant-binds::then_binds-loop-i : goal.invariant-binds::then_binds-loop-i
+invariant-binds::then_binds-loop-i l = Reaches a_bind (map bind_tree l.xs) (map bind_tree l.ys) l.i
 
-abbrev pub decreases-binds::binds_order : goal.decreases-binds::binds_order
-decreases-binds::binds_order l = 8 * weight (many row (map bind_tree l.xs.now))
-
-abbrev pub invariant-binds::cases_order-loop-i : goal.invariant-binds::cases_order-loop-i
-invariant-binds::cases_order-loop-i l = Reaches a_case (map case_tree l.xs) (map case_tree l.ys) l.i
-
-abbrev pub decreases-binds::cases_order : goal.decreases-binds::cases_order
-decreases-binds::cases_order l = 8 * weight (many row (map case_tree l.xs.now))
+abbrev pub invariant-binds::then_cases-loop-i : goal.invariant-binds::then_cases-loop-i
+invariant-binds::then_cases-loop-i l = Reaches a_case (map case_tree l.xs) (map case_tree l.ys) l.i
 
 abbrev pub decreases-binds::bind_order : goal.decreases-binds::bind_order
 decreases-binds::bind_order l = 8 * weight (bind_tree l.a.now)
@@ -108,11 +99,8 @@ decreases-patterns::pat_parts_order l = 8 * weight (many row (map pat_part_tree 
 abbrev pub decreases-patterns::pat_order : goal.decreases-patterns::pat_order
 decreases-patterns::pat_order l = 8 * weight l.a.now + 1
 
-abbrev pub invariant-patterns::pats_order-loop-i : goal.invariant-patterns::pats_order-loop-i
-invariant-patterns::pats_order-loop-i l = Reaches name_pat l.xs l.ys l.i
-
-abbrev pub decreases-patterns::pats_order : goal.decreases-patterns::pats_order
-decreases-patterns::pats_order l = 8 * weight (many row l.xs.now)
+abbrev pub invariant-patterns::then_pats-loop-i : goal.invariant-patterns::then_pats-loop-i
+invariant-patterns::then_pats-loop-i l = Reaches name_pat l.xs l.ys l.i
 
 abbrev pub invariant-patterns::pat_pairs_order-loop-i : goal.invariant-patterns::pat_pairs_order-loop-i
 invariant-patterns::pat_pairs_order-loop-i l = Reaches (pair_of name_pat) (map pair_tree l.xs) (map pair_tree l.ys) l.i
@@ -164,6 +152,3 @@ decreases-patterns::bundle_pat_order l = 8 * weight (one (bundle l.rights) l.bod
 
 abbrev pub decreases-patterns::closed_order : goal.decreases-patterns::closed_order
 decreases-patterns::closed_order l = 8 * weight (part_tree l.x.now) + 5
-
-abbrev pub decreases-patterns::closed_forms_order : goal.decreases-patterns::closed_forms_order
-decreases-patterns::closed_forms_order l = 8 * weight (part_tree l.x.now) + 4

@@ -1,6 +1,6 @@
 use Rattle.std.proofs.Common.{◌≡◌, map}
-use Rattle.code_order.specs.Made.{beside, with_code}
+use Rattle.code_order.specs.Made.{beside, keyed_by}
 use Rattle.code_order.proofs.order.with_codes.Given as goal
 
-abbrev pub invariant-loop-term : goal.invariant-loop-term
-invariant-loop-term l = map beside l.keyed.items ≡ map with_code l.yielded
+abbrev pub invariant-loop-item : goal.invariant-loop-item
+invariant-loop-item g l = map beside l.keyed.items ≡ keyed_by g.T.HasCode.bytes l.yielded

@@ -1,16 +1,13 @@
-use Rattle.std.proofs.Common.{◌≡◌, pos, rules, sym, subst}
+use Rattle.std.proofs.Common.{sym, ap, ◌∙◌}
+use Rattle.calculus.specs.Operators.{seen}
 use Rattle.calculus.specs.Outcome.{gives}
-use Rattle.value_ops.specs.Answers.{Answers}
-use Rattle.coll_ops.proofs.Listing.{at-place, past-end}
+use Rattle.value_ops.proofs.Arguments.{index_inside, index_outside}
 use Rattle.coll_ops.proofs.lists.nth.Goals as goal
 
-pub returns-then-place-members : goal.returns-then-place-members
-returns-then-place-members c =
-    let e : c.in-Some.number ≡ pos c.in-Some-place_of.place = search rules in
-    past-end _ _ _ _ c.in-Some.ensures e c.if-place-members.true
+pub returns-then-index-members : goal.returns-then-index-members
+returns-then-index-members c = index_outside (λ t. t) c.args.members.now (seen c.args.index.now) c.in_ok-index.index (sym c.in_ok-index.ensures) c.if-index-members.true
 
 pub returns : goal.returns
-returns c =
-    let e : c.in-Some.number ≡ pos c.in-Some-place_of.place = search rules in
-    subst (λ a. Answers a c.copy_value.result)
-    (sym (at-place _ _ _ _ c.index-members-place.result c.in-Some.ensures e c.if-place-members.false c.index-members-place.is)) c.copy_value.ensures
+returns c = λ h.
+    index_inside (λ t. t) c.args.members.now (seen c.args.index.now) c.in_ok-index.index c.index-members-index.result (sym c.in_ok-index.ensures) c.if-index-members.false c.index-members-index.is
+    ∙ sym (ap gives (c.copy.ensures h).1)

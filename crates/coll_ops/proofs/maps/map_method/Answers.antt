@@ -1,29 +1,43 @@
-use Rattle.std.proofs.Common.{[], ◌∷◌, map, ap, ◌∙◌}
+use Rattle.std.proofs.Common.{◌≡◌, ◌<◌, [], ◌∷◌, length, map, arith}
 use Rattle.calculus.specs.Operators.{a_map}
+use Rattle.calculus.specs.Methods.{methods}
 use Rattle.rho_term.specs.Parts.{pair_tree}
-use Rattle.coll_ops.specs.declared.names.Name.TheVariants as name
-use Rattle.coll_ops.specs.Names.{takes_of}
-use Rattle.coll_ops.proofs.Arguments.{named, map-none}
-use Rattle.coll_ops.proofs.Steps.{empty}
+use Rattle.value_ops.specs.Answers.{IsOperand}
+use Rattle.coll_ops.proofs.Arguments.{map-takes, none-given, on-given, one-given, two-given}
+use Rattle.coll_ops.proofs.Comparing.{read}
+use Rattle.coll_ops.proofs.Viewing.{map-value}
 use Rattle.coll_ops.proofs.maps.map_method.Goals as goal
 
-pub returns-in-Contains : goal.returns-in-Contains
-returns-in-Contains c = named c.args.name name.Contains c.args.args.now (c.only_argument.result.now ∷ []) (a_map (map pair_tree c.args.pairs.now)) c.contains.result c.in-Contains.is c.only_argument.ensures c.contains.ensures
+pub map_plainly-requires : goal.map_plainly-requires
+map_plainly-requires c = map-value c.args.target.now c.args.pairs.now c.requires.target c.requires.value
 
-pub returns-in-Get : goal.returns-in-Get
-returns-in-Get c = named c.args.name name.Get c.args.args.now (c.only_argument-in-Get.result.now ∷ []) (a_map (map pair_tree c.args.pairs.now)) c.get.result c.in-Get.is c.only_argument-in-Get.ensures c.get.ensures
+pub map_given-requires-clause-argument : goal.map_given-requires-clause-argument
+map_given-requires-clause-argument c =
+    let h : 0 < length c.args.args.now = omega arith in
+    read IsOperand c.args.args.now 0 c.key-item.result h c.key-item.is c.requires.args
 
-pub returns-in-Delete : goal.returns-in-Delete
-returns-in-Delete c = named c.args.name name.Delete c.args.args.now (c.only_argument-in-Delete.result.now ∷ []) (a_map (map pair_tree c.args.pairs.now)) c.without_key.result c.in-Delete.is c.only_argument-in-Delete.ensures c.without_key.ensures
+pub map_given_two-requires : goal.map_given_two-requires
+map_given_two-requires c =
+    let h : 0 < length c.args.args.now = omega arith in
+    (map-value c.args.target.now c.args.pairs.now c.requires.target c.requires.value, read IsOperand c.args.args.now 0 c.key-item-then-args-lt3.result h c.key-item-then-args-lt3.is c.requires.args)
 
-pub returns-in-Union : goal.returns-in-Union
-returns-in-Union c = named c.args.name name.Union c.args.args.now (c.only_argument-in-Union.result.now ∷ []) (a_map (map pair_tree c.args.pairs.now)) c.map_union.result c.in-Union.is c.only_argument-in-Union.ensures c.map_union.ensures
+pub returns-in-empty : goal.returns-in-empty
+returns-in-empty c =
+    let e : length c.args.args.now ≡ 0 = omega arith in
+    on-given _ c.args.name.now c.args.args.now [] (methods (a_map (map pair_tree c.args.pairs.now))) c.map_plainly.result (none-given c.args.args.now e) c.map_plainly.ensures
 
-pub returns-in-Keys : goal.returns-in-Keys
-returns-in-Keys c = named c.args.name name.Keys c.args.args.now [] (a_map (map pair_tree c.args.pairs.now)) c.keys.result c.in-Keys.is (empty c.args.args.now (c.requires.takes ∙ ap takes_of c.in-Keys.is)) c.keys.ensures
+pub returns-in-len1 : goal.returns-in-len1
+returns-in-len1 c =
+    let e : length c.args.args.now ≡ 1 = omega arith in
+    on-given _ c.args.name.now c.args.args.now (c.key-item.result ∷ []) (methods (a_map (map pair_tree c.args.pairs.now))) c.map_given.result (one-given c.args.args.now c.key-item.result e c.key-item.is) c.map_given.ensures
 
-pub returns-in-ToList : goal.returns-in-ToList
-returns-in-ToList c = named c.args.name name.ToList c.args.args.now [] (a_map (map pair_tree c.args.pairs.now)) c.to_list.result c.in-ToList.is (empty c.args.args.now (c.requires.takes ∙ ap takes_of c.in-ToList.is)) c.to_list.ensures
+pub returns-in-len2 : goal.returns-in-len2
+returns-in-len2 c =
+    let e : length c.args.args.now ≡ 2 = omega arith in
+    on-given _ c.args.name.now c.args.args.now (c.key-item-then-args-lt3.result ∷ c.value-item.result ∷ []) (methods (a_map (map pair_tree c.args.pairs.now))) c.map_given_two.result
+    (two-given c.args.args.now c.key-item-then-args-lt3.result c.value-item.result e c.key-item-then-args-lt3.is c.value-item.is) c.map_given_two.ensures
 
 pub returns-in_default : goal.returns-in_default
-returns-in_default c = map-none c.args.name c.args.args.now (map pair_tree c.args.pairs.now) c.in_default.not-Size c.in_default.not-Contains c.in_default.not-Get c.in_default.not-GetOrElse c.in_default.not-Set c.in_default.not-Delete c.in_default.not-Union c.in_default.not-Keys c.in_default.not-ToList
+returns-in_default c =
+    let e : 2 < length c.args.args.now = omega arith in
+    map-takes c.args.name.now c.args.args.now (map pair_tree c.args.pairs.now) e

@@ -1,15 +1,27 @@
-use Rattle.std.proofs.Common.{sym, subst}
-use Rattle.calculus.specs.Outcome.{gives}
-use Rattle.value_ops.specs.Answers.{Answers, IsOperand}
-use Rattle.coll_ops.proofs.Members.{all-each, value-found, value-absent}
+use Rattle.std.proofs.Common.{sym, ap, ◌∙◌}
+use Rattle.calculus.specs.Code.{code}
+use Rattle.value_ops.specs.Answers.{IsOperand}
+use Rattle.coll_ops.proofs.Finding.{place-in}
+use Rattle.coll_ops.proofs.Members.{all-each, asc-up, key_code, value-absent, value-found}
+use Rattle.coll_ops.proofs.Viewing.{pairs-ascend}
 use Rattle.coll_ops.proofs.maps.value_or.Goals as goal
 
-pub returns-in-Some : goal.returns-in-Some
-returns-in-Some c =
-    let r = all-each (λ p. IsOperand p.0) c.args.pairs.now c.requires.keys in
-    subst (λ t. Answers (gives t) c.copy_value.result) (sym (value-found c.args.key.now c.args.pairs.now c.requires.key r c.requires.up c.args.default.now _ c.in-Some.ensures)) c.copy_value.ensures
+pub bounds-pairs-place : goal.bounds-pairs-place
+bounds-pairs-place c =
+    let s = c.find_key-place.ensures c.requires.0.keys c.requires.1 in
+    place-in key_code (code c.args.key.now) c.args.pairs.now c.find_key-place.result.0 (sym (sym c.if-has.true ∙ s.has))
 
-pub returns-in-None : goal.returns-in-None
-returns-in-None c =
-    let r = all-each (λ p. IsOperand p.0) c.args.pairs.now c.requires.keys in
-    subst (λ t. Answers (gives t) c.copy_value-in-None.result) (sym (value-absent c.args.key.now c.args.pairs.now c.requires.key r c.requires.up c.args.default.now c.in-None.ensures)) c.copy_value-in-None.ensures
+pub returns-then-has : goal.returns-then-has
+returns-then-has c = λ h.
+    let ps = c.args.pairs.now in
+    let a = pairs-ascend ps c.requires.0 in
+    let s = c.find_key-place.ensures a.keys c.requires.1 in
+    (c.copy.ensures h).1 ∙ ap (λ p. p.1) (sym c.index-pairs-place.is) ∙ sym (value-found c.args.key.now ps c.requires.1 (all-each (λ p. IsOperand p.0) ps a.keys) (asc-up key_code ps a.up) c.find_key-place.result.0 s.rest c.args.default.now c.index-pairs-place.result
+    (place-in key_code (code c.args.key.now) ps c.find_key-place.result.0 (sym (sym c.if-has.true ∙ s.has))) c.index-pairs-place.is (sym c.if-has.true ∙ s.has))
+
+pub returns-else-has : goal.returns-else-has
+returns-else-has c = λ h.
+    let ps = c.args.pairs.now in
+    let a = pairs-ascend ps c.requires.0 in
+    let s = c.find_key-place.ensures a.keys c.requires.1 in
+    (c.copy-else-has.ensures h).1 ∙ sym (value-absent c.args.key.now ps c.requires.1 (all-each (λ p. IsOperand p.0) ps a.keys) (asc-up key_code ps a.up) c.find_key-place.result.0 s.rest c.args.default.now (sym c.if-has.false ∙ s.has))

@@ -1,43 +1,31 @@
-use Rattle.std.proofs.Common.{[], ◌∷◌, sym, ap, ◌∙◌, subst}
-use Rattle.calculus.specs.Methods.{among_methods, methods}
+use Rattle.std.proofs.Common.{◌≡◌, ◌<◌, [], ◌∷◌, length, arith}
 use Rattle.calculus.specs.Operators.{a_set}
-use Rattle.value_ops.specs.Answers.{Answers}
-use Rattle.coll_ops.specs.declared.names.Name.TheVariants as name
-use Rattle.coll_ops.specs.Names.{name_of, takes_of}
-use Rattle.coll_ops.proofs.Arguments.{named, one-ascends, set-adds, set-deletes, set-none}
-use Rattle.coll_ops.proofs.Steps.{empty}
+use Rattle.calculus.specs.Methods.{methods}
+use Rattle.value_ops.specs.Answers.{IsOperand}
+use Rattle.coll_ops.proofs.Arguments.{none-given, on-given, one-given, set-takes}
+use Rattle.coll_ops.proofs.Comparing.{read}
+use Rattle.coll_ops.proofs.Viewing.{set_up}
 use Rattle.coll_ops.proofs.sets.set_method.Goals as goal
 
-pub union-requires-clause-right_up : goal.union-requires-clause-right_up
-union-requires-clause-right_up c = one-ascends c.args.args.now (c.requires.takes ∙ ap takes_of c.in-Add.is)
+pub set_plainly-requires : goal.set_plainly-requires
+set_plainly-requires c = set_up c.args.target.now c.args.members.now c.requires.target c.requires.value.normal
 
-pub difference-requires-clause-right_up : goal.difference-requires-clause-right_up
-difference-requires-clause-right_up c = one-ascends c.args.args.now (c.requires.takes ∙ ap takes_of c.in-Delete.is)
+pub set_given-requires-clause-argument : goal.set_given-requires-clause-argument
+set_given-requires-clause-argument c =
+    let h : 0 < length c.args.args.now = omega arith in
+    read IsOperand c.args.args.now 0 c.argument-item.result h c.argument-item.is c.requires.args
 
-pub returns-in-Add : goal.returns-in-Add
-returns-in-Add c =
-    let ts = c.args.members.now in let xs = c.args.args.now in
-    subst (λ n. Answers (among_methods (name_of n) xs (methods (a_set ts))) c.union.result) (sym c.in-Add.is) (set-adds ts xs c.union.result (c.requires.takes ∙ ap takes_of c.in-Add.is) c.union.ensures)
+pub returns-in-empty : goal.returns-in-empty
+returns-in-empty c =
+    let e : length c.args.args.now ≡ 0 = omega arith in
+    on-given _ c.args.name.now c.args.args.now [] (methods (a_set c.args.members.now)) c.set_plainly.result (none-given c.args.args.now e) c.set_plainly.ensures
 
-pub returns-in-Delete : goal.returns-in-Delete
-returns-in-Delete c =
-    let ts = c.args.members.now in let xs = c.args.args.now in
-    subst (λ n. Answers (among_methods (name_of n) xs (methods (a_set ts))) c.difference.result) (sym c.in-Delete.is) (set-deletes ts xs c.difference.result (c.requires.takes ∙ ap takes_of c.in-Delete.is) c.difference.ensures)
-
-pub returns-in-Contains : goal.returns-in-Contains
-returns-in-Contains c = named c.args.name name.Contains c.args.args.now (c.only_argument.result.now ∷ []) (a_set c.args.members.now) c.contains.result c.in-Contains.is c.only_argument.ensures c.contains.ensures
-
-pub returns-in-Union : goal.returns-in-Union
-returns-in-Union c = named c.args.name name.Union c.args.args.now (c.only_argument-in-Union.result.now ∷ []) (a_set c.args.members.now) c.set_union.result c.in-Union.is c.only_argument-in-Union.ensures c.set_union.ensures
-
-pub returns-in-Diff : goal.returns-in-Diff
-returns-in-Diff c = named c.args.name name.Diff c.args.args.now (c.only_argument-in-Diff.result.now ∷ []) (a_set c.args.members.now) c.set_difference.result c.in-Diff.is c.only_argument-in-Diff.ensures c.set_difference.ensures
-
-pub returns-in-Size : goal.returns-in-Size
-returns-in-Size c = named c.args.name name.Size c.args.args.now [] (a_set c.args.members.now) c.size_value.result c.in-Size.is (empty c.args.args.now (c.requires.takes ∙ ap takes_of c.in-Size.is)) c.size_value.ensures
-
-pub returns-in-ToList : goal.returns-in-ToList
-returns-in-ToList c = named c.args.name name.ToList c.args.args.now [] (a_set c.args.members.now) c.to_list.result c.in-ToList.is (empty c.args.args.now (c.requires.takes ∙ ap takes_of c.in-ToList.is)) c.to_list.ensures
+pub returns-in-len1 : goal.returns-in-len1
+returns-in-len1 c =
+    let e : length c.args.args.now ≡ 1 = omega arith in
+    on-given _ c.args.name.now c.args.args.now (c.argument-item.result ∷ []) (methods (a_set c.args.members.now)) c.set_given.result (one-given c.args.args.now c.argument-item.result e c.argument-item.is) c.set_given.ensures
 
 pub returns-in_default : goal.returns-in_default
-returns-in_default c = set-none c.args.name c.args.args.now (c.args.members.now) c.in_default.not-Size c.in_default.not-Contains c.in_default.not-Add c.in_default.not-Delete c.in_default.not-Union c.in_default.not-Diff c.in_default.not-ToList
+returns-in_default c =
+    let e : 1 < length c.args.args.now = omega arith in
+    set-takes c.args.name.now c.args.args.now c.args.members.now e

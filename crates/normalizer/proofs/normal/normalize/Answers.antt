@@ -9,10 +9,13 @@ use Rattle.normalizer.proofs.normal.normalize.Goals as goal
 
 pub returns-clause-term : goal.returns-clause-term
 unfolding normal_in
-returns-clause-term c = c.in_ok-term.ensures.made ∙ ap (normal_in (proc_written c.args.p.now)) c.new-scope.ensures
+returns-clause-term c =
+    let m = c.in_ok-term.ensures in
+    m.1 ∙ (c.make_term-term.ensures m.0).2 ∙ ap (normal_in (proc_written c.args.p.now)) c.new-maker.ensures.scope
 
 pub returns-clause-congruent : goal.returns-clause-congruent
 unfolding normal_in
 returns-clause-congruent c =
-    let e = c.in_ok-term.ensures.made ∙ ap (normal_in (proc_written c.args.p.now)) c.new-scope.ensures in
+    let m = c.in_ok-term.ensures in
+    let e = m.1 ∙ (c.make_term-term.ensures m.0).2 ∙ ap (normal_in (proc_written c.args.p.now)) c.new-maker.ensures.scope in
     subst (λ t. IsTrue (congruent t (bare (proc_written c.args.p.now)))) (sym e) (normal-congruent (bare (proc_written c.args.p.now)))

@@ -1,4 +1,4 @@
-use Rattle.std.proofs.Common.{◌≡◌, ◌∙◌, ◌⊎◌, List, ℕ, Some, length, refl, sym, ap, subst}
+use Rattle.std.proofs.Common.{◌≡◌, ◌∙◌, ◌⊎◌, List, ℕ, true, Result, Some, IfErr, length, refl, sym, ap, subst}
 use Rattle.std.specs.Prelude.{IsErrAnd}
 use Rattle.sha2.specs.Sha256.{sha256}
 use Rattle.calculus.specs.Rows.{Row}
@@ -8,7 +8,9 @@ use Rattle.replays.specs.Replays.{Refusal, header_refusal, deploy_under}
 use Rattle.replay_answers.specs.Answers.{Clashes, IsAnswered}
 use Rattle.replay_answers.specs.Bases.{asked, ids_of}
 use Rattle.states.specs.Quiet.{AreQuiet}
-use Rattle.replay_faults.specs.Refusals.{refusal_of}
+use Rattle.replay_faults.specs.Refusals.{is_of_header, refusal_of}
+use Rattle.replay_faults.specs.declared.fault.ReplayFault.{ReplayFault}
+use Rattle.replay_answers.specs.declared.replayed.Replayed.{Replayed}
 use Rattle.recorded_runs.proofs.Running.{numberable}
 use Rattle.run_status.specs.declared.status.Status.{Status}
 use Rattle.run_status.specs.declared.status.Status.TheVariants.{NoMemory}
@@ -34,13 +36,17 @@ returns-in_err-replayed-clause-stop g c =
     let r = c.args.inputs in
     let rows = r.inputs.base.checkpoint in
     let H : List Row → List ℕ → Type 0 = λ rows s. (x : Refusal) → header_refusal (asked rows r.inputs.term s r.inputs.prices) (header_in r) ≡ Some x → IsErrAnd c.replay.result (λ e. refusal_of e ≡ Some x) in
+    let N : List Row → List ℕ → Type 0 = λ rows s. IfErr c.replay.result (λ e. is_of_header e ≡ true → header_refusal (asked rows r.inputs.term s r.inputs.prices) (header_in r) ≡ refusal_of e) in
     let A : List Row → List ℕ → Type 0 = λ rows s. IsAnswered (asked rows r.inputs.term s r.inputs.prices) (header_in r) (steps_in r) c.replay.result ⊎ Clashes (deploy_under (header_in r).limit (asked rows r.inputs.term s r.inputs.prices)) (steps_in r) in
     let source : c.bytes_digest-source.result.0 ≡ sha256 r.inputs.source.items = c.bytes_digest-source.ensures ∙ ap sha256 c.as_slice.ensures.value in
     let base = c.rows-rows.ensures.is in
     let header : H rows (sha256 r.inputs.source.items) = subst (λ (s : List ℕ). H rows s) source (subst (λ (rs : List Row). H rs c.bytes_digest-source.result.0) base c.replay.ensures.refused) in
+    let named : N rows (sha256 r.inputs.source.items) = subst (λ (s : List ℕ). N rows s) source (subst (λ (rs : List Row). N rs c.bytes_digest-source.result.0) base c.replay.ensures.header) in
     let answered : A rows (sha256 r.inputs.source.items) = subst (λ (s : List ℕ). A rows s) source (subst (λ (rs : List Row). A rs c.bytes_digest-source.result.0) base c.replay.ensures.answered) in
     handed _ _ _ c.from_residual.ensures.1
-    (λ s k. replay_stop rows r c.requires.state c.replay.result header answered c.in_err-replayed.field-0.0 c.in_err-replayed.was (refusal_of c.in_err-replayed.field-0.0) refl s k)
+    (λ s k. replay_stop rows r c.requires.state c.replay.result header answered c.in_err-replayed.field-0.0 c.in_err-replayed.was
+    (subst (λ (v : Result Replayed ReplayFault). IfErr v (λ e. is_of_header e ≡ true → header_refusal (asked rows r.inputs.term (sha256 r.inputs.source.items) r.inputs.prices) (header_in r) ≡ refusal_of e)) c.in_err-replayed.was named)
+    (refusal_of c.in_err-replayed.field-0.0) refl s k)
 
 -- want of memory is always a stop
 pub returns-in_err-plan-clause-stop : goal.returns-in_err-plan-clause-stop

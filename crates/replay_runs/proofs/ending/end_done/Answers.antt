@@ -1,10 +1,8 @@
-use Rattle.std.proofs.Common.{◌≡◌, ◌∙◌, List, true, refl, sym, ap, subst}
+use Rattle.std.proofs.Common.{◌≡◌, List, refl, sym, subst}
 use Rattle.std.specs.Prelude.{Option, MatchOption, IsPermutation}
 use Rattle.calculus.proofs.Permutations.{join, moved_so}
 use Rattle.calculus.specs.Rows.{Row}
-use Rattle.calculus.specs.Steps.{differ}
-use Rattle.events.specs.Events.{first_ids}
-use Rattle.least_step.specs.Least.{AllowsNone, HasRows, IsLeast}
+use Rattle.least_step.specs.Least.{AllowsNone, IsLeast}
 use Rattle.least_step.specs.declared.least.LeastStep.{LeastStep}
 use Rattle.replay_runs.proofs.Closing.{first-differ}
 use Rattle.replay_runs.proofs.ending.end_done.Goals as goal

@@ -1,6 +1,0 @@
-use Rattle.std.proofs.Common.{◌≡◌, map}
-use Rattle.rho_term.specs.Parts.{pair_tree}
-use Rattle.code_order.proofs.compared.suited_pairs.Given as goal
-
-abbrev pub invariant-loop-pair : goal.invariant-loop-pair
-invariant-loop-pair l = l.suited.items ≡ map pair_tree l.yielded

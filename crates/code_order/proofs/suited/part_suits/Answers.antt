@@ -1,8 +1,0 @@
-use Rattle.std.proofs.Common.{arith}
-use Rattle.calculus.specs.Form.{part}
-use Rattle.rho_term.specs.Parts.{part_tree}
-use Rattle.code_order.proofs.Seen.{seen}
-use Rattle.code_order.proofs.suited.part_suits.Goals as goal
-
-pub returns : goal.returns
-returns c h = seen part (part_tree c.args.part.now) c.code_len.result c.code_len.ensures (omega arith) (c.is_faultless.ensures.faults h) (c.is_faultless.ensures.normal c.requires)

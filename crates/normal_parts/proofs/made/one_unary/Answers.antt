@@ -1,4 +1,0 @@
-use Rattle.normal_parts.proofs.made.one_unary.Goals as goal
-
-pub returns-in-Ok : goal.returns-in-Ok
-returns-in-Ok c = rw c.in-Ok.is c.one_part.ensures

@@ -1,0 +1,4 @@
+pub mod Turns
+pub mod Processes
+pub mod Patterns
+pub mod Around

@@ -1,0 +1,14 @@
+use Rattle.calculus.specs.Form.{name_pat}
+use Rattle.rho_term.proofs.Measuring.{row-start, row-step, trees-end}
+use Rattle.rho_term.proofs.measure.name_pats_measures.Goals as goal
+
+pub loop-pat-init : goal.loop-pat-init
+loop-pat-init c = row-start name_pat (λ t. t) _ _ c.leaf-total.ensures
+
+pub loop-pat-preserved : goal.loop-pat-preserved
+loop-pat-preserved c =
+    row-step name_pat (λ t. t) _ _ _ _ _ _ _ c.deref-pat-items.ensures.value c.loop-pat-test.true c.pat-item.is c.name_measures.ensures c.join-total.ensures c.loop-pat.invariant
+
+pub returns : goal.returns
+returns c =
+    trees-end name_pat _ _ _ _ c.deref-pat-items.ensures.value c.loop-pat-test.false c.loop-pat.invariant

@@ -1,0 +1,6 @@
+use Rattle.calculus.specs.Form.{pat}
+use Rattle.rho_term.proofs.Measuring.{HasMeasures}
+use Rattle.rho_term.proofs.measure.pats_measures.Given as goal
+
+abbrev pub invariant-loop-pat : goal.invariant-loop-pat
+invariant-loop-pat l = HasMeasures pat (λ t. t) l.pats.items l.pat-index l.total
