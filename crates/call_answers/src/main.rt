@@ -5,12 +5,11 @@
 mod program;
 
 use call_harness::{Ended, Meeting, Outside};
-use line_answers::{answer_lines, print_lines};
 use std::alloc::{AllocError, Global};
 use std::rt::Files;
 use std::sync::Wait;
 use std::thread::Threads;
-use table_lines::LineFault;
+use table_lines::{LineFault, answer_lines, print_lines};
 
 /// The answer to a line, a kind and its fields, with what runs the program.
 fn answer_by<F: Fn(&Meeting, &[String], &mut Outside) -> Result<Ended, AllocError>>(

@@ -2,7 +2,7 @@
 use Rattle.std.proofs.Common.{◌≡◌, ℕ, zero, suc, ◌<◌, ◌+◌, Bool, true, false, cond, List, [], ◌∷◌, ◌++◌, length, map as each, take, drop, get_or, refl, ap, sym, ◌∙◌, subst, arith, append-nil, inl, inr}
 use Rattle.std.specs.Prelude.{◌⊎◌, ◌≢◌, IsPermutation, All}
 use Rattle.std.specs.Str.{bytes_eq}
-use Rattle.std.proofs.Math.Seq.{drop-cons}
+use Rattle.std.proofs.Math.Seq.{drop-cons, take-length}
 use Rattle.std.proofs.lemmas.List.{take_more}
 use Rattle.std.proofs.lemmas.List.Elements.{All-head, All-tail, All-cons}
 use Rattle.calculus.specs.Exchanges.{Exchanges, nothing, under, neighbours, then}
@@ -13,7 +13,7 @@ use Rattle.calculus.specs.Root.{key}
 use Rattle.calculus.specs.Steps.{differ, is_one_of}
 use Rattle.calculus.proofs.Ordered.{up_to_total, up_to_both, up_to_trans}
 use Rattle.states.proofs.Groups.{same, equal, sorted-moved}
-use Rattle.calculus.proofs.ListCodes.{sorted-ascending}
+use Rattle.calculus.proofs.ListCodes.{sorted-ascending, length-map}
 use Rattle.radix_root.specs.Leaves.{group_digest, codes_at, groups_of}
 use Rattle.radix_root.specs.Groups.{given, digest_after}
 use Rattle.radix_root.specs.declared.group.Group.{Group}
@@ -252,3 +252,13 @@ at-place f g [] (y2 ∷ ys) i x y e l = absurd (cc e)
 at-place f g (x2 ∷ xs) [] i x y e l = absurd (cc e)
 at-place f g (x2 ∷ xs) (y2 ∷ ys) zero x y e l = cc e
 at-place f g (x2 ∷ xs) (y2 ∷ ys) (suc i) x y e l = at-place f g xs ys i x y (cc e) (omega (arith, l))
+
+-- and this place is within the ones where it is within the others
+pub at-bound : {A B C : Type 0} (f : A → C) (g : B → C) (xs : List A) (ys : List B) (i : ℕ) → each f xs ≡ each g ys → i < length ys → i < length xs
+at-bound f g xs ys i e l =
+    let same : length xs ≡ length ys = sym (length-map f xs) ∙ ap length e ∙ length-map g ys in
+    omega (arith, same, l)
+
+-- all of a list are taken
+pub taken-all : {A : Type 0} (xs : List A) (i : ℕ) → i ≡ length xs → take i xs ≡ xs
+taken-all xs i e = ap (λ n. take n xs) e ∙ take-length xs

@@ -1,6 +1,6 @@
 -- Keys that differ, one after another.
 use Rattle.std.proofs.Common.{◌≡◌, ℕ, ◌≤◌, ◌*◌, Bool, true, false, not, ◌&&◌, ◌||◌, List, [], ◌∷◌, ◌++◌, length, map as each, refl, ap, sym, ◌∙◌, subst, arith, inl, inr}
-use Rattle.std.specs.Prelude.{◌⊎◌, ◌≢◌}
+use Rattle.std.specs.Prelude.{◌⊎◌, ◌≢◌, Result, Ok, Err, OnOk}
 use Rattle.std.specs.Str.{bytes_eq}
 use Rattle.calculus.specs.Order.{sorted}
 use Rattle.calculus.specs.Rows.{Row}
@@ -92,3 +92,8 @@ made-for gs rows n h w = record {
   so = λ k m e. h.some k m (sorted-nothing (codes_at rows k) (sym e));
   within = subst (λ l. n ≤ 65 * l) (sym (length-map (λ (g : Group). g.key.0) gs)) w;
 }
+
+-- what holds in any case holds where there is a result
+pub so-or-not : {T E P : Type 0} (r : Result T E) → P → OnOk r P
+so-or-not (Ok x) p = p
+so-or-not (Err x) p = tt

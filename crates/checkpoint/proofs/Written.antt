@@ -1,5 +1,5 @@
 -- Texts that are appended one after another.
-use Rattle.std.proofs.Common.{◌≡◌, ℕ, ◌+◌, ◌<◌, List, ◌∷◌, ◌++◌, map, take, length, get_or, [], sym, ◌∙◌, ap, append_assoc, append-nil}
+use Rattle.std.proofs.Common.{◌≡◌, ℕ, ◌+◌, ◌<◌, refl, List, ◌∷◌, ◌++◌, map, take, length, get_or, [], sym, ◌∙◌, ap, append_assoc, append-nil}
 use Rattle.calculus.specs.Bytes.{joined}
 use Rattle.calculus.proofs.BytesLemmas.{joined-take}
 
@@ -19,3 +19,7 @@ joined-push f (y ∷ ys) x = ap (λ l. f y ++ l) (joined-push f ys x) ∙ sym (a
 -- bytes that hold the texts of some members, and then that of one more
 pub grown-by : {A : Type 0} (f : A → List ℕ) (start before now : List ℕ) (ys : List A) (x : A) → before ≡ start ++ joined (map f ys) → now ≡ before ++ f x → now ≡ start ++ joined (map f (ys ++ x ∷ []))
 grown-by f start before now ys x was is = is ∙ ap (λ l. l ++ f x) was ∙ append_assoc start (joined (map f ys)) (f x) ∙ ap (λ l. start ++ l) (sym (joined-push f ys x))
+
+pub same-list : {A : Type 0} (xs : List A) → map (λ x. x) xs ≡ xs
+same-list [] = refl
+same-list (x ∷ xs) = ap (λ ys. x ∷ ys) (same-list xs)

@@ -17,11 +17,20 @@ use std::marker::Model;
 /// Each row may be stored, no two have one id, and where no id is that of a built-in receiver the rows and the
 /// built-in receivers allow no step. The tree of their groups and a mark of
 /// each row are kept beside them.
-#[derive(Drop)]
 pub struct Checkpoint {
     rows: Vec<Row>,
     tree: RadixTree,
     marks: Vec<Mark>,
+}
+
+impl Drop for Checkpoint {
+    fn drop(self) {
+        let Checkpoint {
+            rows: _rows,
+            tree: _tree,
+            marks: _marks,
+        } = self;
+    }
 }
 
 /// All that a checkpoint keeps.
@@ -95,7 +104,12 @@ impl Checkpoint {
         ensures is { result.items ≡ self }
         ensures kept { AreKept self }
     {
-        self.rows
+        let Checkpoint {
+            rows,
+            tree: _tree,
+            marks: _marks,
+        } = self;
+        rows
     }
 
     /// All that it keeps, given away.

@@ -98,8 +98,7 @@ pub fn marked_tree(alloc: Global, rows: &[Row]) -> Result<(RadixTree, Vec<Mark>)
 {
     let codes = codes_of_rows(alloc, rows)?;
     let slices = slices_of(alloc, codes.as_slice())?;
-    let marked = coded_tree(alloc, rows, slices)?;
-    Ok(marked)
+    coded_tree(alloc, rows, slices)
 }
 
 /// The codes of these rows, as they stand.
@@ -145,8 +144,7 @@ fn tree_in<L: Ledger>(
     ensures { IfOk result (λ t. Keeps t (groups_of rows.now)) }
 {
     let mut steps = Steps::<L>::new(blank);
-    let tree = counted_tree(alloc, rows, codes, marks, &mut steps)?;
-    Ok(tree)
+    counted_tree(alloc, rows, codes, marks, &mut steps)
 }
 
 /// The tree of the groups of these rows, whose codes and marks these are. Each digest of a group or of a node above
@@ -164,21 +162,7 @@ pub(crate) fn counted_tree<L: Ledger>(
     ensures made { OnOk result (AreMade no_codes (groups_of rows.now) (steps.new - steps.old)) }
 {
     let groups = groups_by_key(alloc, rows, codes, marks, steps)?;
-    let tree = tree_with(alloc, groups, steps)?;
-    Ok(tree)
-}
-
-// The tree of these groups alone. Each digest of a node above them is one more step.
-fn tree_with<L: Ledger>(
-    alloc: Global,
-    groups: Vec<Group>,
-    steps: &mut Steps<L>,
-) -> Result<RadixTree, AllocError>
-    ensures tree { IfOk result (λ t. (rows : List AnyRow) → Give groups.items (groups_of rows) → Keeps t (groups_of rows)) }
-    ensures counted { steps.new ≤ steps.old + 64 * length groups.items }
-{
-    let tree = RadixTree::new(alloc).with_groups(alloc, groups.as_slice(), steps)?;
-    Ok(tree)
+    RadixTree::new(alloc).with_groups(alloc, groups.as_slice(), steps)
 }
 
 // The groups of these rows, whose codes and marks these are, in the order of their keys. The digest of each is one more
@@ -197,8 +181,7 @@ fn groups_by_key<'a, L: Ledger>(
     ensures counted { IfOk result (λ v. steps.new ≤ steps.old + length v.items) }
 {
     let keyed = rows_by_key(alloc, rows, codes, marks)?;
-    let groups = grouped(alloc, keyed.as_slice(), steps)?;
-    Ok(groups)
+    grouped(alloc, keyed.as_slice(), steps)
 }
 
 // The groups of rows that stand in the order of their keys. The digest of each is one more step.

@@ -51,16 +51,6 @@ fn keyed_row<'a>(row: &'a Row, code: &'a [u8], mark: &'a Mark) -> KeyedRow<'a>
     }
 }
 
-// These rows in the order of the keys of their groups.
-fn sorted_by_key<'a>(mut keyed: Vec<KeyedRow<'a>>) -> Result<Vec<KeyedRow<'a>>, AllocError>
-    requires { All IsKeyed keyed.items }
-    ensures rows { IfOk result (λ v. IsPermutation (map row_of keyed.entry.items) (map row_of v.items)) }
-    ensures order { IfOk result (λ v. AreByKey v.items) }
-{
-    keyed.sort_by(|a, b| a.key.0.cmp(&b.key.0))?;
-    Ok(keyed)
-}
-
 // These rows, whose codes and marks these are, in the order of the keys of their groups.
 pub(crate) fn rows_by_key<'a>(
     alloc: Global,
@@ -73,7 +63,7 @@ pub(crate) fn rows_by_key<'a>(
     ensures rows { IfOk result (λ v. IsPermutation rows.now (map row_of v.items)) }
     ensures order { IfOk result (λ v. AreByKey v.items) }
 {
-    let keyed = keyed_rows(alloc, rows, codes, marks)?;
-    let sorted = sorted_by_key(keyed)?;
-    Ok(sorted)
+    let mut keyed = keyed_rows(alloc, rows, codes, marks)?;
+    keyed.sort_by(|a, b| a.key.0.cmp(&b.key.0))?;
+    Ok(keyed)
 }

@@ -6,6 +6,7 @@ mod groups;
 mod keyed;
 mod marks;
 mod outcome;
+mod page;
 mod text;
 
 pub use checkpoint::{Checkpoint, Parts};

@@ -11,9 +11,10 @@ ghost use Rattle.checkpoint.specs.Texts.{head_with, text_with};
 use crate::checkpoint::Checkpoint;
 use crate::groups::{codes_of_rows, counted_tree};
 use crate::marks::marks_of;
+use crate::page::Page;
 use calculus::{Digest, Steps};
-use radix_root::{RadixTree, slices_of};
-use space_row::{Row, row_code};
+use radix_root::slices_of;
+use space_row::Row;
 use std::alloc::{AllocError, Global};
 use std::marker::Brand;
 use std::sync::ledger::{Blank, Ledger};
@@ -25,54 +26,22 @@ pub struct MadeState {
     pub text: Vec<u8>,
 }
 
-/// The version of a state's text, after its name.
-pub(crate) const VERSION: u8 = 0x01;
-
 /// The text of a checkpoint's state. Want of memory is the one error.
 pub fn write_state(alloc: Global, checkpoint: &Checkpoint) -> Result<Vec<u8>, AllocError>
     ensures { IfOk result (λ v. v.items ≡ state_text checkpoint.now) }
 {
-    let text = write_text(alloc, &checkpoint.root(), checkpoint.rows())?;
-    Ok(text)
+    write_text(alloc, &checkpoint.root(), checkpoint.rows())
 }
 
 // The text of a state with this root and these rows, in their order.
 fn write_text(alloc: Global, root: &Digest, rows: &[Row]) -> Result<Vec<u8>, AllocError>
     ensures { IfOk result (λ v. v.items ≡ text_with root.now.0 (map code_of_row rows.now)) }
 {
-    let mut text = head_text(alloc, root, rows.len())?;
-    write_rows(alloc, &mut text, rows)?;
-    Ok(text)
-}
-
-// What stands before the codes in the text of a state with this root and so many rows.
-fn head_text(alloc: Global, root: &Digest, number: usize) -> Result<Vec<u8>, AllocError>
-    ensures { IfOk result (λ v. v.items ≡ head_with root.now.0 number) }
-{
-    let mut text = Vec::new(alloc);
-    text.extend_from_slice(b"RHOSTATE")?;
-    text.push(VERSION)?;
-    text.extend_from_slice(&root.0)?;
-    text.extend_from_slice(&eight_bytes(number as u64))?;
-    Ok(text)
-}
-
-// The number as eight bytes, the high one first.
-fn eight_bytes(n: u64) -> [u8; 8]
-    ensures { result ≡ be64 n }
-{
-    n.to_be_bytes()
-}
-
-// Adds the codes of rows, one after another.
-fn write_rows(alloc: Global, text: &mut Vec<u8>, rows: &[Row]) -> Result<(), AllocError>
-    ensures { OnOk result (text.new.items ≡ text.old.items ++ joined (map code_of_row rows.now)) }
-{
+    let mut page = Page::headed(alloc, root, rows.len());
     for row in rows {
-        let code = row_code(alloc, row)?;
-        text.extend_from_slice(code.as_slice())?;
+        page.add_row(alloc, row);
     }
-    Ok(())
+    page.made()
 }
 
 /// The root of these rows, which may stand in any order, and the text of the state that holds them. Want of
@@ -94,8 +63,7 @@ fn state_in<L: Ledger>(alloc: Global, rows: Vec<Row>, blank: Blank) -> Result<Ma
     ensures text { IfOk result (λ s. s.text.items ≡ state_text rows.items) }
 {
     let mut steps = Steps::<L>::new(blank);
-    let state = made_state(alloc, rows, &mut steps)?;
-    Ok(state)
+    made_state(alloc, rows, &mut steps)
 }
 
 /// The same. Each digest of a group or of a node above them is one more step, and at most 65 are made for each group of
@@ -111,8 +79,7 @@ pub fn made_state<L: Ledger>(
 {
     let codes = codes_of_rows(alloc, rows.as_slice())?;
     let root = root_with(alloc, rows, codes.as_slice(), steps)?;
-    let ascending = ordered(codes)?;
-    let text = text_of_codes(alloc, &root, ascending)?;
+    let text = ordered_text(alloc, &root, codes)?;
     Ok(MadeState { root, text })
 }
 
@@ -127,33 +94,23 @@ fn root_with<L: Ledger>(
     ensures root { IfOk result (λ d. d.0 ≡ root rows.items) }
     ensures made { OnOk result (AreMade no_codes (groups_of rows.items) (steps.new - steps.old)) }
 {
+    let all = rows.as_slice();
     let slices = slices_of(alloc, codes)?;
-    let tree = tree_of_codes(alloc, rows.as_slice(), slices, steps)?;
+    let marks = marks_of(alloc, all, slices.as_slice())?;
+    let tree = counted_tree(alloc, all, slices, marks.as_slice(), steps)?;
     Ok(tree.root())
 }
 
-// The tree of the groups of these rows, which have these codes.
-fn tree_of_codes<L: Ledger>(
+// The text of a state with this root and these codes, ascending.
+fn ordered_text(
     alloc: Global,
-    rows: &[Row],
-    codes: Vec<&[u8]>,
-    steps: &mut Steps<L>,
-) -> Result<RadixTree, AllocError>
-    requires { map (λ c. c.now) codes.items ≡ map code_of_row rows.now }
-    ensures tree { IfOk result (λ t. Keeps t (groups_of rows.now)) }
-    ensures made { OnOk result (AreMade no_codes (groups_of rows.now) (steps.new - steps.old)) }
-{
-    let marks = marks_of(alloc, rows, codes.as_slice())?;
-    let tree = counted_tree(alloc, rows, codes, marks.as_slice(), steps)?;
-    Ok(tree)
-}
-
-// These codes, ascending.
-fn ordered(mut codes: Vec<Vec<u8>>) -> Result<Vec<Vec<u8>>, AllocError>
-    ensures { IfOk result (λ v. map (λ c. c.items) v.items ≡ sorted (map (λ c. c.items) codes.items)) }
+    root: &Digest,
+    mut codes: Vec<Vec<u8>>,
+) -> Result<Vec<u8>, AllocError>
+    ensures { IfOk result (λ v. v.items ≡ text_with root.now.0 (sorted (map (λ c. c.items) codes.items))) }
 {
     codes.sort_by(|a, b| a.cmp(b))?;
-    Ok(codes)
+    text_of_codes(alloc, root, codes)
 }
 
 /// The text of a state with this root and these codes, as they stand. Want of memory is the one error.
@@ -164,9 +121,9 @@ pub fn text_of_codes(
 ) -> Result<Vec<u8>, AllocError>
     ensures { IfOk result (λ v. v.items ≡ text_with root.now.0 (map (λ c. c.items) codes.items)) }
 {
-    let mut text = head_text(alloc, root, codes.len())?;
+    let mut page = Page::headed(alloc, root, codes.len());
     for code in codes {
-        text.extend_from_slice(code.as_slice())?;
+        page.add(code.as_slice());
     }
-    Ok(text)
+    page.made()
 }

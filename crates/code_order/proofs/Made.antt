@@ -20,8 +20,8 @@ use Rattle.rho_term.specs.Parts.{part_tree, pair_tree, ground_tree, term_tree}
 use Rattle.rho_term.specs.declared.term.Part.{Part}
 use Rattle.rho_term.specs.declared.term.Part.TheVariants as part
 use Rattle.code_order.specs.Made.{reordered, made_process, ascending_by}
-use Rattle.keyed_order.proofs.Keys.{map-self, put_in, sort_in, Up, up-sort, arranged-sort}
-use Rattle.keyed_order.proofs.Unique.{low, arranged}
+use Rattle.code_order.proofs.Keys.{map-self, put_in, sort_in, Up, up-sort, arranged-sort}
+use Rattle.code_order.proofs.Unique.{low, arranged}
 
 pub ascending-sort : (ts : List Tree) → ascending ts ≡ sort_in code ts
 unfolding ascending

@@ -7,7 +7,7 @@ use Rattle.std.specs.Vec.Iter.{into_iter_items, into_iter_len, into_iter_steps}
 use Rattle.std.proofs.lemmas.List.{map-append}
 use Rattle.std.proofs.lemmas.Iterator.Adapters.{YieldsList-from_vec}
 use Rattle.std.proofs.lemmas.Iterator.Consumers.{YieldsList-turn, YieldsList-end}
-use Rattle.keyed_order.proofs.Keys.{map-self}
+use Rattle.code_order.proofs.Keys.{map-self}
 
 module _ {X : Type 0} (v : Vec X Global) (s t u : _) (a : into_iter_items s ≡ v.items) (b : into_iter_len s ≡ vec_len v) (xs : List X) (y : Yields (into_iter_steps {X = X} {Z = Global}) s xs t) (r : Option X) where
   -- what holds of all items holds of the one that is taken

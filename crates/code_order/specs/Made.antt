@@ -1,5 +1,5 @@
 -- Processes made of parts in any order.
-pub use Rattle.keyed_order.specs.Keyed.{beside}
+pub use Rattle.code_order.specs.Keyed.{beside}
 use Rattle.std.specs.Prelude.{ℕ, List, map as each}
 use Rattle.calculus.specs.Tree.{par, Tree, node}
 use Rattle.calculus.specs.Shape.{listed}

@@ -3,9 +3,10 @@
 
 mod coded;
 mod compared;
+mod keyed;
 pub mod make;
 pub mod order;
 
-pub use keyed_order::in_order;
+pub use keyed::in_order;
 pub use make::{make_par, with_order};
 pub use order::{sorted_pairs, sorted_parts, sorted_terms};

@@ -9,7 +9,7 @@ ghost use Rattle.code_order.specs.Made.{beside, keyed_by, ascending_by};
 
 use crate::coded::HasCode;
 use crate::compared::{all_suit, compared};
-use keyed_order::in_order;
+use crate::in_order;
 use rho_term::{Part, Term, with_room};
 use std::alloc::{AllocError, Global};
 

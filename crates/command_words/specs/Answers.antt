@@ -58,10 +58,6 @@ abbrev pub GivesAs : {X Y : Type 0} → (X → Y) → Result X Usage → Result 
 GivesAs view (Ok x) said = said ≡ Ok (view x)
 GivesAs view (Err e) said = Refuses e said
 
--- the answer is what is said, unless memory ran out
-abbrev pub Gives : {Y : Type 0} → Result Y Usage → Result Y Refusal → Type 0
-Gives result said = GivesAs (λ x. x) result said
-
 -- the answer is what is said, and `BadWords` where nothing is, unless memory ran out
 abbrev pub Answers : Result Command Usage → Option (Result Request Refusal) → Type 0
 Answers result (Some said) = GivesAs request_of result said

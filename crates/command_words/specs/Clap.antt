@@ -1,8 +1,9 @@
 -- What clap reads of words.
-use Rattle.std.specs.Prelude.{Bool, true, List, [], ◌∷◌, Option, Some, codes, fold}
+use Rattle.std.specs.Prelude.{Bool, true, List, [], ◌∷◌, ◌≡◌, Option, Result, IfOk, Some, codes, fold}
 use Rattle.clap.specs.Walk.{Rule, first_of, is_empty}
-use Rattle.clap.specs.Simple.{App, matches_of, new_app, new_rule, on_top, with_rule}
+use Rattle.clap.specs.Simple.{App, app_of, matches_of, new_app, new_rule, on_top, with_rule}
 use Rattle.clap.specs.Faults.{fault_of}
+use Rattle.clap.specs.declared.builder.command.Command.{Command}
 use Rattle.command_words.specs.Arguments.{Text, id_of}
 use Rattle.command_words.specs.declared.argument.Argument.{Argument}
 
@@ -22,6 +23,10 @@ rho_rules = new_rule (codes "verb") ∷ new_rule (codes "file") ∷ option_rule 
 -- the command `rho`, as clap knows it
 abbrev pub rho : App
 rho = fold with_rule bare_rho rho_rules
+
+-- a command that was made is this one, as clap knows it
+abbrev pub HasApp : {E : Type 0} → Result Command E → App → Type 0
+HasApp made app = IfOk made (λ c. app_of c ≡ app)
 
 -- whether clap has matches for the words
 abbrev pub has_matches : List Text → Bool

@@ -3,6 +3,7 @@
 
 pub mod argument;
 pub mod command;
+mod fault;
 mod matches;
 mod number;
 pub mod read;

@@ -1,9 +1,9 @@
 // What `clap` reads of words.
 ghost use Rattle.std.specs.Prelude.{◌≡◌, ◌⊎◌, IfErr, IfOk, true, false, map, option_map, string_bytes};
-ghost use Rattle.clap.specs.Simple.{app_of, with_rule};
+ghost use Rattle.clap.specs.Simple.{App, new_rule, with_rule};
 ghost use Rattle.command_words.specs.Answers.{given_in};
 ghost use Rattle.command_words.specs.Arguments.{Text};
-ghost use Rattle.command_words.specs.Clap.{has_matches, matched, option_rule, rho};
+ghost use Rattle.command_words.specs.Clap.{HasApp, has_matches, matched, option_rule, rho};
 ghost use Rattle.command_words.specs.Commands.{first_missing, first_there, text};
 ghost use Rattle.command_words.specs.declared.argument.Argument.{Argument};
 ghost use Rattle.command_words.specs.declared.usage.Usage.TheVariants.{BadWords, NoMemory};
@@ -32,29 +32,42 @@ pub(crate) fn matches_of<'a>(alloc: Global, words: &'a [String]) -> Result<ArgMa
 
 // A verb and a file by their places, and seven options with one value each.
 fn rho_command<'a>(alloc: Global) -> Result<Command<'a>, AllocError>
-    ensures { IfOk result (λ c. app_of c ≡ rho) }
+    ensures { HasApp result rho }
 {
-    let command = Command::new(alloc, "rho").no_binary_name(true);
-    let command = command.arg(Arg::new(alloc, "verb"))?;
-    let command = command.arg(Arg::new(alloc, "file"))?;
-    let command = with_option(alloc, command, "state")?;
-    let command = with_option(alloc, command, "prices")?;
-    let command = with_option(alloc, command, "limit")?;
-    let command = with_option(alloc, command, "log")?;
-    let command = with_option(alloc, command, "next")?;
-    let command = with_option(alloc, command, "workers")?;
+    let command = Ok(Command::new(alloc, "rho").no_binary_name(true));
+    let command = with_place(alloc, command, "verb");
+    let command = with_place(alloc, command, "file");
+    let command = with_option(alloc, command, "state");
+    let command = with_option(alloc, command, "prices");
+    let command = with_option(alloc, command, "limit");
+    let command = with_option(alloc, command, "log");
+    let command = with_option(alloc, command, "next");
+    let command = with_option(alloc, command, "workers");
     with_option(alloc, command, "steps")
 }
 
-fn with_option<'a>(
+// The command with one more argument by its place, if memory sufficed so far.
+fn with_place<'a>(
     alloc: Global,
-    command: Command<'a>,
+    command: Result<Command<'a>, AllocError>,
     name: &'a str,
 ) -> Result<Command<'a>, AllocError>
-    ensures { IfOk result (λ c. app_of c ≡ with_rule (app_of command.entry) (option_rule name.entry.now)) }
+    ensures { (before : App) → HasApp command.entry before → HasApp result (with_rule before (new_rule name.entry.now)) }
 {
-    let option = Arg::new(alloc, name).long(name);
-    command.arg(option)
+    let command = command?;
+    command.arg(Arg::new(alloc, name))
+}
+
+// The command with one more option, if memory sufficed so far.
+fn with_option<'a>(
+    alloc: Global,
+    command: Result<Command<'a>, AllocError>,
+    name: &'a str,
+) -> Result<Command<'a>, AllocError>
+    ensures { (before : App) → HasApp command.entry before → HasApp result (with_rule before (option_rule name.entry.now)) }
+{
+    let command = command?;
+    command.arg(Arg::new(alloc, name).long(name))
 }
 
 // The text of an argument, where it is there.

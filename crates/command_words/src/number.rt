@@ -2,42 +2,33 @@
 ghost use Rattle.std.specs.Prelude.{◌≡◌};
 ghost use Rattle.std.specs.Char.{is_ascii_digit};
 ghost use Rattle.std.specs.List.{list_all};
-ghost use Rattle.command_words.specs.Answers.{Gives};
 ghost use Rattle.command_words.specs.Commands.{number_between, number_in, number_of};
+ghost use Rattle.command_words.specs.Faults.{Finds};
 
 use crate::argument::Argument;
-use crate::usage::Usage;
-use std::alloc::Global;
+use crate::fault::Fault;
 
 // The number that the text of an argument is: 1 to 20 decimal digits of a value below 2^64.
-pub(crate) fn number(alloc: Global, argument: Argument, text: &str) -> Result<u64, Usage>
-    ensures { Gives result (number_in argument text.now) }
+pub(crate) fn number<'a>(what: Argument, text: &str) -> Result<u64, Fault<'a>>
+    ensures { Finds result (number_in what text.now) }
 {
-    match number_of(text) {
-        Some(number) => Ok(number),
-        None => Err(Usage::BadNumber {
-            what: String::from_str(alloc, argument.name())?,
-        }),
-    }
+    number_of(text).ok_or(Fault::BadNumber { what })
 }
 
 // The number from `least` to `most` that the text of an argument is.
-pub(crate) fn number_between(
-    alloc: Global,
-    argument: Argument,
+pub(crate) fn number_between<'a>(
+    what: Argument,
     least: u32,
     most: u32,
     text: &str,
-) -> Result<u32, Usage>
-    ensures { Gives result (number_between argument least most text.now) }
+) -> Result<u32, Fault<'a>>
+    ensures { Finds result (number_between what least most text.now) }
 {
     match number_of(text) {
         Some(number) if u64::from(least) <= number && number <= u64::from(most) => Ok(
             number as u32,
         ),
-        _ => Err(Usage::BadNumber {
-            what: String::from_str(alloc, argument.name())?,
-        }),
+        _ => Err(Fault::BadNumber { what }),
     }
 }
 

@@ -1,11 +1,13 @@
 ghost use Rattle.std.specs.Prelude.{◌≡◌, IfOk, true, map, string_bytes};
-ghost use Rattle.command_words.specs.Answers.{Answers, Gives, GivesAs, answer_of, given_in, request_of, run_of};
-ghost use Rattle.command_words.specs.Commands.{asked, asked_of, deploy_asked, first_missing, first_there, missing, replay_asked, run_asked, surplus, text, unless_found, unless_same, verb_asked, workers_in, workload_asked};
+ghost use Rattle.command_words.specs.Answers.{Answers, GivesAs, answer_of, given_in, request_of, run_of};
+ghost use Rattle.command_words.specs.Commands.{asked, asked_of, deploy_asked, replay_asked, run_asked, text, unless_same, verb_asked, workers_in, workload_asked};
+ghost use Rattle.command_words.specs.Faults.{Finds, FindsAs};
 ghost use Rattle.command_words.specs.Plain.{Line, given_by, is_plain, words_of};
 ghost use Rattle.command_words.specs.declared.argument.Argument.TheVariants as argument;
 
 use crate::argument::Argument;
 use crate::command::{Command, Run, Verb, Workload};
+use crate::fault::{Fault, usage_of};
 use crate::matches::{first_missing, first_there, matches_of, text, text_of};
 use crate::number::{number, number_between};
 use crate::usage::Usage;
@@ -37,54 +39,39 @@ pub fn read_command(alloc: Global, words: &[String]) -> Result<Command, Usage>
 fn command_of(alloc: Global, matches: &ArgMatches<'_>) -> Result<Command, Usage>
     ensures { GivesAs request_of result (asked (given_in matches.now)) }
 {
-    let verb = verb_of(alloc, matches)?;
-    require(alloc, matches, verb.needed())?;
-    reject(alloc, matches, verb.untaken())?;
+    match asked(alloc, matches) {
+        Ok(command) => Ok(command),
+        Err(fault) => Err(usage_of(alloc, fault)?),
+    }
+}
+
+// What the matches ask for, or their first fault.
+fn asked<'a>(alloc: Global, matches: &ArgMatches<'a>) -> Result<Command, Fault<'a>>
+    ensures { FindsAs request_of result (asked (given_in matches.now)) }
+{
+    let verb = verb_of(matches)?;
+    if let Some(what) = first_missing(matches, verb.needed()) {
+        return Err(Fault::Missing { what });
+    }
+    if let Some(what) = first_there(matches, verb.untaken()) {
+        return Err(Fault::Surplus { what });
+    }
     asked_of(alloc, matches, verb)
 }
 
-fn verb_of(alloc: Global, matches: &ArgMatches<'_>) -> Result<Verb, Usage>
-    ensures { Gives result (verb_asked (given_in matches.now argument.Verb)) }
+fn verb_of<'a>(matches: &ArgMatches<'a>) -> Result<Verb, Fault<'a>>
+    ensures { Finds result (verb_asked (given_in matches.now argument.Verb)) }
 {
-    let Some(name) = text_of(matches, Argument::Verb) else {
-        return Err(Usage::Missing {
-            what: String::from_str(alloc, Argument::Verb.name())?,
-        });
-    };
-    match Verb::from_name(name) {
-        Some(verb) => Ok(verb),
-        None => Err(Usage::UnknownVerb {
-            verb: String::from_str(alloc, name)?,
+    match text_of(matches, Argument::Verb) {
+        Some(name) => Verb::from_name(name).ok_or(Fault::UnknownVerb { verb: name }),
+        None => Err(Fault::Missing {
+            what: Argument::Verb,
         }),
     }
 }
 
-// The first of some arguments that is not there is a fault.
-fn require(alloc: Global, matches: &ArgMatches<'_>, needed: &[Argument]) -> Result<(), Usage>
-    ensures { Gives result (unless_found missing (first_missing (given_in matches.now) needed.now)) }
-{
-    match first_missing(matches, needed) {
-        None => Ok(()),
-        Some(argument) => Err(Usage::Missing {
-            what: String::from_str(alloc, argument.name())?,
-        }),
-    }
-}
-
-// The first of some arguments that is there is a fault.
-fn reject(alloc: Global, matches: &ArgMatches<'_>, untaken: &[Argument]) -> Result<(), Usage>
-    ensures { Gives result (unless_found surplus (first_there (given_in matches.now) untaken.now)) }
-{
-    match first_there(matches, untaken) {
-        None => Ok(()),
-        Some(argument) => Err(Usage::Surplus {
-            what: String::from_str(alloc, argument.name())?,
-        }),
-    }
-}
-
-fn asked_of(alloc: Global, matches: &ArgMatches<'_>, verb: Verb) -> Result<Command, Usage>
-    ensures { GivesAs request_of result (asked_of verb (given_in matches.now)) }
+fn asked_of<'a>(alloc: Global, matches: &ArgMatches<'a>, verb: Verb) -> Result<Command, Fault<'a>>
+    ensures { FindsAs request_of result (asked_of verb (given_in matches.now)) }
 {
     match verb {
         Verb::Genesis => Ok(Command::Genesis {
@@ -99,26 +86,26 @@ fn asked_of(alloc: Global, matches: &ArgMatches<'_>, verb: Verb) -> Result<Comma
     }
 }
 
-fn deploy(alloc: Global, matches: &ArgMatches<'_>) -> Result<Command, Usage>
-    ensures { GivesAs request_of result (deploy_asked (given_in matches.now)) }
+fn deploy<'a>(alloc: Global, matches: &ArgMatches<'a>) -> Result<Command, Fault<'a>>
+    ensures { FindsAs request_of result (deploy_asked (given_in matches.now)) }
 {
-    let limit = number(alloc, Argument::Limit, text(matches, Argument::Limit))?;
+    let limit = number(Argument::Limit, text(matches, Argument::Limit))?;
     let run = run(alloc, matches)?;
     Ok(Command::Deploy { run, limit })
 }
 
-fn replay(alloc: Global, matches: &ArgMatches<'_>) -> Result<Command, Usage>
-    ensures { GivesAs request_of result (replay_asked (given_in matches.now)) }
+fn replay<'a>(alloc: Global, matches: &ArgMatches<'a>) -> Result<Command, Fault<'a>>
+    ensures { FindsAs request_of result (replay_asked (given_in matches.now)) }
 {
     let run = run(alloc, matches)?;
     Ok(Command::Replay(run))
 }
 
 // The run that a deploy or a replay asks for.
-fn run(alloc: Global, matches: &ArgMatches<'_>) -> Result<Run, Usage>
-    ensures { GivesAs run_of result (run_asked (given_in matches.now)) }
+fn run<'a>(alloc: Global, matches: &ArgMatches<'a>) -> Result<Run, Fault<'a>>
+    ensures { FindsAs run_of result (run_asked (given_in matches.now)) }
 {
-    let workers = workers(alloc, matches)?;
+    let workers = workers(matches)?;
     unless_same(text(matches, Argument::Log), text(matches, Argument::Next))?;
     Ok(Run {
         file: copy(alloc, matches, Argument::File)?,
@@ -130,17 +117,11 @@ fn run(alloc: Global, matches: &ArgMatches<'_>) -> Result<Run, Usage>
     })
 }
 
-fn workload(alloc: Global, matches: &ArgMatches<'_>) -> Result<Command, Usage>
-    ensures { GivesAs request_of result (workload_asked (given_in matches.now)) }
+fn workload<'a>(alloc: Global, matches: &ArgMatches<'a>) -> Result<Command, Fault<'a>>
+    ensures { FindsAs request_of result (workload_asked (given_in matches.now)) }
 {
-    let workers = workers(alloc, matches)?;
-    let steps = number_between(
-        alloc,
-        Argument::Steps,
-        4,
-        200_000,
-        text(matches, Argument::Steps),
-    )?;
+    let workers = workers(matches)?;
+    let steps = number_between(Argument::Steps, 4, 200_000, text(matches, Argument::Steps))?;
     Ok(Command::Workload(Workload {
         log: copy(alloc, matches, Argument::Log)?,
         workers,
@@ -149,21 +130,21 @@ fn workload(alloc: Global, matches: &ArgMatches<'_>) -> Result<Command, Usage>
 }
 
 // How many workers run: 4 where that is not said.
-fn workers(alloc: Global, matches: &ArgMatches<'_>) -> Result<u32, Usage>
-    ensures { Gives result (workers_in (given_in matches.now argument.Workers)) }
+fn workers<'a>(matches: &ArgMatches<'a>) -> Result<u32, Fault<'a>>
+    ensures { Finds result (workers_in (given_in matches.now argument.Workers)) }
 {
     match text_of(matches, Argument::Workers) {
-        Some(text) => number_between(alloc, Argument::Workers, 1, 32, text),
+        Some(text) => number_between(Argument::Workers, 1, 32, text),
         None => Ok(4),
     }
 }
 
 // Two names that may not be the same.
-fn unless_same(log: &str, next: &str) -> Result<(), Usage>
-    ensures { Gives result (unless_same log.now next.now) }
+fn unless_same<'a>(log: &str, next: &str) -> Result<(), Fault<'a>>
+    ensures { Finds result (unless_same log.now next.now) }
 {
     if log == next {
-        return Err(Usage::SameFile);
+        return Err(Fault::SameFile);
     }
     Ok(())
 }

@@ -1,3 +1,5 @@
 pub mod View
 pub mod Reading
 pub mod Laws
+pub mod Known
+pub mod ReadableLaws

@@ -1,13 +1,13 @@
 //! Replays that are called directly.
 use crate::channels::term_of;
-use base_states::read_base;
 use event_log::read_log;
+use event_log::readable_laws::read_logs_are_writable;
 use name_seed::bytes_digest;
 use numbered_jobs::Crew;
 use price_table::Prices;
-use readable_logs::laws::read_logs_are_writable;
 use replay_runs::{Replayed, replay};
 use rho_outside::Gate;
+use run_inputs::read_base;
 use std::sync::Wait;
 use std::thread::Threads;
 use table_lines::LineFault;

@@ -3,7 +3,7 @@ use Rattle.std.specs.Prelude.{ℕ, Option, Some, None, option_map}
 use Rattle.tokens.specs.Token as tokens
 use Rattle.rho_lexer.specs.Meaning as lexer
 use Rattle.scope.specs.Rules.{Broken}
-use Rattle.scope_faults.specs.Faults.{broken_rule}
+use Rattle.input_faults.specs.Faults.{broken_rule}
 use Rattle.input_faults.specs.declared.parse_fault.ParseFault.{ParseFault}
 use Rattle.input_faults.specs.declared.parse_fault.ParseFault.TheVariants as grammatical
 use Rattle.input_faults.specs.declared.source_fault.SourceFault.{SourceFault}

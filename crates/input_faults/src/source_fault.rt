@@ -1,6 +1,6 @@
+use crate::ScopeFault;
 use crate::parse_fault::ParseFault;
 use rho_lexer::LexFault;
-use scope_faults::ScopeFault;
 
 /// Why a source is refused, or that memory is wanted.
 #[derive(Debug, Drop, PartialEq, Eq)]

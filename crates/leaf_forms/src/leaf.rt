@@ -308,24 +308,6 @@ pub fn remainder(cursor: &mut Cursor<'_>) -> Result<Rest, Fault>
     Ok(Rest::Var(name))
 }
 
-/// `true`
-fn truth(cursor: &mut Cursor<'_>) -> Result<Ground, Fault>
-    ensures reads { (side : Side) → Reads cursor.old (Prod.ground_true side) (of_ground side) result cursor.new }
-    ensures shorter { length cursor.new.rest.now ≤ length cursor.old.rest.now }
-{
-    cursor.expect(Mark::True)?;
-    Ok(Ground::Bool(true))
-}
-
-/// `false`
-fn falsity(cursor: &mut Cursor<'_>) -> Result<Ground, Fault>
-    ensures reads { (side : Side) → Reads cursor.old (Prod.ground_false side) (of_ground side) result cursor.new }
-    ensures shorter { length cursor.new.rest.now ≤ length cursor.old.rest.now }
-{
-    cursor.expect(Mark::False)?;
-    Ok(Ground::Bool(false))
-}
-
 /// An integer of at most 2^63 - 1.
 fn positive(cursor: &mut Cursor<'_>) -> Result<Ground, Fault>
     ensures reads { (side : Side) → Reads cursor.old (Prod.ground_int side) (of_ground side) result cursor.new }
@@ -369,18 +351,21 @@ pub fn ground(cursor: &mut Cursor<'_>) -> Result<Ground, Fault>
     ensures shorter { length cursor.new.rest.now ≤ length cursor.old.rest.now }
 {
     if cursor.sees(Mark::True) {
-        truth(cursor)
-    } else if cursor.sees(Mark::False) {
-        falsity(cursor)
-    } else if cursor.sees(Mark::Minus) {
-        negative(cursor)
-    } else if cursor.sees_string() {
-        string_value(cursor)
-    } else if cursor.sees_uri() {
-        uri_value(cursor)
-    } else {
-        positive(cursor)
+        return closed(cursor, Ground::Bool(true), Mark::True);
     }
+    if cursor.sees(Mark::False) {
+        return closed(cursor, Ground::Bool(false), Mark::False);
+    }
+    if cursor.sees(Mark::Minus) {
+        return negative(cursor);
+    }
+    if cursor.sees_string() {
+        return string_value(cursor);
+    }
+    if cursor.sees_uri() {
+        return uri_value(cursor);
+    }
+    positive(cursor)
 }
 
 /// The URI that may follow a declared name.
@@ -414,16 +399,8 @@ pub fn declarations(cursor: &mut Cursor<'_>) -> Result<Vec<Decl>, Fault>
     let none = process_forms::no_names(cursor.alloc);
     let mut names = declaration(cursor, none)?;
     while cursor.sees(Mark::Comma) {
-        names = next_declaration(cursor, names)?;
+        cursor.expect(Mark::Comma)?;
+        names = declaration(cursor, names)?;
     }
     Ok(names)
-}
-
-/// A comma and one more name.
-fn next_declaration(cursor: &mut Cursor<'_>, names: Vec<Decl>) -> Result<Vec<Decl>, Fault>
-    ensures reads { Continues cursor.old (rule Tutorial (Prod.decl_more (map declared names.items))) after_names result cursor.new }
-    ensures shorter { Shortens cursor.old result cursor.new }
-{
-    cursor.expect(Mark::Comma)?;
-    declaration(cursor, names)
 }

@@ -22,18 +22,8 @@ pub fn left_alone(cursor: &mut Cursor<'_>) -> Result<Part<Left>, Fault>
     ensures shorter { length cursor.new.rest.now ≤ length cursor.old.rest.now }
 {
     if cursor.sees(Mark::Ellipsis) {
-        left_only_rest(cursor)
-    } else {
-        left_none(cursor)
+        return left_only_rest(cursor);
     }
-}
-
-/// No pattern and no remainder.
-fn left_none(cursor: &mut Cursor<'_>) -> Result<Part<Left>, Fault>
-    ensures reads { Reads cursor.old Prod.left_none of_left result cursor.new }
-    ensures height { IfOk result (λ p. p.height ≡ 0) }
-    ensures shorter { length cursor.new.rest.now ≤ length cursor.old.rest.now }
-{
     let none = pattern_forms::no_name_pats(cursor.alloc);
     Ok(pattern_forms::left(none, Rest::No))
 }

@@ -25,8 +25,8 @@ use Rattle.checkpoint.specs.Marks.{AreMarks, seen_mark, row_mark}
 use Rattle.checkpoint.specs.declared.marks.Mark.{Mark}
 use Rattle.state_reader.specs.Files.{heading}
 use Rattle.state_reader.proofs.SameRows.{same-rows, storable-row, storable-short, row-length}
-use Rattle.state_laws.proofs.Exact.{root-length, text-parts}
-use Rattle.state_laws.proofs.Same.{Compared, Next, longer, shorter, equal, compared, all-head, all-behind, heads}
+use Rattle.state_reader.proofs.Exact.{root-length, text-parts}
+use Rattle.state_reader.proofs.Same.{Compared, Next, longer, shorter, equal, compared, all-head, all-behind, heads}
 use Rattle.next_states.specs.Pairs.{Pair, pair_of, codes_in, groups_in, cut_by, seconds, TellsKey, IsChanged, IsRight, IsKnown}
 
 -- the codes of rows are those of their pairs

@@ -11,7 +11,7 @@ use Rattle.rho_term.specs.Parts.{part_tree, pat_part_tree}
 use Rattle.rho_term.specs.declared.term.Part.{Part}
 use Rattle.rho_term.specs.declared.term.PatPart.{PatPart}
 use Rattle.code_order.specs.Made.{reordered, made_process}
-use Rattle.pattern_names.specs.InScope.{within}
+use Rattle.normal_parts.specs.InScope.{within}
 use Rattle.normal_parts.specs.Made.{normal_in, parts_in, pattern_parts_in}
 use Rattle.normal_parts.proofs.FromParts.{process-made, pattern-made, closed-made, pattern-ordered}
 use Rattle.normal_parts.proofs.Flat.{parts-closed}

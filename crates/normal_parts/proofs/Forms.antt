@@ -12,7 +12,7 @@ use Rattle.calculus.specs.declared.plain.Rights.{Rights}
 use Rattle.calculus.specs.declared.plain.UnaryOp.{UnaryOp}
 use Rattle.calculus.specs.declared.plain.BinaryOp.{BinaryOp}
 use Rattle.scope.specs.NormalForm.{normal_forms}
-use Rattle.pattern_names.specs.InScope.{within}
+use Rattle.normal_parts.specs.InScope.{within}
 use Rattle.normal_parts.specs.Made.{normal_in, parts_in, all_in}
 
 pub rows : (ts : List Written) (v : Names) → normal_forms (trees (bare_each (writtens ts) v [])) ≡ all_in ts v

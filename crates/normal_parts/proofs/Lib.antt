@@ -1,3 +1,5 @@
+pub mod BindsNone
+pub mod Binding
 pub mod Forms
 pub mod Flat
 pub mod PatternForms

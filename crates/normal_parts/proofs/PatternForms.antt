@@ -9,7 +9,7 @@ use Rattle.calculus.specs.declared.plain.Simple.{Simple}
 use Rattle.calculus.specs.declared.plain.Ground.{Ground}
 use Rattle.calculus.specs.declared.plain.Ground.TheVariants as ground
 use Rattle.calculus.specs.declared.plain.Rights.{Rights}
-use Rattle.pattern_names.specs.InScope.{within}
+use Rattle.normal_parts.specs.InScope.{within}
 use Rattle.normal_parts.specs.Made.{normal_in, pattern_parts_in, all_in}
 use Rattle.normal_parts.proofs.Forms.{rows, row-made}
 

@@ -9,8 +9,8 @@ use Rattle.calculus.specs.declared.plain.TermRest.{TermRest}
 use Rattle.calculus.specs.declared.process.Bind.{Bind}
 use Rattle.calculus.specs.declared.process.Case.{Case}
 use Rattle.open_processes.proofs.Forms.{bind-form, case-form}
-use Rattle.pattern_names.specs.InScope.{within}
-use Rattle.pattern_names.proofs.BindsNone.{proc-binds-none}
+use Rattle.normal_parts.specs.InScope.{within}
+use Rattle.normal_parts.proofs.BindsNone.{proc-binds-none}
 use Rattle.normal_parts.specs.Made.{normal_in, all_in}
 use Rattle.normal_parts.proofs.PatternForms.{pair-made, bind-made, case-made}
 

@@ -23,8 +23,8 @@ use Rattle.calculus.specs.declared.process.Proc.{Proc, the_lemmas}
 use Rattle.calculus.specs.declared.process.Proc.TheVariants as procs
 use Rattle.open_processes.specs.Pairs.{proc_pair}
 use Rattle.open_processes.proofs.Forms.{dict-form}
-use Rattle.pattern_names.specs.InScope.{within}
-use Rattle.pattern_names.proofs.BindsNone.{proc-binds-none}
+use Rattle.normal_parts.specs.InScope.{within}
+use Rattle.normal_parts.proofs.BindsNone.{proc-binds-none}
 use Rattle.normal_parts.specs.Made.{normal_in, all_in, parts_in, all_parts}
 use Rattle.normal_parts.proofs.Calls.{of-form, many-same, row-same, one-same, two-same}
 use Rattle.normal_parts.proofs.Flat.{parts-par, parts-drop, parts-quote}

@@ -1,6 +1,6 @@
 -- What a maker has made.
 use Rattle.std.specs.Prelude.{◌≡◌, ℕ, List, false}
-use Rattle.pattern_names.specs.InScope.{within}
+use Rattle.normal_parts.specs.InScope.{within}
 use Rattle.normalizer.specs.declared.maker.Maker.{Maker}
 
 -- where memory suffices now, it sufficed before, the scope is as it was, and this is so of what was made

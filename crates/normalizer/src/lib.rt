@@ -5,5 +5,5 @@ mod make;
 mod maker;
 pub mod normal;
 
+pub use input_faults::ScopeFault;
 pub use normal::normalize;
-pub use scope_faults::ScopeFault;

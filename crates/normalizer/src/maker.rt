@@ -9,12 +9,11 @@ ghost use Rattle.rho_term.specs.Normal.{IsOrdered};
 ghost use Rattle.rho_term.specs.Parts.{part_tree, pat_part_tree, pat_tree};
 ghost use Rattle.normalizer.specs.Making.{Made, Joined};
 
-use bound_names::Names;
 use calculus::{Bind, Decl, Ground, Origin, Pat};
 use code_order::make_par;
-use normal_parts::{closed_parts, copy_ground, origins};
-use pattern_names::{bind_binds, bind_declared, bind_pattern};
+use normal_parts::{bind_binds, bind_declared, bind_pattern, closed_parts, copy_ground, origins};
 use rho_term::{Part, PatPart, Term, TermPat};
+use scope_names::Names;
 use std::alloc::{AllocError, Global};
 
 /// What makes terms in a scope. Once memory was wanting, what it makes is of no use.

@@ -4,14 +4,14 @@ ghost use Rattle.calculus.specs.Congruence.{congruent};
 ghost use Rattle.calculus.specs.Meaning.{proc_written};
 ghost use Rattle.scope.specs.NormalForm.{normal_form};
 ghost use Rattle.scope.specs.Rules.{broken_rules};
-ghost use Rattle.scope_faults.specs.Walks.{Judges};
+ghost use Rattle.input_faults.specs.Walks.{Judges};
 
 use crate::make::make_term;
 use crate::maker::Maker;
 use calculus::Proc;
+use input_faults::ScopeFault;
 use rho_term::Term;
 use scope_check::check_scope;
-use scope_faults::ScopeFault;
 use std::alloc::Global;
 
 /// The normal term of a process, which is congruent to the process without its names.

@@ -12,10 +12,10 @@ use Rattle.rho_term.specs.declared.term.Part.{Part}
 use Rattle.rho_term.specs.Parts.{part_tree}
 use Rattle.term_encoder.specs.Sizes.{in_u64, size}
 use Rattle.term_encoder.proofs.Lengths.{size-code}
-use Rattle.capped_work.specs.declared.stop.EvalStop.{EvalStop}
-use Rattle.capped_work.specs.declared.stop.EvalStop.TheVariants.{Over}
-use Rattle.capped_work.specs.Outcomes.{Came, Stopped}
-use Rattle.capped_work.proofs.Outcomes.{later}
+use Rattle.price_table.specs.declared.stop.EvalStop.{EvalStop}
+use Rattle.price_table.specs.declared.stop.EvalStop.TheVariants.{Over}
+use Rattle.price_table.specs.Outcomes.{Came, Stopped}
+use Rattle.price_table.proofs.Outcomes.{later}
 use Rattle.offered_rows.specs.Offers.{IsOffered, row_of}
 use Rattle.offered_rows.proofs.Rows.{part-length}
 

@@ -7,10 +7,10 @@ use Rattle.calculus.specs.Shape.{one, two, many, only}
 use Rattle.calculus.specs.Outcome.{Answer, fails, Outcome}
 use Rattle.calculus.specs.Rows.{Row}
 use Rattle.calculus.specs.Unfolding.{Product, Channel, a_row, row_limits}
-use Rattle.capped_work.specs.declared.budget.Budget.{Budget}
-use Rattle.capped_work.specs.declared.stop.EvalStop.{EvalStop}
-use Rattle.capped_work.specs.declared.stop.Priced.{Priced}
-use Rattle.capped_work.specs.Outcomes.{Came, Stopped}
+use Rattle.price_table.specs.declared.budget.Budget.{Budget}
+use Rattle.price_table.specs.declared.stop.EvalStop.{EvalStop}
+use Rattle.price_table.specs.declared.stop.Priced.{Priced}
+use Rattle.price_table.specs.Outcomes.{Came, Stopped}
 use Rattle.rho_term.specs.declared.op.Op.{Op}
 use Rattle.rho_term.specs.declared.term.Part.{Part}
 use Rattle.rho_term.specs.declared.term.Part.TheVariants as part

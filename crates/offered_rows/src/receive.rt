@@ -13,7 +13,7 @@ use crate::names::{names_fault, opened_names};
 use crate::placed::sorted;
 use crate::row::offer_part;
 use calculus::{Digest, Kind};
-use capped_work::{Budget, EvalStop, Priced};
+use price_table::{Budget, EvalStop, Priced};
 use rho_term::{Op, Part, Term, TermBind, TermPat};
 use std::alloc::{AllocError, Global};
 use substitution::renumber_body;

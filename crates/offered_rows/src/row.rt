@@ -5,12 +5,12 @@ ghost use Rattle.calculus.specs.Unfolding.{a_row, offered, row_limits};
 ghost use Rattle.calculus.specs.Outcome.{free};
 ghost use Rattle.rho_term.specs.Parts.{part_tree};
 ghost use Rattle.rho_term.specs.Rows.{row_of_op};
-ghost use Rattle.capped_work.specs.Outcomes.{Came, Stopped};
+ghost use Rattle.price_table.specs.Outcomes.{Came, Stopped};
 ghost use Rattle.term_encoder.specs.Sizes.{in_u64};
 ghost use Rattle.offered_rows.specs.Offers.{ComesToRow, IsOffered, IsOneOffered, row_of, tested};
 
 use calculus::{Digest, FaultKind};
-use capped_work::{Budget, EvalStop, Priced};
+use price_table::{Budget, EvalStop, Priced};
 use rho_term::{MOST_BYTES, MOST_HEIGHT, Op, Part, Term};
 use std::alloc::Global;
 use term_encoder::code_len;

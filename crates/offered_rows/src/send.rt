@@ -9,7 +9,7 @@ ghost use Rattle.offered_rows.specs.Offers.{ComesToRow, tested};
 use crate::opened::opened_channel;
 use crate::row::offer_part;
 use calculus::{Digest, FaultKind};
-use capped_work::{Budget, EvalStop, Priced};
+use price_table::{Budget, EvalStop, Priced};
 use rho_term::{Op, Part, Term};
 use std::alloc::Global;
 

@@ -9,7 +9,7 @@ use Rattle.calculus.specs.declared.process.Case.{Case}
 use Rattle.calculus.specs.declared.process.Name.{Name, Name-F}
 use Rattle.calculus.specs.declared.process.Name.TheFolds.{fold_out-Name}
 use Rattle.scope.specs.Binding.{Scope, variables, all_variables, inside, uses_more, any_uses_more}
-use Rattle.scope_variables.proofs.Insides.{inside-append, inside-nil, inside-two}
+use Rattle.scope_names.proofs.Insides.{inside-append, inside-nil, inside-two}
 use Rattle.open_processes.proofs.Forms.{bind-form, case-form}
 use Rattle.open_processes.proofs.Meanings.{rest-uses}
 

@@ -4,11 +4,11 @@ ghost use Rattle.std.specs.Prelude.{◌≡◌, ◌≤◌, ◌-◌, ◌++◌, ◌
 ghost use Rattle.calculus.specs.Written.{writtens};
 ghost use Rattle.calculus.specs.Meaning.{proc_written, name_written, pat_written, name_pat_written, bind_written, case_written, rest_written, declared as declared_pair};
 ghost use Rattle.scope.specs.Binding.{variables, all_variables, inside, declared_variables, is_absent, sense_of, uses_more as more_is_used, any_uses_more as any_more_is_used};
-ghost use Rattle.scope_variables.specs.Senses.{sense};
+ghost use Rattle.scope_names.specs.Senses.{sense};
 ghost use Rattle.open_processes.specs.Pairs.{proc_pair, pat_pair};
 
 use calculus::{Bind, Case, Decl, Name, NamePat, Pat, Proc, Rest};
-use scope_variables::{Role, Variables};
+use scope_names::{Role, Variables};
 use std::alloc::{AllocError, Global};
 
 /// Whether a process uses a name that has no variable in this scope or in the process. Where it does

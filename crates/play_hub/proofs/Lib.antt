@@ -1,3 +1,4 @@
 pub mod Bits
 pub mod Ending
 pub mod Drawing
+pub mod Crossing

@@ -19,7 +19,7 @@ use Rattle.events.proofs.Standing.{ids-times}
 use Rattle.run_entries.specs.Entries.{Space}
 use Rattle.run_entries.specs.Allowed.{ComesTo, core_of}
 use Rattle.run_entries.proofs.Holding.{Held, held as held-after}
-use Rattle.storable_row_laws.proofs.Staying.{storable_rows_stay}
+use Rattle.process_laws.proofs.StorableStaying.{storable_rows_stay}
 use Rattle.play_scene.specs.Plays.{TouchingEntry, entries_of, space_after_all}
 use Rattle.play_scene.proofs.Drawing.{plays_are_allowed}
 use Rattle.play_outcome.specs.Runs.{EndedPlay}

@@ -1,3 +1,5 @@
+mod Knowing
+mod Numbers
 mod Beginning
 mod Taken
 mod Crossing

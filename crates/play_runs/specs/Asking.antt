@@ -4,7 +4,7 @@ use Rattle.calculus.specs.Rows.{Row}
 use Rattle.calculus.specs.Runs.{Deploy, deploy_of, Work}
 use Rattle.calculus.specs.Seeds.{digest_of, Start}
 use Rattle.calculus.specs.Unfolding.{Unfolds}
-use Rattle.play_steps.specs.declared.means.Means.{Means}
+use Rattle.play_runs.specs.declared.means.Means.{Means}
 use Rattle.play_runs.specs.declared.asking.Asked.{Asked}
 
 -- the deploy of what is asked, by these means, from these rows

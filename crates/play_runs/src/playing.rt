@@ -19,15 +19,14 @@ ghost use Rattle.play_runs.specs.Asking.{deploy_in, UnfoldsTo};
 
 use crate::asking::Asked;
 use crate::rows::rows_may_be_stored;
+use crate::{KnownWork, Means, known_work};
 use calculus::{Digest, FaultKind};
 use group_locks::Closed;
-use known_work::{KnownWork, known_work};
 use name_seed::Seed;
 use numbered_jobs::Crew;
 use play_hub::{PlayScene, PlayTerms};
 use play_outcome::{Played, outcome};
 use play_pool::play_side_by_side;
-use play_steps::Means;
 use price_table::Prices;
 use rho_outside::Gate;
 use rho_term::Term;
@@ -38,7 +37,7 @@ use std::alloc::{AllocError, Global};
 use std::marker::Brand;
 use std::sync::Wait;
 use std::thread::Threads;
-use step_work::{Worked, work_source};
+use unfold::{Worked, work_source};
 
 // What a closed hub comes to, where the source has this fault. Want of memory is the one error.
 fn tell<J: PlayTerms + Sync, T: ShardTables + Sync>(

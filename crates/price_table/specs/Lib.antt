@@ -1,1 +1,3 @@
 pub mod Listed
+pub mod Outcomes
+pub mod Results

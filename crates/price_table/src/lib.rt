@@ -1,14 +1,20 @@
-//! Prices of work, and what a log names them by.
+//! Prices of work, their digest, and the greatest limit under them; and what work comes to under a cap: a result at its price, or why
+//! there is none.
 #![tactic(auto)]
+
+pub mod budget;
+pub mod stop;
 
 ghost use Rattle.std.specs.Prelude.{◌≡◌, ◌≤◌, ◌<◌, ◌^◌};
 ghost use Rattle.calculus.specs.Bytes.{be64};
 ghost use Rattle.calculus.specs.Limits.{price_digest, most_limit as greatest_limit};
 ghost use Rattle.price_table.specs.Listed.{AreInRange, prices_listed};
 
+pub use budget::Budget;
 use calculus::Digest;
 use sha2::{Digest as _, Sha256};
 use std::marker::Model;
+pub use stop::{EvalStop, Priced};
 
 /// Seven prices, in the order in which a digest takes them.
 #[derive(Clone, Copy, Debug, PartialEq, Eq)]

@@ -18,7 +18,7 @@ use Rattle.rho_term.specs.declared.term.Part.{Part}
 use Rattle.rho_term.specs.declared.term.Part.TheVariants as parts
 use Rattle.rho_term.specs.declared.term.TermBind.{TermBind}
 use Rattle.rho_term.specs.declared.term.TermCase.{TermCase}
-use Rattle.printed_words.specs.Words.{remainder}
+use Rattle.printed_leaves.specs.Words.{remainder}
 use Rattle.printed_leaves.specs.Texts.{text_of, texts_of, left_text, bind_text_of, IsClosedForm, AddsTo, Writes, WritesAs, WritesPattern, WritesPart, WritesListed, WritesBind}
 use Rattle.printed_leaves.proofs.Rows.{row_printed, single_name_pat, ordered_texts}
 use Rattle.printed_leaves.proofs.Forms.{after, shown, no_variables}

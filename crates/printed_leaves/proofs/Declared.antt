@@ -3,7 +3,7 @@ use Rattle.std.proofs.Common.{◌≡◌, ℕ, zero, suc, ◌+◌, ◌<◌, ◌�
 use Rattle.calculus.specs.declared.plain.Origin.{Origin}
 use Rattle.calculus.specs.declared.plain.Origin.TheVariants as origins
 use Rattle.calculus.specs.Printed.{separated, declared_texts, variable_text, uri_text}
-use Rattle.printed_words.specs.Words.{before}
+use Rattle.printed_leaves.specs.Words.{before}
 use Rattle.printed_leaves.specs.Texts.{separated_from}
 use Rattle.printed_leaves.proofs.Lists.{separated_zero, none_left}
 

@@ -7,7 +7,7 @@ use Rattle.calculus.specs.Form.{Sort, all}
 use Rattle.calculus.specs.Printed.{separated}
 use Rattle.calculus.proofs.Formed.{Formed, Holds}
 use Rattle.calculus.proofs.Tails.{IsFine}
-use Rattle.printed_words.specs.Words.{before}
+use Rattle.printed_leaves.specs.Words.{before}
 use Rattle.printed_leaves.specs.Texts.{chain, separated_from, GoesOn}
 
 -- the members from number i on are left

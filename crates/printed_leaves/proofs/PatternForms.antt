@@ -13,7 +13,7 @@ use Rattle.calculus.proofs.Tails.{IsFine}
 use Rattle.rho_term.specs.Parts.{pat_part_tree, pat_tree, pair_tree}
 use Rattle.rho_term.specs.declared.term.PatPart.{PatPart}
 use Rattle.calculus.specs.Printed.{printed}
-use Rattle.printed_words.specs.Words.{remainder}
+use Rattle.printed_leaves.specs.Words.{remainder}
 use Rattle.printed_leaves.specs.Texts.{text_of, texts_of, members_text, left_text, joined_text, AddsTo, GoesOn, Writes, WritesFrom, WritesPattern, WritesPart, WritesJoined, WritesListed}
 use Rattle.printed_leaves.proofs.Lists.{before_some}
 use Rattle.printed_leaves.proofs.Rows.{nothing_more, row_printed, single_pat, single_pair, each_first, first_either, listed-trees, trees-listed}

@@ -8,7 +8,7 @@ use Rattle.calculus.specs.Variables.{bound, bound_all}
 use Rattle.calculus.specs.Form.{Sort, term, a_bind, pat, name_pat, pat_part, name_part, all}
 use Rattle.calculus.specs.Printed.{first_text, separated, bind_texts, rest_text, with_commas, with_rest, operand_text, name_text}
 use Rattle.calculus.specs.Formed.{IsFine, Formed, Holds}
-use Rattle.printed_words.specs.Words.{before}
+use Rattle.printed_leaves.specs.Words.{before}
 use Rattle.rho_term.specs.declared.term.Part.{Part}
 use Rattle.rho_term.specs.declared.term.Part.TheVariants as parts
 use Rattle.calculus.specs.Printed.{printed}

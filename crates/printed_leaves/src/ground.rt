@@ -4,8 +4,8 @@ ghost use Rattle.calculus.specs.Form.{part};
 ghost use Rattle.rho_term.specs.Parts.{ground_tree};
 ghost use Rattle.printed_leaves.specs.Texts.{text_of};
 
+use crate::{bool_word, put, put_hex, put_int, put_str, put_uri};
 use calculus::Ground;
-use printed_words::{bool_word, put, put_hex, put_int, put_str, put_uri};
 use std::alloc::AllocError;
 
 // A ground value.

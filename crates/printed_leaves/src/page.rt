@@ -7,14 +7,14 @@ ghost use Rattle.calculus.specs.Texts.{to_hex};
 ghost use Rattle.calculus.specs.Tree.{rest};
 ghost use Rattle.calculus.specs.Variables.{bound};
 ghost use Rattle.printed_leaves.specs.Texts.{Wrote, Adds, AddsTo, WritesName, text_of};
-ghost use Rattle.printed_words.specs.Words.{before, remainder};
+ghost use Rattle.printed_leaves.specs.Words.{before, remainder};
 ghost use Rattle.rho_term.specs.Parts.{ground_tree, part_tree};
 
 use crate::ground::put_ground;
-use calculus::{Digest, Ground, Origin, TermRest};
-use printed_words::{
+use crate::{
     number_of, put, put_fresh, put_rest, put_space_since, put_variable, separate, uri_after,
 };
+use calculus::{Digest, Ground, Origin, TermRest};
 use rho_term::{Part, Term};
 use std::alloc::{AllocError, Global};
 

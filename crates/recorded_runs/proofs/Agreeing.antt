@@ -5,7 +5,7 @@ use Rattle.calculus.specs.declared.fault.FaultKind.{FaultKind}
 use Rattle.calculus.specs.Log.{Step}
 use Rattle.calculus.specs.Runs.{Verdict, done, exhausted, faulted}
 use Rattle.event_log.specs.Reading.{log_of}
-use Rattle.replay_faults.specs.declared.fault.ReplayFault.{ReplayFault}
+use Rattle.replays.specs.declared.fault.ReplayFault.{ReplayFault}
 use Rattle.replays.specs.Replays.{Answers, Outcome, replayed, deploy_under}
 use Rattle.run_verdict.specs.View.{verdict_of}
 use Rattle.run_verdict.specs.declared.verdict.Verdict.{Verdict as Ending}

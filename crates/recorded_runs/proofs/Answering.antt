@@ -12,14 +12,14 @@ use Rattle.sources.proofs.Answering.{one_term}
 use Rattle.event_log.specs.Reading.{log_of}
 use Rattle.event_log.specs.declared.fault.LogFault.{LogFault}
 use Rattle.replay_answers.specs.Answers.{Clashes}
-use Rattle.replay_faults.specs.declared.fault.ReplayFault.{ReplayFault}
+use Rattle.replays.specs.declared.fault.ReplayFault.{ReplayFault}
 use Rattle.run_verdict.specs.View.{verdict_of}
 use Rattle.run_verdict.specs.declared.verdict.Verdict.{Verdict as Ending}
 use Rattle.run_verdict.specs.declared.verdict.Verdict.TheVariants as ending
 use Rattle.run_inputs.specs.Inputs.{Task}
 use Rattle.run_inputs.specs.Given.{IsGiven}
-use Rattle.base_states.specs.Bases.{IsStateOf}
-use Rattle.base_states.proofs.OneState.{one_state}
+use Rattle.run_inputs.specs.Bases.{IsStateOf}
+use Rattle.run_inputs.proofs.OneState.{one_state}
 use Rattle.run_inputs.specs.declared.acceptance.ReplayInputs.{ReplayInputs}
 use Rattle.run_status.specs.Endings.{status_of, HasEnded}
 use Rattle.run_status.specs.declared.status.Status.{Status}

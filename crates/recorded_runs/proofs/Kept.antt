@@ -13,7 +13,7 @@ use Rattle.calculus.specs.Tree.{Tree}
 use Rattle.replays.specs.Replays.{Outcome, Refusal, replayed, header_refusal, unless_equal, wrong_limit, outcome_of, output_of, Answers, by_end}
 use Rattle.event_log.specs.Laws.{IsHeader}
 use Rattle.event_log.proofs.Written.{written_logs_are_read}
-use Rattle.state_laws.proofs.Exact.{root-length}
+use Rattle.state_reader.proofs.Exact.{root-length}
 use Rattle.run_inputs.specs.Inputs.{Task}
 use Rattle.recorded_runs.specs.Runs.{header_of, deploy_in, printed, ShowsAClash, IsLeftByRun}
 use Rattle.recorded_runs.specs.Replaying.{given_in, IsLeftByOutcome}

@@ -2,7 +2,7 @@
 use Rattle.std.proofs.Common.{◌≡◌, ◌∙◌, ℕ, List, [], ap, subst}
 use Rattle.calculus.specs.Log.{log_text}
 use Rattle.calculus.specs.Rows.{Row}
-use Rattle.base_states.proofs.OneState.{one_state}
+use Rattle.run_inputs.proofs.OneState.{one_state}
 use Rattle.recorded_runs.specs.Plan.{IsPlan}
 use Rattle.recorded_runs.specs.Runs.{header_of, IsLeftBySource}
 use Rattle.recorded_runs.specs.declared.deploys.Plan.{Plan}

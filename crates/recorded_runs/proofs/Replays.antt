@@ -13,12 +13,12 @@ use Rattle.states.proofs.Groups.{root_ignores_order, text_ignores_order}
 use Rattle.run_verdict.specs.View.{verdict_of}
 use Rattle.run_verdict.specs.declared.verdict.Verdict.{Verdict as Ending}
 use Rattle.run_verdict.specs.declared.verdict.Verdict.TheVariants as ending
-use Rattle.replay_faults.specs.Refusals.{is_of_header, refusal_of}
-use Rattle.replay_faults.specs.declared.fault.ReplayFault.{ReplayFault}
-use Rattle.replay_faults.specs.declared.fault.ReplayFault.TheVariants.{WrongBase, WrongSource, WrongPrices, WrongLimit, NoRun, Reducible, NoMemory}
+use Rattle.replays.specs.Refusals.{is_of_header, refusal_of}
+use Rattle.replays.specs.declared.fault.ReplayFault.{ReplayFault}
+use Rattle.replays.specs.declared.fault.ReplayFault.TheVariants.{WrongBase, WrongSource, WrongPrices, WrongLimit, NoRun, Reducible, NoMemory}
 use Rattle.replay_answers.specs.Answers.{IsReplayed, IsAnswered}
 use Rattle.replay_answers.specs.declared.replayed.Replayed.{Replayed}
-use Rattle.base_states.specs.Bases.{IsStateOf}
+use Rattle.run_inputs.specs.Bases.{IsStateOf}
 use Rattle.run_inputs.specs.declared.acceptance.ReplayInputs.{ReplayInputs}
 use Rattle.run_status.specs.Statuses.{ReplayStatusOf}
 use Rattle.run_status.specs.declared.status.Status.{Status}

@@ -1,7 +1,7 @@
 -- How a workload ends.
 use Rattle.std.proofs.Common.{◌≡◌, ◌⊎◌, inl, inr, ℕ, List, [], sym, subst, refl}
 use Rattle.calculus.specs.Rows.{Row}
-use Rattle.base_states.specs.Bases.{IsStateOf}
+use Rattle.run_inputs.specs.Bases.{IsStateOf}
 use Rattle.run_inputs.specs.Given.{IsGiven}
 use Rattle.run_inputs.specs.Inputs.{Task}
 use Rattle.run_inputs.specs.declared.acceptance.ReplayInputs.{ReplayInputs}

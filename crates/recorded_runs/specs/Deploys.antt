@@ -5,7 +5,7 @@ use Rattle.rho_outside.specs.Told.{Told}
 use Rattle.command_words.specs.Commands.{RunRequest}
 use Rattle.input_faults.specs.declared.state_fault.StateFault.{StateFault}
 use Rattle.run_inputs.specs.Inputs.{Refusal, accepted_state, accepted}
-use Rattle.base_states.specs.Bases.{IsNoState}
+use Rattle.run_inputs.specs.Bases.{IsNoState}
 use Rattle.run_inputs.specs.Runnable.{HasProcess, HasState, OwnsIds}
 use Rattle.run_inputs.specs.Refused.{IsRefusal, Says, SaysNoState, SaysOf}
 use Rattle.run_inputs.specs.Ended.{DeployEnds}

@@ -3,7 +3,7 @@ use Rattle.std.specs.Prelude.{◌≡◌, ◌⊎◌, ℕ, List, [], ◌∷◌}
 use Rattle.calculus.specs.Log.{Step}
 use Rattle.calculus.specs.Tree.{Tree}
 use Rattle.made_input.specs.MadeInput.{made_text}
-use Rattle.replay_faults.specs.declared.fault.ReplayFault.{ReplayFault}
+use Rattle.replays.specs.declared.fault.ReplayFault.{ReplayFault}
 use Rattle.rho_outside.specs.Kept.{with_files}
 use Rattle.rho_outside.specs.Put.{GrewBy}
 use Rattle.recorded_runs.specs.Runs.{IsLeftBySource, Left, ShowsAClash}

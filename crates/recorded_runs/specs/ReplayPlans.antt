@@ -6,8 +6,8 @@ use Rattle.calculus.specs.Rows.{Row}
 use Rattle.states.specs.States.{state_text}
 use Rattle.replays.specs.Replays.{Given, Refusal, refused, header_refusal, deploy_under, Answers}
 use Rattle.event_log.specs.View.{header_of, step_of}
-use Rattle.replay_faults.specs.Refusals.{refusal_of}
-use Rattle.replay_faults.specs.declared.fault.ReplayFault.{ReplayFault}
+use Rattle.replays.specs.Refusals.{refusal_of}
+use Rattle.replays.specs.declared.fault.ReplayFault.{ReplayFault}
 use Rattle.replay_answers.specs.Answers.{Clashes}
 use Rattle.replay_answers.specs.declared.replayed.Replayed.{Replayed}
 use Rattle.run_verdict.specs.View.{verdict_of}

@@ -12,9 +12,9 @@ use Rattle.event_log.specs.Reading.{log_of}
 use Rattle.sources.specs.Sources.{IsSourceOf}
 use Rattle.run_verdict.specs.View.{verdict_of}
 use Rattle.run_verdict.specs.declared.verdict.Verdict.TheVariants as ending
-use Rattle.replay_faults.specs.Refusals.{refusal_of}
-use Rattle.replay_faults.specs.declared.fault.ReplayFault.{ReplayFault}
-use Rattle.replay_faults.specs.declared.fault.ReplayFault.TheVariants.{NoRun, Reducible}
+use Rattle.replays.specs.Refusals.{refusal_of}
+use Rattle.replays.specs.declared.fault.ReplayFault.{ReplayFault}
+use Rattle.replays.specs.declared.fault.ReplayFault.TheVariants.{NoRun, Reducible}
 use Rattle.replay_answers.specs.Answers.{Clashes}
 use Rattle.replay_answers.specs.Bases.{asked}
 use Rattle.rho_outside.specs.Causes.{Rose}
@@ -24,7 +24,7 @@ use Rattle.rho_outside.specs.Kept.{with_files}
 use Rattle.command_words.specs.Commands.{RunRequest}
 use Rattle.run_inputs.specs.Inputs.{Task, accepted_log}
 use Rattle.run_inputs.specs.Ended.{IsReplayAccepted}
-use Rattle.base_states.specs.Bases.{IsStateOf}
+use Rattle.run_inputs.specs.Bases.{IsStateOf}
 use Rattle.run_reports.specs.Stops.{StopsOnTheWay}
 use Rattle.run_reports.specs.World.{World}
 use Rattle.run_status.specs.Endings.{status_of}

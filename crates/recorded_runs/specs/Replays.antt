@@ -8,7 +8,7 @@ use Rattle.rho_outside.specs.Told.{Told}
 use Rattle.command_words.specs.Commands.{RunRequest}
 use Rattle.input_faults.specs.declared.state_fault.StateFault.{StateFault}
 use Rattle.run_inputs.specs.Inputs.{Task, Refusal, accepted_state, accepted_source, accepted_log}
-use Rattle.base_states.specs.Bases.{IsNoState}
+use Rattle.run_inputs.specs.Bases.{IsNoState}
 use Rattle.run_inputs.specs.Runnable.{IsRunnable, HasState, OwnsIds}
 use Rattle.run_inputs.specs.Refused.{Says, SaysNoState, SaysOf}
 use Rattle.run_inputs.specs.Replaying.{IsReplayRefusal, SaysLog}

@@ -16,7 +16,7 @@ use Rattle.run_entries.specs.Allowed.{ShowsAnId}
 use Rattle.run_verdict.specs.View.{verdict_of}
 use Rattle.run_verdict.specs.declared.verdict.Verdict.TheVariants as ending
 use Rattle.run_inputs.specs.Inputs.{Task}
-use Rattle.base_states.specs.Bases.{IsStateOf}
+use Rattle.run_inputs.specs.Bases.{IsStateOf}
 use Rattle.run_reports.specs.Report.{Report, report_line}
 
 -- what a run leaves: the steps of its log, the next state's bytes, what it prints, and a report

@@ -16,13 +16,12 @@ ghost use Rattle.run_reports.specs.World.{world};
 
 use crate::next::{next_state, printed};
 use command_words::Run;
-use event_log::{Log, LogHeader, write_log};
+use event_log::{Log, LogHeader, steps_are_readable, write_log};
 use name_seed::bytes_digest;
 use next_states::KnownState;
 use numbered_jobs::Crew;
 use play_outcome::Played;
 use play_runs::play;
-use readable_logs::steps_are_readable;
 use rho_outside::{Gate, Shelf, Sink};
 use rspace_table::SpaceTables;
 use run_inputs::{Base, Inputs};

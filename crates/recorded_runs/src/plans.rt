@@ -8,9 +8,9 @@ ghost use Rattle.recorded_runs.specs.Workloads.{RefusedFor};
 
 use crate::inputs::made_inputs;
 use crate::{Plan, ReplayPlan, make_plan, make_replay_plan};
+use event_log::readable_laws::read_logs_are_writable;
 use event_log::{Log, read_log};
 use numbered_jobs::Crew;
-use readable_logs::laws::read_logs_are_writable;
 use rho_outside::Gate;
 use run_inputs::ReplayInputs;
 use run_status::Status;

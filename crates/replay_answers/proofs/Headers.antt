@@ -10,8 +10,8 @@ use Rattle.calculus.specs.Root.{root}
 use Rattle.calculus.specs.Rows.{Row}
 use Rattle.events.proofs.Counts.{same_bytes, bytes_same}
 use Rattle.replays.specs.Replays.{Given, Refusal, refused, wrong_base, wrong_source, wrong_prices, wrong_limit, unless_equal, header_refusal, Answers, by_header}
-use Rattle.replay_faults.specs.Refusals.{refusal_of}
-use Rattle.replay_faults.specs.declared.fault.ReplayFault.{ReplayFault}
+use Rattle.replays.specs.Refusals.{refusal_of}
+use Rattle.replays.specs.declared.fault.ReplayFault.{ReplayFault}
 use Rattle.replay_answers.specs.Answers.{IsAnswered}
 use Rattle.calculus.specs.Limits.{price_digest, most_limit}
 use Rattle.replay_answers.specs.Bases.{asked}

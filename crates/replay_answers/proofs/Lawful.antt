@@ -6,14 +6,14 @@ use Rattle.calculus.specs.Form.{IsClosed}
 use Rattle.calculus.specs.Log.{Header, Step}
 use Rattle.calculus.specs.Rows.{Row}
 use Rattle.calculus.specs.Runs.{Verdict, done, exhausted, faulted}
-use Rattle.closed_row_laws.specs.Laws.{AreClosedRows}
+use Rattle.process_laws.specs.ClosedRowLaws.{AreClosedRows}
 use Rattle.replays.specs.Replays.{Given, Answer, Answers, Outcome, Refusal, refused, replayed}
 use Rattle.run_laws.proofs.Logs.{each_log_is_answered}
 use Rattle.replay_answers.specs.Answers.{IsAnswered, IsReplayed}
 use Rattle.replay_answers.specs.Laws.{AnswersSaySame, IsTold, SaySame}
-use Rattle.replay_faults.specs.Refusals.{refusal_of}
-use Rattle.replay_faults.specs.declared.fault.ReplayFault.{ReplayFault}
-use Rattle.replay_faults.specs.declared.fault.ReplayFault.TheVariants.{WrongBase, WrongSource, WrongPrices, WrongLimit, NoRun, Reducible, NoMemory}
+use Rattle.replays.specs.Refusals.{refusal_of}
+use Rattle.replays.specs.declared.fault.ReplayFault.{ReplayFault}
+use Rattle.replays.specs.declared.fault.ReplayFault.TheVariants.{WrongBase, WrongSource, WrongPrices, WrongLimit, NoRun, Reducible, NoMemory}
 use Rattle.replay_answers.specs.declared.replayed.Replayed.{Replayed}
 
 -- a run is done or it is not

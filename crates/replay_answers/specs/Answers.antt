@@ -6,8 +6,8 @@ use Rattle.calculus.specs.Unfolding.{Unfolds}
 use Rattle.racing_replays.specs.Answering.{SomeClash}
 use Rattle.replays.specs.Replays.{Given, Outcome, refused, replayed, Answers}
 use Rattle.run_verdict.specs.View.{verdict_of}
-use Rattle.replay_faults.specs.Refusals.{refusal_of}
-use Rattle.replay_faults.specs.declared.fault.ReplayFault.{ReplayFault}
+use Rattle.replays.specs.Refusals.{refusal_of}
+use Rattle.replays.specs.declared.fault.ReplayFault.{ReplayFault}
 use Rattle.replay_answers.specs.declared.replayed.Replayed.{Replayed}
 
 -- the digests of a replay of a log clash: the source comes to this work, and from there some of the log's steps may be done, in an order that each row's uses allow, so that a row of the checkpoint has the id of a built-in receiver or one that is made there, or two of the texts that are hashed there have one digest

@@ -2,13 +2,13 @@
 use Rattle.std.specs.Prelude.{◌≡◌, ⊤, List, Result, Ok, Err, IsPermutation}
 use Rattle.calculus.specs.Form.{IsClosed}
 use Rattle.calculus.specs.Log.{Header, Step}
-use Rattle.closed_row_laws.specs.Laws.{AreClosedRows}
+use Rattle.process_laws.specs.ClosedRowLaws.{AreClosedRows}
 use Rattle.replays.specs.Replays.{Given}
 use Rattle.run_verdict.specs.View.{verdict_of}
 use Rattle.replay_answers.specs.Answers.{IsAnswered}
-use Rattle.replay_faults.specs.Refusals.{refusal_of}
-use Rattle.replay_faults.specs.declared.fault.ReplayFault.{ReplayFault}
-use Rattle.replay_faults.specs.declared.fault.ReplayFault.TheVariants.{NoMemory}
+use Rattle.replays.specs.Refusals.{refusal_of}
+use Rattle.replays.specs.declared.fault.ReplayFault.{ReplayFault}
+use Rattle.replays.specs.declared.fault.ReplayFault.TheVariants.{NoMemory}
 use Rattle.replay_answers.specs.declared.replayed.Replayed.{Replayed}
 
 -- memory did not run out

@@ -7,12 +7,12 @@ ghost use Rattle.calculus.specs.Limits.{most_limit as greatest_limit};
 ghost use Rattle.event_log.specs.View.{header_of};
 ghost use Rattle.replays.specs.Replays.{header_refusal};
 ghost use Rattle.replay_answers.specs.Bases.{asked};
-ghost use Rattle.replay_faults.specs.Refusals.{is_of_header, refusal_of};
+ghost use Rattle.replays.specs.Refusals.{is_of_header, refusal_of};
 
 use calculus::Digest;
 use event_log::LogHeader;
 use price_table::{Prices, most_limit};
-use replay_faults::ReplayFault;
+use replays::ReplayFault;
 
 /// Refuses a header that names another base, source or prices than these, or a limit out of range: by the
 /// first of its parts that is wrong.

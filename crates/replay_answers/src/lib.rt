@@ -8,5 +8,5 @@ pub mod laws;
 pub mod replayed;
 
 pub use header::check_header;
-pub use replay_faults::ReplayFault;
 pub use replayed::Replayed;
+pub use replays::ReplayFault;

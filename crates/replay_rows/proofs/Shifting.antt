@@ -11,7 +11,7 @@ use Rattle.rho_term.specs.declared.term.TermBind.{TermBind}
 use Rattle.std.proofs.lemmas.Nat.Bits.{bit_at_or, bit_at-zero, bit_at-pow_same, bit_at-pow_other}
 use Rattle.std.proofs.lemmas.Bool.Decides.{nat_tests}
 use Rattle.replay_rows.specs.Bits.{has_bit}
-use Rattle.row_homes.specs.Homes.{first_shard, home}
+use Rattle.row_shards.specs.Homes.{first_shard, home}
 use Rattle.shard_rows.specs.Shards.{stands_in}
 
 binary : (n k : ℕ) → bit_at n k < 2

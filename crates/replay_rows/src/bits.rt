@@ -3,11 +3,11 @@ ghost use Rattle.std.specs.Prelude.{◌≡◌, ◌<◌, ℕ, ◌||◌, eqb, map 
 ghost use Rattle.std.specs.List.{list_any};
 ghost use Rattle.calculus.specs.Storing.{shard};
 ghost use Rattle.shard_rows.specs.Shards.{stands_in};
-ghost use Rattle.row_homes.specs.Homes.{home};
+ghost use Rattle.row_shards.specs.Homes.{home};
 ghost use Rattle.replay_rows.specs.Bits.{has_bit};
 
 use rho_term::{Op, TermBind};
-use row_homes::home_of;
+use row_shards::home_of;
 use space_row::Row;
 use std::alloc::{AllocError, Global};
 use term_encoder::shard_of;

@@ -4,7 +4,7 @@ ghost use Rattle.calculus.specs.Rows.{channels};
 ghost use Rattle.calculus.specs.Storing.{shard};
 ghost use Rattle.replay_scene.specs.Spaces.{IsIn};
 ghost use Rattle.replay_rows.specs.Bits.{has_bit};
-ghost use Rattle.row_homes.specs.Homes.{home};
+ghost use Rattle.row_shards.specs.Homes.{home};
 ghost use Rattle.shard_rows.specs.Shards.{stands_in};
 
 use crate::bits::{first_of, row_shards};
@@ -65,7 +65,7 @@ impl Model for ShardedRow {
     ghost use Rattle.std.specs.Prelude.{◌≡◌, ℕ};
     ghost use Rattle.shard_rows.specs.Shards.{stands_in};
     ghost use Rattle.replay_rows.specs.Bits.{has_bit};
-    ghost use Rattle.row_homes.specs.Homes.{home};
+    ghost use Rattle.row_shards.specs.Homes.{home};
 
     ghost view = { λ a. a.row };
 

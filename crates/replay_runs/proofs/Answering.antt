@@ -6,8 +6,8 @@ use Rattle.calculus.specs.Rows.{Row}
 use Rattle.calculus.specs.Runs.{Deploy, Work, work_price, work_fault}
 use Rattle.calculus.specs.Tree.{Tree}
 use Rattle.replays.specs.Replays.{Given, by_step, deploy_under}
-use Rattle.replay_faults.specs.declared.fault.ReplayFault.{ReplayFault}
-use Rattle.replay_faults.specs.declared.fault.ReplayFault.TheVariants as fault
+use Rattle.replays.specs.declared.fault.ReplayFault.{ReplayFault}
+use Rattle.replays.specs.declared.fault.ReplayFault.TheVariants as fault
 use Rattle.replay_hub.specs.Values.{entry_of}
 use Rattle.replay_outcome.specs.declared.settling.Ending.{Ending}
 use Rattle.replay_outcome.specs.declared.settling.Settled.{Settled}

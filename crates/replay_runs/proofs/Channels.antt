@@ -11,7 +11,7 @@ use Rattle.calculus.specs.Storing.{is_active, IsStorable}
 use Rattle.events.specs.Found.{Among}
 use Rattle.events.proofs.Making.{member}
 use Rattle.events.proofs.Orders.{member-moved}
-use Rattle.storable_row_laws.specs.Laws.{AreStorable}
+use Rattle.process_laws.specs.StorableLaws.{AreStorable}
 use Rattle.std.proofs.lemmas.List.Elements.{All-head, All-tail}
 
 some-binds : (bs : List Tree) → 1 ≤ length bs → each (λ b. at 0 (held b)) bs ≢ []

@@ -18,9 +18,9 @@ use Rattle.least_step.proofs.Past.{legal_lists_use_nothing_up}
 use Rattle.run_verdict.specs.View.{verdict_of}
 use Rattle.run_verdict.specs.declared.verdict.Verdict.{Verdict as Ended}
 use Rattle.run_verdict.specs.declared.verdict.Verdict.TheVariants.{Done, Exhausted, Faulted}
-use Rattle.storable_row_laws.proofs.Staying.{storable_rows_stay}
-use Rattle.replay_faults.specs.declared.fault.ReplayFault.{ReplayFault}
-use Rattle.replay_faults.specs.declared.fault.ReplayFault.TheVariants.{Reducible, NoMemory}
+use Rattle.process_laws.proofs.StorableStaying.{storable_rows_stay}
+use Rattle.replays.specs.declared.fault.ReplayFault.{ReplayFault}
+use Rattle.replays.specs.declared.fault.ReplayFault.TheVariants.{Reducible, NoMemory}
 use Rattle.replay_outcome.specs.declared.settling.Ending.{Ending}
 use Rattle.replay_outcome.specs.Settling.{EndsSo}
 use Rattle.replay_scene.specs.Spaces.{DidStep}

@@ -11,7 +11,7 @@ use Rattle.events.specs.Events.{first_ids, built_in_ids}
 use Rattle.events.proofs.Counts.{ids, one_if, times, bytes_same, same_bytes, differ-distinct, distinct-differ}
 use Rattle.events.proofs.Standing.{built_ins, ids-times}
 use Rattle.fresh_digests.specs.Premises.{Shares}
-use Rattle.unfolding_laws.proofs.Closed.{each_process_unfolds}
+use Rattle.process_laws.proofs.Closed.{each_process_unfolds}
 use Rattle.racing_replays.specs.Laws.{first_bag, state_of}
 use Rattle.racing_replays.specs.Replaying.{first_replay, none_yet, Replay}
 use Rattle.replay_answers.specs.Answers.{Clashes}

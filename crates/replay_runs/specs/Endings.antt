@@ -7,11 +7,11 @@ use Rattle.calculus.specs.Runs.{Work, work_price, work_fault}
 use Rattle.calculus.specs.Steps.{Bag, differ}
 use Rattle.fresh_digests.specs.Premises.{FitsInTexts}
 use Rattle.least_step.specs.Least.{AllowsNone, IsLeast}
-use Rattle.storable_row_laws.specs.Laws.{AreStorable}
+use Rattle.process_laws.specs.StorableLaws.{AreStorable}
 use Rattle.replays.specs.Replays.{Given, header_refusal, deploy_under}
 use Rattle.run_verdict.specs.declared.verdict.Verdict.TheVariants.{Done}
-use Rattle.replay_faults.specs.declared.fault.ReplayFault.{ReplayFault}
-use Rattle.replay_faults.specs.declared.fault.ReplayFault.TheVariants.{Reducible, NoMemory}
+use Rattle.replays.specs.declared.fault.ReplayFault.{ReplayFault}
+use Rattle.replays.specs.declared.fault.ReplayFault.TheVariants.{Reducible, NoMemory}
 use Rattle.replay_scene.specs.Entries.{did_by}
 use Rattle.replay_scene.specs.Closing.{DecideLog}
 use Rattle.replay_hub.specs.Values.{entry_of}

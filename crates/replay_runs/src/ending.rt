@@ -8,7 +8,7 @@ ghost use Rattle.events.specs.Events.{first_ids};
 ghost use Rattle.events.specs.Found.{Among};
 ghost use Rattle.least_step.specs.Least.{HasRows, NothingIsUsedUp};
 ghost use Rattle.replays.specs.Replays.{Given, deploy_under};
-ghost use Rattle.replay_faults.specs.Refusals.{is_of_header};
+ghost use Rattle.replays.specs.Refusals.{is_of_header};
 ghost use Rattle.replay_outcome.specs.Settling.{EndsSo};
 ghost use Rattle.replay_scene.specs.Spaces.{DidStep};
 ghost use Rattle.replay_scene.specs.Closing.{IsLegalLog};

@@ -4,7 +4,7 @@ ghost use Rattle.calculus.specs.Limits.{most_limit};
 ghost use Rattle.calculus.specs.Steps.{differ};
 ghost use Rattle.event_log.specs.View.{steps_of, IsWritable};
 ghost use Rattle.fresh_digests.specs.Premises.{FitsInTexts};
-ghost use Rattle.storable_row_laws.specs.Laws.{AreStorable};
+ghost use Rattle.process_laws.specs.StorableLaws.{AreStorable};
 ghost use Rattle.replays.specs.Replays.{deploy_under};
 ghost use Rattle.replay_answers.specs.Bases.{ids_of};
 ghost use Rattle.states.specs.Quiet.{AllowNoStep};
@@ -29,7 +29,7 @@ use space_row::Row;
 use std::alloc::{AllocError, Global};
 use std::sync::Wait;
 use std::thread::Threads;
-use step_work::{Worked, work_source};
+use unfold::{Worked, work_source};
 
 // The most jobs that a replay may begin with.
 const MOST_TASKS: u64 = 1 << 58;

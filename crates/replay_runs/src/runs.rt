@@ -6,7 +6,7 @@ ghost use Rattle.calculus.specs.Steps.{differ};
 ghost use Rattle.event_log.specs.View.{header_of, steps_of, IsWritable};
 ghost use Rattle.fresh_digests.specs.Numbers.{IsNumberable};
 ghost use Rattle.replays.specs.Replays.{deploy_under, header_refusal, Refusal};
-ghost use Rattle.replay_faults.specs.Refusals.{is_of_header, refusal_of};
+ghost use Rattle.replays.specs.Refusals.{is_of_header, refusal_of};
 ghost use Rattle.replay_answers.specs.Answers.{Clashes, IsAnswered};
 ghost use Rattle.replay_answers.specs.Bases.{asked, ids_of};
 ghost use Rattle.states.specs.Quiet.{AreQuiet};

@@ -4,7 +4,7 @@ use name_seed::Seed;
 use price_table::Prices;
 use replayed_log::{StepUnfolder, UnfoldedStep};
 use std::alloc::{AllocError, Global};
-use step_work::{line_of, work_body};
+use unfold::{line_of, work_body};
 
 /// What unfolds steps.
 #[derive(Drop)]

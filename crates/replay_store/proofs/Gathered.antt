@@ -6,8 +6,8 @@ use Rattle.events.specs.Found.{Among}
 use Rattle.shard_rows.specs.Shards.{IsProjection}
 use Rattle.replay_scene.specs.Spaces.{bare, Part}
 use Rattle.replay_store.specs.Stores.{bare_shards, AreShardsOf}
-use Rattle.row_homes.specs.Homes.{gathered}
-use Rattle.row_homes.proofs.Gathered.{all-taken}
+use Rattle.row_shards.specs.Homes.{gathered}
+use Rattle.row_shards.proofs.Gathered.{all-taken}
 
 -- the rows of a shard that is there
 bare-at : (store : List Row) (xs : List Part) (k j : ℕ) (x : List Row) → ((i : ℕ) (y : Part) → slice_get xs i ≡ Some y → IsProjection store (j + i) (bare y.rows)) → slice_get (bare_shards xs) k ≡ Some x → IsProjection store (j + k) x

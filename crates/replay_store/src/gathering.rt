@@ -4,7 +4,7 @@ ghost use Rattle.calculus.specs.Rows.{channels, Row as StoredRow};
 ghost use Rattle.events.specs.Found.{Among};
 ghost use Rattle.replay_scene.specs.Spaces.{bare};
 ghost use Rattle.replay_store.specs.Stores.{bare_shards, AreShardsOf};
-ghost use Rattle.row_homes.specs.Homes.{gathered, home};
+ghost use Rattle.row_shards.specs.Homes.{gathered, home};
 
 use replay_shards::ReplayShard;
 use space_row::Row;

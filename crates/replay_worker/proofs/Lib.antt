@@ -1,1 +1,3 @@
 pub mod Hands
+mod Rounds
+mod Crossing

@@ -1,8 +1,8 @@
 //! The round of one worker.
-ghost use Rattle.std.specs.Prelude.{◌≡◌, ◌<◌, ℕ, [], ◌∷◌, true, false, None};
-ghost use Rattle.group_locks.specs.Seats.{due_of, hand_of, offered_by, stops_of, taken_by, AtRest, HasLeave, HasRoom, IsIdle};
+ghost use Rattle.std.specs.Prelude.{◌≡◌, ℕ, None};
+ghost use Rattle.group_locks.specs.Seats.{AtRest, IsIdle};
 ghost use Rattle.replay_hub.specs.Ends.{FoundAnEnd};
-ghost use Rattle.replay_worker.specs.Seats.{HasJob};
+ghost use Rattle.replay_worker.specs.Seats.{HasEnded, IsReady};
 
 use crate::arrival::bring_in;
 use crate::site::Site;
@@ -23,14 +23,9 @@ fn do_task<J: ReplayTables + Sync, R: Wait, G: Gate>(
     task: Task<J::Row, J::Channel>,
 ) -> bool
     requires knows { J.knows tables.now }
-    requires seat { AtRest hub.now.table.shared.table_id seat.old.state × (due_of seat.old.state ≡ []) }
-    requires leave { HasLeave seat.old.state × HasRoom seat.old.state }
-    requires work { HasJob task seat.old.state }
-    requires empty { (k : ℕ) → J.in_hand held.old k ≡ None }
-    ensures seat { AtRest hub.now.table.shared.table_id seat.new.state × (due_of seat.new.state ≡ []) }
+    requires ready { IsReady hub.now.table.shared.table_id task seat.old.state (J.in_hand held.old) }
+    ensures ended { HasEnded hub.now.table.shared.table_id result seat.new.state }
     ensures empty { (k : ℕ) → J.in_hand held.new k ≡ None }
-    ensures left { result ≡ true → hand_of seat.new.state ≡ [] }
-    ensures stopped { result ≡ false → 0 < stops_of seat.new.state }
 {
     match task {
         Task::Arrive(coming) => bring_in(site, tables, hub, seat, held, coming),

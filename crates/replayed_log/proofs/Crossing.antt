@@ -3,7 +3,7 @@ use denote.RattleType.{RattleType}
 use denote.Param.Send.{IsSend, IsSync, sendable}
 use Rattle.std.proofs.Crossing.{crosses}
 use Rattle.std.proofs.MapsCrossing.{crosses as maps_cross}
-use Rattle.sent_rows.proofs.Crossing.{row-send, row-sync}
+use Rattle.space_row.proofs.Crossing.{row-send, row-sync}
 use Rattle.replay_space.specs.contracts.seen.Seen as Seen
 use Rattle.replay_rows.specs.contracts.sharded.ShardedChannel as Channel
 use Rattle.replay_rows.specs.contracts.sharded.ShardedRow as ShardedRow

@@ -1,3 +1,4 @@
 pub mod Replays
 pub mod Laws
 pub mod Examples
+pub mod Refusals

@@ -12,9 +12,9 @@ use Rattle.calculus.specs.Operators.{seen, seen_part}
 use Rattle.rho_term.specs.declared.term.Part.{Part}
 use Rattle.rho_term.specs.Parts.{part_tree, term_tree}
 use Rattle.value_ops.specs.Answers.{IsNoCollection}
-use Rattle.capped_work.specs.declared.stop.EvalStop.{EvalStop}
-use Rattle.capped_work.specs.Outcomes.{Came, Stopped}
-use Rattle.capped_work.proofs.Outcomes.{later}
+use Rattle.price_table.specs.declared.stop.EvalStop.{EvalStop}
+use Rattle.price_table.specs.Outcomes.{Came, Stopped}
+use Rattle.price_table.proofs.Outcomes.{later}
 
 -- the length of the code of one operand
 abbrev pub bytes_in : Tree → ℕ

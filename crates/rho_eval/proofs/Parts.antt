@@ -16,7 +16,7 @@ use Rattle.calculus.specs.Operators.{key_of, value_of, of_map}
 use Rattle.calculus.specs.Normal.{ascending, made_node}
 use Rattle.calculus.specs.Code.{codes}
 use Rattle.calculus.proofs.Placing.{listed-trees}
-use Rattle.capped_work.specs.declared.stop.EvalStop.{EvalStop}
+use Rattle.price_table.specs.declared.stop.EvalStop.{EvalStop}
 use Rattle.calculus.specs.Values.{value, operated}
 use Rattle.rho_term.specs.declared.term.Part.{Part}
 use Rattle.rho_term.specs.declared.term.Part.TheVariants as parts
@@ -26,13 +26,13 @@ use Rattle.calculus.specs.declared.plain.UnaryOp.{UnaryOp}
 use Rattle.calculus.specs.declared.plain.BinaryOp.{BinaryOp}
 use Rattle.std.specs.declared.alloc.Global.{Global}
 use Rattle.calculus.specs.Methods.{method_answer}
-use Rattle.capped_work.proofs.Outcomes.{stop-form, come-form, stopped-cons, stopped-rest, came-two, came-pure}
+use Rattle.price_table.proofs.Outcomes.{stop-form, come-form, stopped-cons, stopped-rest, came-two, came-pure}
 use Rattle.rho_term.specs.Normal.{IsNormal, AreNormal, IsOrdered}
 use Rattle.rho_term.specs.Parts.{part_tree, pair_tree}
 use Rattle.value_ops.specs.Answers.{IsOperand}
-use Rattle.closed_values.specs.Laws.{GivesClosed}
-use Rattle.closed_values.proofs.Values.{value_is_closed, value_is_within}
-use Rattle.capped_work.specs.Outcomes.{Came, Stopped}
+use Rattle.process_laws.specs.ClosedValueLaws.{GivesClosed}
+use Rattle.process_laws.proofs.Values.{value_is_closed, value_is_within}
+use Rattle.price_table.specs.Outcomes.{Came, Stopped}
 use Rattle.code_order.specs.Made.{reordered}
 use Rattle.rho_eval.proofs.Forms.{value-pair, value-process, value-map, made-same}
 

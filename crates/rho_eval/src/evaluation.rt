@@ -4,7 +4,7 @@ ghost use Rattle.calculus.specs.Form.{IsClosed};
 ghost use Rattle.calculus.specs.Outcome.{in_order, pure, within, gives};
 ghost use Rattle.calculus.specs.Shape.{only};
 ghost use Rattle.calculus.specs.Values.{value};
-ghost use Rattle.capped_work.specs.Outcomes.{Came, CameFlat, Stopped, EndsWith};
+ghost use Rattle.price_table.specs.Outcomes.{Came, CameFlat, Stopped, EndsWith};
 ghost use Rattle.rho_eval.specs.Values.{Evaluates};
 ghost use Rattle.rho_term.specs.Normal.{IsOrdered};
 ghost use Rattle.rho_term.specs.Parts.{part_tree, pair_tree};
@@ -12,10 +12,9 @@ ghost use Rattle.value_ops.specs.Answers.{IsOperand};
 
 use crate::limits::limited;
 use crate::operation::{call, operate_one, operate_two};
-use capped_work::{Budget, EvalStop, Priced};
 use code_order::make_par;
 use coll_ops::{map_of, set_of};
-use price_table::Prices;
+use price_table::{Budget, EvalStop, Priced, Prices};
 use rho_term::{Part, Term};
 use std::alloc::Global;
 

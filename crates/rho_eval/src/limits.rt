@@ -2,10 +2,10 @@
 ghost use Rattle.std.specs.Prelude.{◌≡◌, ◌≤◌, ◌<◌, ◌+◌, ◌*◌, MatchResult, ℕ};
 ghost use Rattle.term_encoder.specs.Sizes.{in_u64};
 ghost use Rattle.calculus.specs.Outcome.{free, within_limits};
-ghost use Rattle.capped_work.specs.Outcomes.{Came, Stopped};
+ghost use Rattle.price_table.specs.Outcomes.{Came, Stopped};
 
 use calculus::FaultKind;
-use capped_work::{Budget, EvalStop, Priced};
+use price_table::{Budget, EvalStop, Priced};
 use rho_term::{MOST_BYTES, MOST_HEIGHT, Term};
 use term_encoder::code_len;
 

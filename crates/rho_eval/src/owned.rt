@@ -2,14 +2,13 @@
 ghost use Rattle.std.specs.Prelude.{◌≡◌, ◌≤◌, ◌<◌, ◌-◌, ◌^◌, true, All, MatchResult};
 ghost use Rattle.calculus.specs.Form.{IsClosed};
 ghost use Rattle.calculus.specs.Values.{value};
-ghost use Rattle.capped_work.specs.Outcomes.{Came, Stopped};
+ghost use Rattle.price_table.specs.Outcomes.{Came, Stopped};
 ghost use Rattle.rho_eval.specs.Values.{IsOwnValue};
 ghost use Rattle.rho_term.specs.Parts.{part_tree};
 
 use crate::evaluation::eval_term;
 use crate::limits::limited;
-use capped_work::{EvalStop, Priced};
-use price_table::Prices;
+use price_table::{EvalStop, Priced, Prices};
 use rho_term::{Part, Term};
 use std::alloc::Global;
 

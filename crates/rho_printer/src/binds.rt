@@ -7,8 +7,7 @@ ghost use Rattle.printed_leaves.specs.Texts.{Wrote, WritesAll, WritesBind, Write
 use crate::patterns::{put_name_pats, put_pat};
 use crate::terms::{put_name, put_term};
 use calculus::Kind;
-use printed_leaves::Page;
-use printed_words::arrow;
+use printed_leaves::{Page, arrow};
 use rho_term::{TermBind, TermCase};
 
 // The binds of a receive. Gives the number of variables in scope under them.

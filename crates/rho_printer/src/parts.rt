@@ -9,8 +9,7 @@ ghost use Rattle.printed_leaves.specs.Texts.{Wrote, Writes};
 use crate::binds::{put_binds, put_cases};
 use crate::terms::{put_name, put_operand, put_pairs, put_term, put_terms};
 use calculus::UnaryOp;
-use printed_leaves::Page;
-use printed_words::{number_of, op_word, rights_word, send_marks, tuple_end};
+use printed_leaves::{Page, number_of, op_word, rights_word, send_marks, tuple_end};
 use rho_term::{Part, Term};
 
 #[cycle(print)]

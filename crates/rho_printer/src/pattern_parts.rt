@@ -6,8 +6,7 @@ ghost use Rattle.printed_leaves.specs.Texts.{Wrote, WritesJoined, WritesPart};
 use crate::parts::put_part;
 use crate::patterns::{put_name_pat, put_pat, put_pat_operand, put_pat_pairs, put_pats};
 use crate::terms::put_term;
-use printed_leaves::{Page, look_inside};
-use printed_words::{rights_word, send_marks, simple_word, tuple_end};
+use printed_leaves::{Page, look_inside, rights_word, send_marks, simple_word, tuple_end};
 use rho_term::{PatPart, TermPat};
 
 #[cycle(print)]

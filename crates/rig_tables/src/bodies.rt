@@ -10,8 +10,8 @@ use price_table::Prices;
 use source_rows::MOST_COST;
 use space_row::Row;
 use std::alloc::{AllocError, Global};
-use step_work::work_body;
 use table_lines::LineFault;
+use unfold::work_body;
 
 /// A row, and the step that offered it; none did where the row is the source's.
 #[derive(Drop)]

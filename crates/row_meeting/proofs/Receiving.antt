@@ -16,7 +16,7 @@ use Rattle.calculus.specs.Substitution.{put}
 use Rattle.calculus.specs.Tree.{Tree, receive, node}
 use Rattle.calculus.specs.Shape.{held, listed, at}
 use Rattle.calculus.proofs.Placing.{listed-trees}
-use Rattle.closed_row_laws.proofs.Meeting.{IfThere, MeetingCloses, rows-bind, rows-close}
+use Rattle.process_laws.proofs.Meeting.{IfThere, MeetingCloses, rows-bind, rows-close}
 use Rattle.events.specs.Found.{alone, met, is_lasting, leaving_rows, leaving_sends, Among}
 use Rattle.calculus.proofs.Members.{Every}
 use Rattle.rho_term.specs.declared.op.Op.TheVariants as op
@@ -33,7 +33,7 @@ use Rattle.row_search.proofs.Looping.{bytes_of, map-append}
 use Rattle.row_search.proofs.Sound.{chosen_rows, data-are, ids-kept, Meets, meets-chosen, receiver_of}
 use Rattle.row_meeting.proofs.Taking.{taken-lengths}
 use Rattle.std.proofs.lemmas.List.{length-map}
-use Rattle.storable_row_laws.proofs.Staying.{all-from}
+use Rattle.process_laws.proofs.StorableStaying.{all-from}
 use Rattle.row_meeting.specs.Meeting.{IsMeeting}
 use Rattle.row_meeting.specs.Taking.{AreNotTaken, AreTaken, Comes, Gathers}
 

@@ -14,7 +14,7 @@ use Rattle.events.specs.Found.{met, Among}
 use Rattle.rho_term.specs.declared.op.Op.TheVariants as op
 use Rattle.rho_term.specs.declared.term.TermBind.{TermBind}
 use Rattle.rho_term.specs.Rows.{row_of_op}
-use Rattle.storable_row_laws.specs.Laws.{AreApart}
+use Rattle.process_laws.specs.StorableLaws.{AreApart}
 use Rattle.row_search.specs.declared.choices.Joined.{Joined}
 use Rattle.found_rows.specs.declared.found.Found.{Found}
 use Rattle.row_search.specs.Rows.{is_heard_on, is_sent_on, looked_up, HasReceivers}

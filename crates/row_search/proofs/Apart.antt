@@ -7,7 +7,7 @@ use Rattle.calculus.specs.Rows.{Row}
 use Rattle.calculus.specs.Steps.{Datum, as_datum}
 use Rattle.calculus.proofs.Equivalence.{symmetric, transitive}
 use Rattle.rho_term.specs.declared.term.TermBind.{TermBind}
-use Rattle.storable_row_laws.specs.Laws.{IsApart, AreApart}
+use Rattle.process_laws.specs.StorableLaws.{IsApart, AreApart}
 use Rattle.row_search.specs.Rows.{is_one_channel, is_sent_on, IsIn}
 use Rattle.row_search.proofs.Known.{bind_channels, sent-datum}
 

@@ -15,7 +15,7 @@ use Rattle.rho_term.specs.declared.op.Op.TheVariants as op
 use Rattle.rho_term.specs.declared.term.TermBind.{TermBind}
 use Rattle.rho_term.specs.Parts.{bind_tree}
 use Rattle.rho_term.specs.Rows.{row_of_op}
-use Rattle.storable_row_laws.specs.Laws.{AreApart}
+use Rattle.process_laws.specs.StorableLaws.{AreApart}
 use Rattle.row_search.specs.Rows.{is_sent_on, IsIn}
 use Rattle.row_search.specs.Choices.{Fails, takes}
 use Rattle.row_search.specs.Meetings.{rows_with, AllAmong}

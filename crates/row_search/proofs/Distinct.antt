@@ -10,7 +10,7 @@ use Rattle.calculus.proofs.Counting.{bytes_equal}
 use Rattle.events.specs.Found.{Among}
 use Rattle.rho_term.specs.declared.term.TermBind.{TermBind}
 use Rattle.rho_term.specs.Parts.{bind_tree}
-use Rattle.storable_row_laws.specs.Laws.{IsApart, AreApart}
+use Rattle.process_laws.specs.StorableLaws.{IsApart, AreApart}
 use Rattle.row_search.specs.Choices.{Choice, AreChosen, takes}
 use Rattle.row_search.specs.Meetings.{rows_with}
 use Rattle.found_rows.specs.AtHand.{IdsTell}

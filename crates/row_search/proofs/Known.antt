@@ -22,9 +22,9 @@ use Rattle.rho_term.specs.Rows.{row_of_op}
 use Rattle.space_row.proofs.Codes.{channels-receive}
 use Rattle.match_targets.specs.Targets.{Ready, AllReady}
 use Rattle.match_targets.proofs.Readying.{channel-ready, data-ready, bytes-cons, inside, all-ready}
-use Rattle.storable_row_laws.specs.Laws.{AreApart}
-use Rattle.storable_row_laws.proofs.Channels.{storable_channels_are_apart}
-use Rattle.storable_row_laws.proofs.Lengths.{storable_rows_are_short}
+use Rattle.process_laws.specs.StorableLaws.{AreApart}
+use Rattle.process_laws.proofs.Channels.{storable_channels_are_apart}
+use Rattle.process_laws.proofs.StorableLengths.{storable_rows_are_short}
 use Rattle.row_search.specs.Rows.{is_one_channel, is_sent_on, is_heard_on, IsIn}
 use Rattle.row_search.specs.Choices.{AllBindsReady}
 

@@ -26,7 +26,7 @@ use Rattle.calculus.specs.Storing.{IsStorable}
 use Rattle.events.specs.Found.{Among, without}
 use Rattle.events.proofs.Counts.{same_bytes, bytes_same}
 use Rattle.row_search.specs.Rows.{row_with, IsIn}
-use Rattle.shard_bits.specs.Counted.{AreCounted}
+use Rattle.row_shards.specs.Counted.{AreCounted}
 use Rattle.row_table.specs.declared.table.Filed.{Filed}
 use Rattle.row_table.specs.Groups.{is_send, is_key, Index, HasId}
 use Rattle.row_table.specs.Tables.{IsFiled, rows_in}

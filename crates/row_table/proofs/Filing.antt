@@ -19,7 +19,7 @@ use Rattle.calculus.proofs.CodesAgree.{code_is_congruence}
 use Rattle.events.specs.Found.{Among}
 use Rattle.events.proofs.Counts.{bytes_same}
 use Rattle.match_targets.specs.Targets.{Ready}
-use Rattle.storable_row_laws.proofs.Channels.{IsClosedShort, channels-closed, part-length}
+use Rattle.process_laws.proofs.Channels.{IsClosedShort, channels-closed, part-length}
 use Rattle.row_search.specs.Rows.{is_one_channel, row_with, with_row, looked_up, HasSends, HasReceivers, IsIn}
 use Rattle.shard_counts.specs.declared.keyed.ShardCounts.{ShardCounts}
 use Rattle.row_table.specs.declared.table.Filed.{Filed}

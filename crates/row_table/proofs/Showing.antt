@@ -16,9 +16,9 @@ use Rattle.calculus.specs.Steps.{as_receiver}
 use Rattle.calculus.specs.Storing.{shard}
 use Rattle.calculus.proofs.CodesAgree.{code_is_congruence}
 use Rattle.match_targets.specs.Targets.{Ready}
-use Rattle.storable_row_laws.proofs.Channels.{IsClosedShort}
+use Rattle.process_laws.proofs.Channels.{IsClosedShort}
 use Rattle.row_search.specs.Rows.{is_one_channel, is_heard_on}
-use Rattle.shard_bits.specs.Counted.{AreCounted, StandsInOne}
+use Rattle.row_shards.specs.Counted.{AreCounted, StandsInOne}
 use Rattle.shard_counts.specs.Counts.{added}
 use Rattle.shard_rows.specs.Shards.{stands_in}
 use Rattle.shard_rows.proofs.Alike.{congruent_channels_share_a_shard}

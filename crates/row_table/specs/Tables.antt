@@ -11,7 +11,7 @@ use Rattle.calculus.specs.Code.{code}
 use Rattle.calculus.specs.Rows.{Row, channels}
 use Rattle.calculus.specs.Storing.{IsStorable}
 use Rattle.row_search.specs.Rows.{IsIn}
-use Rattle.shard_bits.specs.Counted.{AreCounted}
+use Rattle.row_shards.specs.Counted.{AreCounted}
 use Rattle.shard_counts.specs.Counts.{added}
 use Rattle.shard_counts.specs.Keyed.{count_of}
 use Rattle.shard_counts.specs.declared.keyed.ShardCounts.{ShardCounts}

@@ -23,7 +23,7 @@ use crate::keys::{is_send, row_keys};
 use calculus::Digest;
 use rho_term::Term;
 use row_search::RowsAtHand;
-use shard_bits::counted_bits;
+use row_shards::counted_bits;
 use shard_counts::{Key, ShardCounts};
 use space_row::Row;
 use std::alloc::{AllocError, Global};

@@ -5,3 +5,4 @@ pub mod Searching
 pub mod Telling
 pub mod Spread
 pub mod InHand
+pub mod Crossing

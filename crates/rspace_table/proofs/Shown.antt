@@ -12,7 +12,7 @@ use Rattle.row_search.specs.Rows.{is_one_channel, is_heard_on}
 use Rattle.shard_rows.specs.Shards.{stands_in}
 use Rattle.shard_rows.specs.Hands.{hears, is_one_channel as is_one}
 use Rattle.shard_rows.proofs.Standing.{any-true, any-one}
-use Rattle.shard_bits.proofs.Standing.{any-each}
+use Rattle.row_shards.proofs.Standing.{any-each}
 use Rattle.row_table.specs.Shown.{heard_on}
 use Rattle.rspace_table.specs.Shown.{shown_by}
 

@@ -1,9 +1,9 @@
 // Rows that are taken out of shards.
 ghost use Rattle.std.specs.Prelude.{◌≡◌, IfOk};
-ghost use Rattle.row_homes.specs.Homes.{gathered};
+ghost use Rattle.row_shards.specs.Homes.{gathered};
 
 use crate::shard::Shard;
-use row_homes::gather_home;
+use row_shards::gather_home;
 use space_row::Row;
 use std::alloc::{AllocError, Global};
 

@@ -13,7 +13,9 @@ mod places;
 mod shard;
 mod spreading;
 mod tables;
+pub mod threads;
 
 pub use held::Held;
 pub use shard::Shard;
 pub use tables::SpaceTables;
+pub use threads::{held_crosses, shard_crosses, table_crosses};

@@ -10,8 +10,8 @@ use Rattle.input_faults.specs.declared.source_fault.SourceFault.{SourceFault}
 use Rattle.input_faults.specs.declared.state_fault.StateFault.{StateFault}
 use Rattle.sources.specs.Sources.{IsSourceOf}
 use Rattle.sources.proofs.Answering.{one_refusal, not_both}
-use Rattle.base_states.specs.Bases.{IsState, HasOwnIds, IsNoState}
-use Rattle.base_states.proofs.OneState.{states_are_not_refused}
+use Rattle.run_inputs.specs.Bases.{IsState, HasOwnIds, IsNoState}
+use Rattle.run_inputs.proofs.OneState.{states_are_not_refused}
 use Rattle.command_words.specs.Commands.{RunRequest}
 use Rattle.run_inputs.specs.Inputs.{Refusal, missing, too_large, bad_prices, bad_limit, Task, name_of, size_limit, within, given, beside, task_with, priced, accepted_state, accepted_prices, accepted_limit, accepted}
 use Rattle.run_inputs.specs.Runnable.{IsRunnable, HasProcess, HasState, MayHaveState, OwnsIds}

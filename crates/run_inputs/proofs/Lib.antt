@@ -1,3 +1,4 @@
+pub mod OneState
 pub mod Pricing
 pub mod Refusing
 pub mod Exact

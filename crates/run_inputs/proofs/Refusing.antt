@@ -12,7 +12,7 @@ use Rattle.input_faults.specs.declared.state_fault.StateFault.TheVariants as sta
 use Rattle.sources.specs.Sources as sources
 use Rattle.command_words.specs.Commands.{RunRequest}
 use Rattle.run_inputs.specs.Inputs.{Refusal, ◌>>=◌, accepted_state}
-use Rattle.base_states.specs.Bases.{IsState}
+use Rattle.run_inputs.specs.Bases.{IsState}
 use Rattle.state_reader.specs.Refused.{IsRefused}
 use Rattle.run_inputs.specs.Runnable.{MayHaveState}
 use Rattle.run_inputs.specs.Refused.{SourceCause, StateCause}

@@ -11,7 +11,7 @@ use Rattle.sources.specs.Sources.{IsSourceOf}
 use Rattle.event_log.specs.declared.fault.LogFault.{LogFault}
 use Rattle.command_words.specs.Commands.{RunRequest}
 use Rattle.run_inputs.specs.Inputs.{Refusal, missing, too_large, Task, name_of, given, beside, task_with, priced, accepted_state, accepted_prices, accepted_source, accepted_log}
-use Rattle.base_states.specs.Bases.{IsState, IsNoState}
+use Rattle.run_inputs.specs.Bases.{IsState, IsNoState}
 use Rattle.run_inputs.specs.Runnable.{IsRunnable, HasState, OwnsIds}
 use Rattle.run_inputs.specs.Refused.{IsFaultOf, Says, SaysNoState, SaysOf}
 use Rattle.run_inputs.specs.Replaying.{ReplayReaches, IsReplayRefusal, IsLogFault, SaysLog}

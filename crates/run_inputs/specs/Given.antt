@@ -10,7 +10,7 @@ use Rattle.sources.specs.Sources.{IsSourceOf}
 use Rattle.command_words.specs.Commands.{RunRequest}
 use Rattle.run_inputs.specs.Inputs.{Task, accepted, accepted_log}
 use Rattle.run_inputs.specs.Runnable.{HasState}
-use Rattle.base_states.specs.Bases.{IsStateOf}
+use Rattle.run_inputs.specs.Bases.{IsStateOf}
 use Rattle.run_inputs.specs.declared.acceptance.Inputs.{Inputs}
 use Rattle.run_inputs.specs.declared.acceptance.ReplayInputs.{ReplayInputs}
 use Rattle.run_inputs.specs.declared.fetch.Base.{Base}

@@ -1,3 +1,5 @@
+pub mod Bases
+pub mod Laws
 pub mod Inputs
 pub mod Runnable
 pub mod Refused

@@ -3,7 +3,7 @@ use Rattle.std.specs.Prelude.{◌≡◌, ℕ, ◌<◌, ◌⊎◌, List, IsOk, Is
 use Rattle.input_faults.specs.Refusals.{Refusal as SourceRefusal, refusal_of}
 use Rattle.input_faults.specs.declared.source_fault.SourceFault.{SourceFault}
 use Rattle.input_faults.specs.declared.state_fault.StateFault.{StateFault}
-use Rattle.base_states.specs.Bases.{IsNoState}
+use Rattle.run_inputs.specs.Bases.{IsNoState}
 use Rattle.phlo_meter.specs.declared.fault.PriceFault.{PriceFault}
 use Rattle.sources.specs.Sources as sources
 use Rattle.rho_outside.specs.FileMap.{FileMap, Lacks, GivesAtLeast}

@@ -1,7 +1,7 @@
 -- Which states and sources are run.
 use Rattle.std.specs.Prelude.{IsOkAnd, IfOk}
 use Rattle.calculus.specs.Tree.{Tree}
-use Rattle.base_states.specs.Bases.{IsState, HasOwnIds}
+use Rattle.run_inputs.specs.Bases.{IsState, HasOwnIds}
 use Rattle.sources.specs.Sources.{IsSourceOf}
 use Rattle.rho_outside.specs.FileMap.{FileMap}
 use Rattle.command_words.specs.Commands.{RunRequest}

@@ -14,9 +14,9 @@ ghost use Rattle.sources.specs.Sources.{IsSourceOf};
 
 use crate::fetch::{Base, accept_limit, accept_prices, take};
 use command_words::Run;
+use event_log::readable_laws::read_logs_are_writable;
 use event_log::{Log, read_log};
 use price_table::Prices;
-use readable_logs::laws::read_logs_are_writable;
 use rho_outside::Shelf;
 use rho_term::Term;
 use run_status::{Input, Status};

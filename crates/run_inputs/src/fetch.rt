@@ -9,7 +9,7 @@ ghost use Rattle.run_inputs.specs.Given.{IsBase};
 ghost use Rattle.run_inputs.specs.Refused.{InputCause, PriceCause, PricesRefusedFor, RefusedFor, StateCause};
 ghost use Rattle.run_inputs.specs.Runnable.{HasState};
 
-use base_states::read_base;
+use crate::read_base;
 use checkpoint::Checkpoint;
 use command_words::Run;
 use phlo_meter::read_prices;

@@ -4,8 +4,8 @@ use Rattle.std.specs.Option.{IsSomeAnd}
 use Rattle.rho_outside.specs.Causes.{Rose}
 use Rattle.rho_outside.specs.FileMap.{FileMap, Gives, GivesAtLeast, Lacks}
 use Rattle.input_faults.specs.declared.state_fault.StateFault.{StateFault}
-use Rattle.base_states.specs.Bases.{HasOwnIds, IsNoState, IsState}
-use Rattle.base_states.proofs.OneState.{states_are_not_refused}
+use Rattle.run_inputs.specs.Bases.{HasOwnIds, IsNoState, IsState}
+use Rattle.run_inputs.proofs.OneState.{states_are_not_refused}
 use Rattle.run_status.specs.declared.status.Status.{Status}
 use Rattle.run_status.specs.declared.status.Status.TheVariants.{Done, NoMemory, ReadFault, State, TooLarge, WriteFault}
 use Rattle.run_inspects.specs.Inspects.{most, InspectEnds, SaysMissing, SaysNoState, SaysTooLarge}

@@ -6,7 +6,7 @@ use Rattle.rho_outside.specs.FileMap.{FileMap, Gives, GivesAtLeast, Lacks}
 use Rattle.rho_outside.specs.Put.{GrewBy, GrewByPart}
 use Rattle.rho_outside.specs.Told.{Told}
 use Rattle.input_faults.specs.declared.state_fault.StateFault.{StateFault}
-use Rattle.base_states.specs.Bases.{HasOwnIds, IsNoState, IsState, IsStateOf}
+use Rattle.run_inputs.specs.Bases.{HasOwnIds, IsNoState, IsState, IsStateOf}
 use Rattle.run_reports.specs.World.{World}
 use Rattle.run_status.specs.Endings.{OnHalt, OnRefusal}
 use Rattle.run_status.specs.declared.status.Input.TheVariants as input

@@ -1,9 +1,9 @@
 ghost use Rattle.std.specs.Prelude.{◌≡◌, IfOk, IfErr};
 ghost use Rattle.run_inspects.specs.Inspects.{AreGiven, HasRows, RefusedFor};
 
-use base_states::read_base;
 use checkpoint::Checkpoint;
 use rho_outside::{FetchFault, Shelf};
+use run_inputs::read_base;
 use run_status::{Input, Status};
 use std::alloc::Global;
 

@@ -16,9 +16,9 @@ use Rattle.calculus.specs.Steps.{Meeting, meeting}
 use Rattle.calculus.specs.Runs.{source_seed, Deploy, Work, State, Allowed, body_work, moved, step_from, steps_from, begun, first_state, Leads}
 use Rattle.calculus.proofs.States.{room_keeps_work, room_keeps_state, one_state}
 use Rattle.replays.proofs.Answering.{is-none}
-use Rattle.unfolding_laws.proofs.Closed.{each_process_unfolds}
-use Rattle.closed_row_laws.specs.Laws.{AreClosedRows}
-use Rattle.closed_row_laws.proofs.Staying.{bodies_are_closed, closed_rows_stay}
+use Rattle.process_laws.proofs.Closed.{each_process_unfolds}
+use Rattle.process_laws.specs.ClosedRowLaws.{AreClosedRows}
+use Rattle.process_laws.proofs.ClosedRowStaying.{bodies_are_closed, closed_rows_stay}
 use Rattle.run_laws.specs.Laws.{EachProcessLeads, AllowedStepsLead}
 
 module _ (p : Prices) (most : ℕ) where

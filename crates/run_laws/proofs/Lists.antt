@@ -9,8 +9,8 @@ use Rattle.calculus.proofs.States.{room_keeps_state, one_state}
 use Rattle.replays.specs.Replays.{StopsAt}
 use Rattle.replays.proofs.Prefixes.{Passed, passed}
 use Rattle.replays.proofs.Answering.{is-none, one-stop, no-stop}
-use Rattle.unfolding_laws.specs.Laws.{ExactlyOne}
-use Rattle.closed_row_laws.specs.Laws.{AreClosedRows}
+use Rattle.process_laws.specs.UnfoldingLaws.{ExactlyOne}
+use Rattle.process_laws.specs.ClosedRowLaws.{AreClosedRows}
 use Rattle.run_laws.specs.Laws.{EachListLeadsOrStops, NoListDoesBoth, LegalListsLead, LegalStepsAreAllowed, LargeRoomsAgree}
 use Rattle.run_laws.proofs.Leading.{source-leads, allowed-leads}
 

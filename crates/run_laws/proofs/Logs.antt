@@ -7,7 +7,7 @@ use Rattle.calculus.specs.Steps.{meeting}
 use Rattle.calculus.specs.Runs.{State, Verdict, done, exhausted, faulted, verdict, Leads, IsEnd}
 use Rattle.replays.specs.Replays.{deploy_under, Given, Refusal, no_run, reducible, Answer, refused, replayed, header_refusal, outcome_of, Answers, by_header, by_step, by_rest, by_end}
 use Rattle.replays.proofs.Answering.{one_answer}
-use Rattle.closed_row_laws.specs.Laws.{AreClosedRows}
+use Rattle.process_laws.specs.ClosedRowLaws.{AreClosedRows}
 use Rattle.run_laws.specs.Laws.{EachLogIsAnswered}
 use Rattle.run_laws.proofs.Leasts.{none-or-least}
 use Rattle.run_laws.proofs.Lists.{LeadsOrStops, ends}

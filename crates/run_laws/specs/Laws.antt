@@ -4,8 +4,8 @@ use Rattle.calculus.specs.Form.{IsClosed}
 use Rattle.calculus.specs.Log.{Step, Header}
 use Rattle.calculus.specs.Runs.{Deploy, State, Allowed, state_after, Leads}
 use Rattle.replays.specs.Replays.{Given, StopsAt, Answers}
-use Rattle.unfolding_laws.specs.Laws.{ExactlyOne}
-use Rattle.closed_row_laws.specs.Laws.{AreClosedRows}
+use Rattle.process_laws.specs.UnfoldingLaws.{ExactlyOne}
+use Rattle.process_laws.specs.ClosedRowLaws.{AreClosedRows}
 
 -- before the first step, a closed process leads to exactly one state
 abbrev pub EachProcessLeads : Type 0

@@ -14,14 +14,14 @@ use Rattle.input_faults.specs.declared.source_fault.SourceFault.{SourceFault}
 use Rattle.input_faults.specs.declared.source_fault.SourceFault.TheVariants as source
 use Rattle.input_faults.specs.declared.state_fault.StateFault.{StateFault}
 use Rattle.input_faults.specs.declared.state_fault.StateFault.TheVariants as stated
-use Rattle.replay_faults.specs.declared.fault.ReplayFault.{ReplayFault}
-use Rattle.replay_faults.specs.declared.fault.ReplayFault.TheVariants as replayed
+use Rattle.replays.specs.declared.fault.ReplayFault.{ReplayFault}
+use Rattle.replays.specs.declared.fault.ReplayFault.TheVariants as replayed
 use Rattle.phlo_meter.specs.declared.fault.PriceFault.{PriceFault}
 use Rattle.phlo_meter.specs.declared.fault.PriceFault.TheVariants as faults
 use Rattle.rho_lexer.specs.declared.token.LexFault.{LexFault}
 use Rattle.rho_lexer.specs.declared.token.LexFault.TheVariants as lexical
-use Rattle.scope_faults.specs.declared.fault.ScopeFault.{ScopeFault}
-use Rattle.scope_faults.specs.declared.fault.ScopeFault.TheVariants as scopes
+use Rattle.input_faults.specs.declared.fault.ScopeFault.{ScopeFault}
+use Rattle.input_faults.specs.declared.fault.ScopeFault.TheVariants as scopes
 use Rattle.run_status.specs.declared.status.Input.{Input}
 use Rattle.run_status.specs.declared.status.Input.TheVariants as input
 use Rattle.run_status.specs.declared.status.Status.{Status}

@@ -9,7 +9,7 @@ use Rattle.input_faults.specs.declared.state_fault.StateFault.TheVariants as sta
 use Rattle.phlo_meter.specs.PriceTable as meter
 use Rattle.phlo_meter.specs.declared.fault.PriceFault.{PriceFault}
 use Rattle.phlo_meter.specs.declared.fault.PriceFault.TheVariants as faults
-use Rattle.replay_faults.specs.declared.fault.ReplayFault.{ReplayFault}
+use Rattle.replays.specs.declared.fault.ReplayFault.{ReplayFault}
 use Rattle.replays.specs.Replays as replays
 use Rattle.run_reports.specs.declared.finish.Halt.{Halt}
 use Rattle.run_reports.specs.declared.finish.Halt.TheVariants as halt

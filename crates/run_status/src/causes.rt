@@ -1,18 +1,17 @@
 // The causes that a verb hands on by `?`: each has its status, and want of memory has one of its own.
 ghost use Rattle.std.specs.Prelude.{◌≡◌};
 ghost use Rattle.input_faults.specs.Refusals.{refusal_of as source_refusal};
-ghost use Rattle.replay_faults.specs.Refusals.{refusal_of as replay_refusal};
+ghost use Rattle.replays.specs.Refusals.{refusal_of as replay_refusal};
 ghost use Rattle.run_status.specs.Statuses.{price_refusal, status_of_halt, LogStatusOf, PriceStatusOf, ReplayStatusOf, SourceStatusOf, StateStatusOf};
 ghost use Rattle.run_status.specs.declared.status.Status.TheVariants.{NoMemory};
 
 use crate::status::Status;
 use event_log::LogFault;
-use input_faults::{ParseFault, SourceFault, StateFault};
+use input_faults::{ParseFault, ScopeFault, SourceFault, StateFault};
 use phlo_meter::PriceFault;
-use replay_faults::ReplayFault;
+use replays::ReplayFault;
 use rho_lexer::LexFault;
 use run_reports::Halt;
-use scope_faults::ScopeFault;
 use std::alloc::AllocError;
 
 impl From<AllocError> for Status {

@@ -4,11 +4,10 @@ ghost use Rattle.run_status.specs.Message.{digest_text, digests_text, lex_text, 
 use calculus::Digest;
 use command_words::Usage;
 use event_log::LogFault;
-use input_faults::{ParseFault, SourceFault, StateFault};
+use input_faults::{ParseFault, ScopeFault, SourceFault, StateFault};
 use phlo_meter::PriceFault;
-use replay_faults::ReplayFault;
+use replays::ReplayFault;
 use rho_lexer::LexFault;
-use scope_faults::ScopeFault;
 use std::alloc::{AllocError, Global};
 
 /// The name and the field of what the words are refused for.

@@ -7,16 +7,16 @@ ghost use Rattle.calculus.specs.Meaning.{proc_written, name_written, pat_written
 ghost use Rattle.scope.specs.Binding.{variables, all_variables, inside};
 ghost use Rattle.scope.specs.Rules.{outside, after, breaks, all_breaks};
 ghost use Rattle.open_processes.specs.Pairs.{proc_pair, pat_pair};
-ghost use Rattle.scope_faults.specs.Walks.{Judges};
+ghost use Rattle.input_faults.specs.Walks.{Judges};
 
+use crate::is_wide;
 use calculus::{Bind, Case, Name, NamePat, Pat, Proc};
-use open_processes::uses_more;
-use pattern_width::is_wide;
-use scope_faults::{
+use input_faults::{
     ScopeFault, check_rest, declarations, members_fit, name_variable, new_variable,
     process_variable,
 };
-use scope_variables::{Role, Variables};
+use open_processes::uses_more;
+use scope_names::{Role, Variables};
 use std::alloc::Global;
 
 /// The first rule that a process in this scope breaks. Where it breaks none, the scope is as before.

@@ -1,11 +1,11 @@
 ghost use Rattle.calculus.specs.Meaning.{proc_written};
 ghost use Rattle.scope.specs.Rules.{broken_rules};
-ghost use Rattle.scope_faults.specs.Walks.{Judges};
+ghost use Rattle.input_faults.specs.Walks.{Judges};
 
 use crate::check::check_process;
 use calculus::Proc;
-use scope_faults::ScopeFault;
-use scope_variables::Variables;
+use input_faults::ScopeFault;
+use scope_names::Variables;
 use std::alloc::Global;
 
 /// Tests the rules of scope. `Ok` comes where a process breaks none; a refusal names the first rule that

@@ -9,8 +9,8 @@ use rho_term::Term;
 use sources::read_source;
 use space_row::Row;
 use std::alloc::Global;
-use step_work::{Worked, work_source};
 use table_lines::{LineFault, unescape};
+use unfold::{Worked, work_source};
 
 /// What a source of a line, and a body of a step, may cost at most.
 pub const MOST_COST: u64 = 1_000_000;

@@ -16,7 +16,7 @@ use Rattle.input_faults.specs.declared.parse_fault.ParseFault.TheVariants as gra
 use Rattle.rho_parser.specs.Parsed as parsed
 use Rattle.rho_parser.specs.Parsed.{place_of}
 use Rattle.scope.specs.Rules.{Broken, broken_rules}
-use Rattle.scope_faults.specs.Faults.{NamesFirst, StandsFirst}
+use Rattle.input_faults.specs.Faults.{NamesFirst, StandsFirst}
 use Rattle.sources.specs.Sources.{most_height, plain, start_of, IsSpelt, IsTooDeep, IsIllFormed, IsOutOfScope, IsRefused}
 
 plain_spanned : (ts : List Token) → plain (spanned_tokens ts) ≡ plain_tokens ts

@@ -10,8 +10,8 @@ use Rattle.calculus.specs.Storing.{AreRising, IsStorable}
 use Rattle.calculus.specs.Tree.{Tree, trees}
 use Rattle.rho_term.specs.Parts.{bind_tree}
 use Rattle.rho_term.specs.declared.term.TermBind.{TermBind}
-use Rattle.storable_row_laws.proofs.Channels.{IsClosedShort, channels-closed, part-length}
-use Rattle.storable_row_laws.proofs.Staying.{all-from}
+use Rattle.process_laws.proofs.Channels.{IsClosedShort, channels-closed, part-length}
+use Rattle.process_laws.proofs.StorableStaying.{all-from}
 use Rattle.row_reader.specs.RowCodes.{IsCutRow, IsRow}
 use Rattle.state_reader.specs.Files.{HasNoRow}
 use Rattle.state_reader.specs.Fronts.{AreTargets}

@@ -6,3 +6,10 @@ pub mod Heading
 pub mod SameRows
 pub mod Fronts
 pub mod Laid
+pub mod Same
+pub mod Exact
+pub mod OneFault
+pub mod LeastSteps
+pub mod Meetings
+pub mod TextsRead
+pub mod Faults

@@ -14,7 +14,7 @@ use Rattle.calculus.proofs.FromFits.{codes_split}
 use Rattle.calculus.proofs.Ordered.{up_to_total}
 use Rattle.calculus.proofs.Prefixes.{cut, Splits-append, Splits-length}
 use Rattle.calculus.proofs.Tails.{length-be32, one-be32}
-use Rattle.storable_row_laws.proofs.Lengths.{storable_rows_are_short}
+use Rattle.process_laws.proofs.StorableLengths.{storable_rows_are_short}
 use Rattle.code_faults.specs.Refusing.{AreRight, IsRight}
 use Rattle.row_reader.specs.RowCodes.{channel_codes, IsRow}
 use Rattle.row_reader.proofs.Joins.{same-channel}

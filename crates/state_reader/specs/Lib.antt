@@ -2,3 +2,4 @@ pub mod Files
 pub mod Reading
 pub mod Refused
 pub mod Fronts
+pub mod Laws

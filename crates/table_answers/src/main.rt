@@ -6,13 +6,12 @@
 mod kinds;
 
 use kinds::Table;
-use line_answers::{answer_lines, print_lines};
 use std::alloc::Global;
 use std::rt::{Clock, Env, Files};
 use std::sync::Wait;
 use std::thread::Threads;
 use std::{env, io};
-use table_lines::LineFault;
+use table_lines::{LineFault, answer_lines, print_lines};
 
 /// The answer to a line, a kind and its fields, by the table that has this kind.
 fn answer<R: Threads + Wait + Sync + Clock>(
@@ -45,9 +44,9 @@ fn answer_all<R: Input + Print + AllocGlobal + Threads + Wait + Sync + Clock + F
         answer(rt, alloc, word, fields, timed)
     };
     answer_lines(rt, &by_kind)?;
-    print_lines(rt, outside_calls::told(rt, alloc))?;
+    print_lines(rt, part_calls::told_outside(rt, alloc))?;
     print_lines(rt, hub_runs::told(rt, alloc))?;
-    print_lines(rt, term_calls::told(alloc))
+    print_lines(rt, part_calls::told_terms(alloc))
 }
 
 fn main(rt: HostRuntime) -> anyhow::Result<()> {

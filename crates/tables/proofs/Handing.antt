@@ -10,7 +10,7 @@ use Rattle.calculus.specs.Shape.{only, many}
 use Rattle.calculus.specs.Form.{a_bind, a_case, pat, term, IsClosed}
 use Rattle.calculus.specs.Substitution.{put}
 use Rattle.calculus.proofs.Formed.{length-code}
-use Rattle.closed_row_laws.proofs.Closing.{put-closed}
+use Rattle.process_laws.proofs.Closing.{put-closed}
 use Rattle.rho_term.specs.Parts.{part_tree, bind_tree, case_tree}
 use Rattle.rho_term.specs.declared.term.Part.{Part}
 use Rattle.rho_term.specs.declared.term.Part.TheVariants as part

@@ -6,9 +6,8 @@ ghost use Rattle.rho_term.specs.Parts.{part_tree};
 
 use crate::texts::read_term;
 use calculus::{Digest, Kind};
-use capped_work::{EvalStop, Priced};
 use name_seed::{Seed, bytes_digest};
-use price_table::Prices;
+use price_table::{EvalStop, Priced, Prices};
 use rho_term::{Op, Part, Term, TermBind};
 use std::alloc::{AllocError, Global};
 use table_lines::{Answer, Fields, LineFault, two_sources, unescape};

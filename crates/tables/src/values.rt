@@ -3,8 +3,7 @@ ghost use Rattle.calculus.specs.Form.{IsClosed};
 
 use crate::matches::matched;
 use crate::texts::{read_bytes, read_term};
-use capped_work::{EvalStop, Priced};
-use price_table::{PriceList, Prices};
+use price_table::{EvalStop, PriceList, Priced, Prices};
 use rho_eval::evaluate;
 use rho_printer::print_term;
 use rho_term::Term;

@@ -17,15 +17,15 @@ use Rattle.calculus.specs.Unfolding.{names_made}
 use Rattle.calculus.specs.declared.plain.Origin.{Origin}
 use Rattle.calculus.proofs.Changed.{no_variables}
 use Rattle.calculus.proofs.Results.{Gives}
-use Rattle.closed_values.proofs.Values.{part-value}
+use Rattle.process_laws.proofs.Values.{part-value}
 use Rattle.calculus.specs.Matching.{Bindings, all_matches, first_of_all, first_match}
-use Rattle.closed_row_laws.proofs.Closing.{FirstIsClosed, first-closed, names-closed, put-closed}
-use Rattle.unfolding_laws.proofs.Patterns.{a_pat}
-use Rattle.unfolding_laws.proofs.Fitting.{fits-tidy}
-use Rattle.capped_work.specs.declared.stop.EvalStop.{EvalStop}
-use Rattle.capped_work.specs.declared.stop.EvalStop.TheVariants.{Over}
-use Rattle.capped_work.specs.Outcomes.{Came, Stopped}
-use Rattle.capped_work.proofs.Outcomes.{came-pure, later}
+use Rattle.process_laws.proofs.Closing.{FirstIsClosed, first-closed, names-closed, put-closed}
+use Rattle.process_laws.proofs.UnfoldingPatterns.{a_pat}
+use Rattle.process_laws.proofs.Fitting.{fits-tidy}
+use Rattle.price_table.specs.declared.stop.EvalStop.{EvalStop}
+use Rattle.price_table.specs.declared.stop.EvalStop.TheVariants.{Over}
+use Rattle.price_table.specs.Outcomes.{Came, Stopped}
+use Rattle.price_table.proofs.Outcomes.{came-pure, later}
 use Rattle.match_targets.specs.Found.{IsFirst}
 use Rattle.rho_term.specs.declared.term.TermCase.{TermCase}
 use Rattle.rho_term.specs.Parts.{case_tree}

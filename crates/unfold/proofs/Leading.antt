@@ -9,10 +9,10 @@ use Rattle.calculus.specs.Rows.{Row}
 use Rattle.calculus.specs.Seeds.{digest_of, Body}
 use Rattle.calculus.specs.Unfolding.{Product, a_row, Unfolder, unfold_part, parts_unfolded, unfold_in}
 use Rattle.calculus.proofs.Room.{IsKnown, Refines, charged_more, after_more}
-use Rattle.capped_work.specs.declared.stop.EvalStop.{EvalStop}
-use Rattle.capped_work.specs.declared.stop.EvalStop.TheVariants.{Fault, Over, NoMemory}
-use Rattle.capped_work.specs.Outcomes.{Stopped}
-use Rattle.capped_work.proofs.Outcomes.{stopped-first, later}
+use Rattle.price_table.specs.declared.stop.EvalStop.{EvalStop}
+use Rattle.price_table.specs.declared.stop.EvalStop.TheVariants.{Fault, Over, NoMemory}
+use Rattle.price_table.specs.Outcomes.{Stopped}
+use Rattle.price_table.proofs.Outcomes.{stopped-first, later}
 use Rattle.rho_eval.proofs.Forms.{ascending-same}
 use Rattle.rho_term.specs.Normal.{IsNormal}
 use Rattle.unfold.specs.Progress.{Pending, pending, rows_answer, row_work, left_work, Progress, whole_work, LeadsTo, Advances, StopsWith, Ends, with_part}

@@ -8,3 +8,5 @@ pub mod Names
 pub mod Ready
 pub mod Offering
 pub mod Silent
+pub mod Works
+pub mod Bodies

@@ -9,7 +9,7 @@ use Rattle.calculus.specs.Form.{a_bind, all, Hold, IsClosed}
 use Rattle.calculus.specs.Outcome.{Prices, Answer, gives, fails, unknown, Outcome, pure, then_do, after, in_order}
 use Rattle.calculus.specs.Unfolding.{opened, receive_offered}
 use Rattle.calculus.specs.Values.{value}
-use Rattle.capped_work.specs.Outcomes.{Came}
+use Rattle.price_table.specs.Outcomes.{Came}
 use Rattle.rho_eval.proofs.Parts.{operands}
 use Rattle.rho_term.specs.declared.term.TermBind.{TermBind}
 use Rattle.rho_term.specs.Parts.{bind_tree}

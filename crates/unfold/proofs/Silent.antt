@@ -6,8 +6,8 @@ use Rattle.calculus.specs.Form.{IsClosed}
 use Rattle.calculus.specs.Outcome.{Prices, Answer, gives, fails, unknown, Outcome, pure, then_do}
 use Rattle.calculus.specs.Rows.{Row}
 use Rattle.calculus.specs.Values.{value}
-use Rattle.capped_work.specs.declared.stop.EvalStop.{EvalStop}
-use Rattle.capped_work.specs.Outcomes.{Came, Stopped}
+use Rattle.price_table.specs.declared.stop.EvalStop.{EvalStop}
+use Rattle.price_table.specs.Outcomes.{Came, Stopped}
 use Rattle.rho_term.specs.Normal.{IsNormal}
 use Rattle.unfold.specs.Inner.{silent, inner_process, is_silent}
 use Rattle.unfold.specs.Progress.{Pending, IsReady, Advances, StopsWith, with_part}

@@ -15,7 +15,7 @@ use Rattle.calculus.specs.Seeds.{digest_of, Body}
 use Rattle.calculus.specs.Values.{value}
 use Rattle.calculus.specs.Unfolding.{Product, a_row, unfold_part, opened, send_offered, receive_offered}
 use Rattle.calculus.proofs.Placing.{listed-trees}
-use Rattle.capped_work.specs.Outcomes.{Came}
+use Rattle.price_table.specs.Outcomes.{Came}
 use Rattle.rho_eval.proofs.Forms.{values-each}
 use Rattle.rho_term.specs.declared.op.Op.{Op}
 use Rattle.rho_term.specs.declared.term.Part.{Part}

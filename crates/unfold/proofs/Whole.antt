@@ -13,9 +13,9 @@ use Rattle.calculus.specs.Substitution.{put}
 use Rattle.calculus.specs.Outcome.{Prices, Answer, gives, fails, unknown, Outcome, free, after, pure, within_limits, Capped, over, within, known, capped}
 use Rattle.calculus.specs.Rows.{Row}
 use Rattle.calculus.specs.Unfolding.{Product, rows_of, Unfolds, unfold_in, unfold_within, UnfoldsUnder}
-use Rattle.capped_work.specs.declared.stop.EvalStop.{EvalStop}
-use Rattle.capped_work.specs.declared.stop.EvalStop.TheVariants.{Fault, Over, NoMemory}
-use Rattle.capped_work.specs.Outcomes.{Came, Stopped, EndsWith}
+use Rattle.price_table.specs.declared.stop.EvalStop.{EvalStop}
+use Rattle.price_table.specs.declared.stop.EvalStop.TheVariants.{Fault, Over, NoMemory}
+use Rattle.price_table.specs.Outcomes.{Came, Stopped, EndsWith}
 use Rattle.rho_term.specs.declared.op.Op.{Op}
 use Rattle.rho_term.specs.Normal.{IsNormal}
 use Rattle.rho_term.specs.Rows.{row_of_op}

@@ -2,3 +2,4 @@ pub mod Offers
 pub mod Inner
 pub mod Progress
 pub mod Results
+pub mod Works

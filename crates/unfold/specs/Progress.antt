@@ -8,8 +8,8 @@ use Rattle.calculus.specs.Outcome.{Prices, Answer, gives, fails, unknown, Outcom
 use Rattle.calculus.specs.Rows.{Row}
 use Rattle.calculus.specs.Unfolding.{Product, rows_of, unfold_part, unfold_in}
 use Rattle.calculus.proofs.Room.{Refines}
-use Rattle.capped_work.specs.declared.stop.EvalStop.{EvalStop}
-use Rattle.capped_work.specs.Outcomes.{Stopped}
+use Rattle.price_table.specs.declared.stop.EvalStop.{EvalStop}
+use Rattle.price_table.specs.Outcomes.{Stopped}
 use Rattle.rho_term.specs.Normal.{IsOrdered}
 use Rattle.rho_term.specs.Parts.{part_tree}
 use Rattle.rho_term.specs.Rows.{row_of_op}

@@ -4,9 +4,9 @@ use Rattle.std.specs.declared.alloc.Global.{Global}
 use Rattle.calculus.specs.Outcome.{Prices, Capped}
 use Rattle.calculus.specs.Tree.{Tree}
 use Rattle.calculus.specs.Unfolding.{Product}
-use Rattle.capped_work.specs.declared.stop.EvalStop.{EvalStop}
-use Rattle.capped_work.specs.declared.stop.Priced.{Priced}
-use Rattle.capped_work.specs.Outcomes.{EndsWith}
+use Rattle.price_table.specs.declared.stop.EvalStop.{EvalStop}
+use Rattle.price_table.specs.declared.stop.Priced.{Priced}
+use Rattle.price_table.specs.Outcomes.{EndsWith}
 use Rattle.rho_term.specs.declared.op.Op.{Op}
 use Rattle.unfold.specs.Offers.{Comes}
 use Rattle.unfold.specs.Progress.{Pending, Advances, StopsWith, with_part, progress}

@@ -8,15 +8,15 @@ ghost use Rattle.calculus.specs.Substitution.{put};
 ghost use Rattle.calculus.specs.Tree.{match as matches, row};
 ghost use Rattle.calculus.specs.Unfolding.{names_made};
 ghost use Rattle.calculus.specs.Values.{value};
-ghost use Rattle.capped_work.specs.Results.{ComesTo};
+ghost use Rattle.price_table.specs.Results.{ComesTo};
 ghost use Rattle.rho_term.specs.Normal.{IsOrdered};
 ghost use Rattle.rho_term.specs.Parts.{case_tree, part_tree};
 ghost use Rattle.rho_term.specs.Sizes.{in_u64, size};
 ghost use Rattle.unfold.specs.Inner.{chosen_body, inner_process, is_silent, HoldsNoProcess};
 
 use crate::limits::put_within;
-use capped_work::{Budget, EvalStop, Priced};
 use name_seed::Seed;
+use price_table::{Budget, EvalStop, Priced};
 use rho_eval::{eval_owned, eval_part, limited};
 use rho_term::{Origin, Part, Term, TermCase};
 use spatial_match::first_match;

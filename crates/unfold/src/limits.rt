@@ -1,10 +1,10 @@
 // Bodies within the limits.
 ghost use Rattle.calculus.specs.Outcome.{free, within_limits};
 ghost use Rattle.calculus.specs.Substitution.{put};
-ghost use Rattle.capped_work.specs.Results.{ComesTo};
+ghost use Rattle.price_table.specs.Results.{ComesTo};
 
 use calculus::FaultKind;
-use capped_work::{Budget, EvalStop, Priced};
+use price_table::{Budget, EvalStop, Priced};
 use rho_term::{MOST_BYTES, MOST_HEIGHT, Term};
 use std::alloc::Global;
 use substituted_sizes::put_size;

@@ -5,14 +5,14 @@ ghost use Rattle.calculus.specs.Shape.{two, many, only};
 ghost use Rattle.calculus.specs.Form.{IsClosed};
 ghost use Rattle.calculus.specs.Outcome.{in_order};
 ghost use Rattle.calculus.specs.Values.{value};
-ghost use Rattle.capped_work.specs.Results.{ComesToAll};
+ghost use Rattle.price_table.specs.Results.{ComesToAll};
 ghost use Rattle.offered_rows.specs.Offers.{ComesToRow, receive_tree};
 ghost use Rattle.rho_term.specs.Parts.{bind_tree};
 ghost use Rattle.unfold.specs.Offers.{send_work, receive_work};
 
-use capped_work::{Budget, EvalStop, Priced};
 use name_seed::Seed;
 use offered_rows::{Receive, offer_receive, offer_send};
+use price_table::{Budget, EvalStop, Priced};
 use rho_eval::{eval_term, eval_terms};
 use rho_term::{Op, Term, TermBind};
 use std::alloc::Global;

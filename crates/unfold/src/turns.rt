@@ -11,10 +11,9 @@ ghost use Rattle.unfold.specs.Results.{pending_part, TakesTurn};
 
 use crate::inner::{inner_process, is_silent, value_inside};
 use crate::offers::{receive_offer, send_offer};
-use capped_work::{Budget, EvalStop, Priced};
 use name_seed::Seed;
 use offered_rows::Receive;
-use price_table::Prices;
+use price_table::{Budget, EvalStop, Priced, Prices};
 use rho_term::{Op, Part, Term};
 use std::alloc::{AllocError, Global};
 

@@ -7,9 +7,8 @@ ghost use Rattle.unfold.specs.Results.{Fulfils};
 
 use crate::limits::put_within;
 use crate::turns::{Work, finish, push_parts};
-use capped_work::{Budget, EvalStop, Priced};
 use name_seed::Seed;
-use price_table::Prices;
+use price_table::{Budget, EvalStop, Priced, Prices};
 use rho_term::{Op, Term};
 use std::alloc::Global;
 

@@ -1,12 +1,21 @@
-use Rattle.std.proofs.Common.{ℕ, List, [], ◌∷◌, ◌++◌, map, take, sym, ◌∙◌, ap, subst}
+use Rattle.std.proofs.Common.{◌≡◌, ◌<◌, ℕ, List, length, arith, [], ◌∷◌, ◌++◌, map, take, sym, ◌∙◌, ap, subst}
 use Rattle.std.specs.Prelude.{All}
 use Rattle.std.specs.Borrow.{Bor}
 use Rattle.std.proofs.lemmas.List.Elements.{All-push}
 use Rattle.calculus.specs.Rows.{Row, row_code}
 use Rattle.checkpoint.specs.Groups.{row_of, IsKeyed}
 use Rattle.checkpoint.specs.Marks.{seen_mark, row_mark}
-use Rattle.checkpoint.proofs.Adding.{at-place, map-push, taken-more}
+use Rattle.checkpoint.proofs.Adding.{at-bound, at-place, map-push, taken-all, taken-more}
 use Rattle.checkpoint.proofs.keyed.keyed_rows.Goals as goal
+
+pub index-requires : goal.index-requires
+index-requires c =
+    let code : Bor (List ℕ) → List ℕ = λ s. s.now in
+    let within : c.loop-place.place < length c.args.codes.items = at-bound code row_code c.args.codes.items c.args.rows.now c.loop-place.place c.requires.codes c.loop-place-test.true in
+    omega (arith, within, c.args.codes.ok.0)
+
+pub bounds-marks-place : goal.bounds-marks-place
+bounds-marks-place c = at-bound seen_mark row_mark c.args.marks.now c.args.rows.now c.loop-place.place c.requires.marks c.loop-place-test.true
 
 pub keyed_row-one-requires-clause-code : goal.keyed_row-one-requires-clause-code
 keyed_row-one-requires-clause-code c =
@@ -31,3 +40,8 @@ loop-place-preserved c =
           ∙ sym (taken-more rows i row c.loop-place-test.true c.index-rows-place.is);
       keyed = subst (All IsKeyed) (sym c.in_ok-push.ensures.items) (All-push IsKeyed old one c.loop-place.invariant.keyed c.keyed_row-one.ensures.keyed);
     }
+
+pub returns-clause-rows : goal.returns-clause-rows
+returns-clause-rows c =
+    let all : c.loop-place.place ≡ length c.args.rows.now = omega arith in
+    c.loop-place.invariant.rows ∙ taken-all c.args.rows.now c.loop-place.place all

@@ -1,9 +1,14 @@
-use Rattle.std.proofs.Common.{ℕ, List, [], ◌∷◌, ◌++◌, map, take, sym, ◌∙◌, ap}
+use Rattle.std.proofs.Common.{◌≡◌, ℕ, List, length, arith, [], ◌∷◌, ◌++◌, map, take, sym, ◌∙◌, ap}
 use Rattle.std.specs.Borrow.{Bor}
 use Rattle.calculus.specs.Rows.{row_code}
 use Rattle.checkpoint.specs.Marks.{seen_mark, row_mark}
-use Rattle.checkpoint.proofs.Adding.{at-place, map-push, taken-more}
+use Rattle.checkpoint.proofs.Adding.{at-bound, at-place, map-push, taken-all, taken-more}
 use Rattle.checkpoint.proofs.marks.marks_of.Goals as goal
+
+pub bounds-codes-place : goal.bounds-codes-place
+bounds-codes-place c =
+    let code : Bor (List ℕ) → List ℕ = λ s. s.now in
+    at-bound code row_code c.args.codes.now c.args.rows.now c.loop-place.place c.requires c.loop-place-test.true
 
 pub mark_of-requires : goal.mark_of-requires
 mark_of-requires c =
@@ -22,3 +27,8 @@ loop-place-preserved c =
     ∙ ap (λ (p : List ℕ × ℕ). map row_mark (take i rows) ++ p ∷ []) c.in_ok-mark.ensures
     ∙ sym (map-push row_mark (take i rows) row)
     ∙ ap (map row_mark) (sym (taken-more rows i row c.loop-place-test.true c.index-rows-place.is))
+
+pub returns : goal.returns
+returns c =
+    let all : c.loop-place.place ≡ length c.args.rows.now = omega arith in
+    c.loop-place.invariant ∙ ap (map row_mark) (taken-all c.args.rows.now c.loop-place.place all)

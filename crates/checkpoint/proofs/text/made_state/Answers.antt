@@ -7,5 +7,6 @@ use Rattle.checkpoint.proofs.text.made_state.Goals as goal
 
 pub returns-clause-text : goal.returns-clause-text
 returns-clause-text g c =
-    c.in_ok-text.ensures ∙ ap (λ (z : List ℕ). text_with z (map (λ v. v.items) c.in_ok-ascending.ascending.items)) c.in_ok-root.ensures.root
-    ∙ text-of-sorted c.args.rows.items (map (λ v. v.items) c.in_ok-ascending.ascending.items) (c.in_ok-ascending.ensures ∙ ap sorted (c.in_ok-codes.ensures ∙ ap (λ (rs : List Row). map row_code rs) c.as_slice.ensures.value))
+    let cs : List (List ℕ) = sorted (map (λ v. v.items) c.in_ok-codes.codes.items) in
+    c.in_ok-text.ensures ∙ ap (λ (d : List ℕ). text_with d cs) c.in_ok-root.ensures.root
+    ∙ text-of-sorted c.args.rows.items cs (ap sorted (c.in_ok-codes.ensures ∙ ap (λ (rs : List Row). map row_code rs) c.as_slice.ensures.value))

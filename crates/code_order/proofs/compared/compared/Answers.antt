@@ -4,7 +4,7 @@ use Rattle.std.proofs.lemmas.Cmp.{nat_list_cmp_total}
 use Rattle.std.proofs.lemmas.List.Sorted.{answers_always, ranks_by}
 use Rattle.std.specs.List.Sorted.{IsSortedBy, IsStableBy}
 use Rattle.std.specs.Ordering.{is_lt}
-use Rattle.keyed_order.proofs.Unique.{low}
+use Rattle.code_order.proofs.Unique.{low}
 use Rattle.code_order.proofs.Made.{sorted-stably}
 use Rattle.code_order.proofs.compared.compared.Goals as goal
 

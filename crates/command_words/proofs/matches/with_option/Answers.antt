@@ -1,11 +1,13 @@
-use Rattle.std.proofs.Common.{◌≡◌, ◌∙◌, ap, false, Some}
+use Rattle.std.proofs.Common.{◌≡◌, ◌∙◌, ap, ap₂, false, Some, subst}
 use Rattle.std.specs.Borrow.{Bor}
+use Rattle.std.specs.Prelude.{Result}
 use Rattle.std.proofs.lemmas.Result.{IfOk-weaker}
 use Rattle.clap.specs.Simple.{app_of, new_rule, with_rule}
 use Rattle.clap.specs.Walk.{Rule, rule_of}
 use Rattle.clap.specs.declared.builder.arg.Arg.{Arg}
+use Rattle.clap.specs.declared.builder.command.Command.{Command}
 use Rattle.command_words.specs.Arguments.{Text}
-use Rattle.command_words.specs.Clap.{option_rule}
+use Rattle.command_words.specs.Clap.{HasApp, option_rule}
 use Rattle.command_words.proofs.matches.with_option.Goals as goal
 
 -- a new argument with a long name is an option
@@ -17,6 +19,7 @@ is_option a b name is local new = (
 )
 
 pub returns : goal.returns
-returns c =
-    let option = is_option c.new.result c.long-option.result c.args.name c.long-option.ensures c.new.ensures.optional.1 c.new.ensures.rule in
-    IfOk-weaker c.arg.result _ _ (λ m added. added.shape option.0 ∙ ap (with_rule (app_of c.args.command)) option.1) c.arg.ensures
+returns c before has =
+    let was : app_of c.in_ok-command.command ≡ before = subst (λ (r : Result Command _). HasApp r before) c.in_ok-command.was has in
+    let option = is_option c.new.result c.long.result c.args.name c.long.ensures c.new.ensures.optional.1 c.new.ensures.rule in
+    IfOk-weaker c.arg.result _ _ (λ m added. added.shape option.0 ∙ ap₂ with_rule was option.1) c.arg.ensures

@@ -1,5 +1,5 @@
 use denote.Param.Send.{sendable}
-use Rattle.sent_tables.proofs.Crossing.{shard-send, shard-sync, held-send, held-sync}
+use Rattle.rspace_table.proofs.Crossing.{shard-send, shard-sync, held-send, held-sync}
 use Rattle.gate_runs.proofs.plays.played.Goals as goal
 
 pub play-requires-send-T-Shard : goal.play-requires-send-T-Shard

@@ -2,7 +2,7 @@ use Rattle.std.proofs.Common.{[], ◌∷◌, sym, subst}
 use Rattle.std.proofs.lemmas.List.Elements.{All-head, All-tail}
 use Rattle.calculus.specs.Rows.{stdout, stdout_ack}
 use Rattle.calculus.specs.Storing.{IsStorable}
-use Rattle.storable_row_laws.proofs.Staying.{built_in_receivers_are_storable}
+use Rattle.process_laws.proofs.StorableStaying.{built_in_receivers_are_storable}
 use Rattle.least_step.proofs.Steps.{first-row, rest-rows}
 use Rattle.least_step.proofs.rows.built_in_rows.Goals as goal
 

@@ -4,7 +4,7 @@ use Rattle.calculus.specs.Meaning.{declared, proc_written, name_written, pat_wri
 use Rattle.calculus.specs.Written.{writtens}
 use Rattle.rho_term.specs.Parts.{part_tree, pat_part_tree, pair_tree, bind_tree, case_tree}
 use Rattle.open_processes.specs.Pairs.{proc_pair, pat_pair}
-use Rattle.pattern_names.specs.InScope.{within}
+use Rattle.normal_parts.specs.InScope.{within}
 use Rattle.normal_parts.proofs.Calls.{term-made, pat-made, pat-ordered, still-bound, left-again}
 use Rattle.normal_parts.proofs.Levels.{proc-par, name-par, pat-pattern, name-pat-pattern}
 use Rattle.normalizer.proofs.Around.{of-pair, of-bind, of-case}

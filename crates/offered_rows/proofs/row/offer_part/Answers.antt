@@ -4,7 +4,7 @@ use Rattle.calculus.specs.Rows.{row_length}
 use Rattle.calculus.specs.Unfolding.{a_row, row_limits}
 use Rattle.rho_term.specs.Parts.{part_tree}
 use Rattle.rho_term.specs.Rows.{row_of_op}
-use Rattle.capped_work.proofs.Outcomes.{exit}
+use Rattle.price_table.proofs.Outcomes.{exit}
 use Rattle.offered_rows.specs.Offers.{row_of, tested}
 use Rattle.offered_rows.proofs.Charging.{row-bytes, over-stops, with-nothing, told, no-fault}
 use Rattle.offered_rows.proofs.row.offer_part.Goals as goal

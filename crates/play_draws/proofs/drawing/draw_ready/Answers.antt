@@ -1,5 +1,5 @@
 use denote.Param.Send.{sendable}
-use Rattle.sent_rows.proofs.Crossing.{row-send, row-sync}
+use Rattle.space_row.proofs.Crossing.{row-send, row-sync}
 use Rattle.std.proofs.Common.{◌≡◌, ◌∙◌, ℕ, List, Some, refl, sym, ap, subst, drop, map, arith}
 use Rattle.std.proofs.Math.Nat.{min-eq_left}
 use Rattle.calculus.specs.declared.ids.Digest.{Digest}

@@ -3,7 +3,7 @@ use Rattle.std.proofs.Common.{◌≡◌, ℕ, List, Option, None, refl, sym, sub
 use Rattle.calculus.specs.Rows.{Row as Stored}
 use Rattle.group_locks.specs.Seats.{held_by, since_of, took_by}
 use Rattle.run_entries.specs.Allowed.{IdsTell, MeetsNothing, rows_at_hand}
-use Rattle.sent_rows.proofs.Crossing.{row-send, row-sync}
+use Rattle.space_row.proofs.Crossing.{row-send, row-sync}
 use Rattle.shard_tables.specs.Hands.{AreInHand, AreMade, GainsRow}
 use Rattle.play_hub.specs.declared.entry.PlayEntry.{PlayEntry}
 use Rattle.play_draws.specs.Turns.{HoldsGroup}

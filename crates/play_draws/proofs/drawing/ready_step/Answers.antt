@@ -1,5 +1,5 @@
 use denote.Param.Send.{sendable}
-use Rattle.sent_rows.proofs.Crossing.{row-send, row-sync}
+use Rattle.space_row.proofs.Crossing.{row-send, row-sync}
 use Rattle.std.proofs.Common.{◌≡◌, ℕ, List, drop, sym, subst}
 use Rattle.std.specs.Prelude.{IfOk}
 use Rattle.calculus.specs.Outcome.{Prices}

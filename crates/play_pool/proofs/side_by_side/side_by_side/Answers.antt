@@ -1,7 +1,7 @@
 use denote.Param.Send.{sendable}
 use Rattle.std.proofs.Crossing.{crosses}
-use Rattle.sent_rows.proofs.Crossing.{row-send, row-sync}
-use Rattle.sent_seats.proofs.Crossing.{entry-send, entry-sync, hub-sync, scene-sync, seat-send}
+use Rattle.space_row.proofs.Crossing.{row-send, row-sync}
+use Rattle.play_hub.proofs.Crossing.{entry-send, entry-sync, hub-sync, scene-sync, seat-send}
 use Rattle.std.proofs.Common.{sym, subst}
 use Rattle.std.specs.List.{All}
 use Rattle.group_locks.specs.Seats.{IsIdle}

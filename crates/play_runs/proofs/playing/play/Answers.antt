@@ -2,7 +2,7 @@ use Rattle.std.proofs.Common.{sym, ap, ◌∙◌, subst}
 use Rattle.calculus.specs.Runs.{work_fault, work_price, work_products}
 use Rattle.calculus.specs.Unfolding.{rows_of, Unfolds}
 use Rattle.calculus.proofs.States.{one_unfolding}
-use Rattle.known_work.specs.Rooms.{work_in}
+use Rattle.play_runs.specs.Rooms.{work_in}
 use Rattle.play_runs.proofs.playing.play.Goals as goal
 
 pub play_source-requires-clause-unfolds : goal.play_source-requires-clause-unfolds

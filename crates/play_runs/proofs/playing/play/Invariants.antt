@@ -1,5 +1,5 @@
 use Rattle.calculus.specs.Runs.{deploy_of}
-use Rattle.known_work.specs.Rooms.{work_in}
+use Rattle.play_runs.specs.Rooms.{work_in}
 use Rattle.play_runs.proofs.playing.play.Given as goal
 
 -- the deploy of the call, and what its source comes to

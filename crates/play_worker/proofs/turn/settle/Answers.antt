@@ -1,6 +1,6 @@
 use denote.Exit.{no}
 use denote.Param.Send.{arg_send, arg_sync, param_send, param_sync}
-use Rattle.sent_rows.proofs.Crossing.{row-send, row-sync}
+use Rattle.space_row.proofs.Crossing.{row-send, row-sync}
 use Rattle.std.proofs.Common.{◌∙◌, sym, ap, subst, length, drop, Option, ℕ}
 use Rattle.std.specs.List.{slice_get}
 use Rattle.group_locks.specs.Seats.{drawn_by}

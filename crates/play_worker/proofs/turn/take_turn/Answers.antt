@@ -1,6 +1,6 @@
 use denote.Exit.{no}
 use denote.Param.Send.{arg_send, arg_sync, param_send, param_sync}
-use Rattle.sent_rows.proofs.Crossing.{row-send, row-sync}
+use Rattle.space_row.proofs.Crossing.{row-send, row-sync}
 use Rattle.play_worker.proofs.Seats.{drawn-home, work-same}
 use Rattle.play_worker.proofs.turn.take_turn.Goals as goal
 

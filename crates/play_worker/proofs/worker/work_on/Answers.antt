@@ -1,6 +1,6 @@
 use denote.Exit.{no}
 use denote.Param.Send.{arg_send, arg_sync, param_send, param_sync}
-use Rattle.sent_rows.proofs.Crossing.{row-send, row-sync}
+use Rattle.space_row.proofs.Crossing.{row-send, row-sync}
 use Rattle.std.proofs.Common.{ℕ, List, drop, length, subst, sym}
 use Rattle.play_hub.specs.declared.entry.PlayEntry.{PlayEntry}
 use Rattle.play_draws.specs.Making.{IsAgain}

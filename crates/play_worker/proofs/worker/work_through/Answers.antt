@@ -1,6 +1,6 @@
 use denote.Exit.{no}
 use denote.Param.Send.{arg_send, arg_sync, param_send, param_sync}
-use Rattle.sent_rows.proofs.Crossing.{row-send, row-sync}
+use Rattle.space_row.proofs.Crossing.{row-send, row-sync}
 use Rattle.play_worker.proofs.worker.work_through.Goals as goal
 
 pub stop-requires-send-S-Work : goal.stop-requires-send-S-Work

@@ -9,7 +9,7 @@ use Rattle.calculus.proofs.Digests.{digest-fits}
 use Rattle.play_outcome.specs.Bases.{IsQuietBase}
 use Rattle.recorded_runs.proofs.Running.{numberable}
 use Rattle.recorded_runs.proofs.Planning.{Plays, is_plan, made_from, quiet-base, IsHeaderOf}
-use Rattle.sent_tables.proofs.Crossing.{shard-send, shard-sync, held-send, held-sync}
+use Rattle.rspace_table.proofs.Crossing.{shard-send, shard-sync, held-send, held-sync}
 use Rattle.recorded_runs.proofs.deploys.make_plan.Goals as goal
 
 pub returns : goal.returns

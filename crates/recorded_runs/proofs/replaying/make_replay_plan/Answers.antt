@@ -8,8 +8,8 @@ use Rattle.replays.specs.Replays.{Refusal, header_refusal, deploy_under}
 use Rattle.replay_answers.specs.Answers.{Clashes, IsAnswered}
 use Rattle.replay_answers.specs.Bases.{asked, ids_of}
 use Rattle.states.specs.Quiet.{AreQuiet}
-use Rattle.replay_faults.specs.Refusals.{is_of_header, refusal_of}
-use Rattle.replay_faults.specs.declared.fault.ReplayFault.{ReplayFault}
+use Rattle.replays.specs.Refusals.{is_of_header, refusal_of}
+use Rattle.replays.specs.declared.fault.ReplayFault.{ReplayFault}
 use Rattle.replay_answers.specs.declared.replayed.Replayed.{Replayed}
 use Rattle.recorded_runs.proofs.Running.{numberable}
 use Rattle.run_status.specs.declared.status.Status.{Status}

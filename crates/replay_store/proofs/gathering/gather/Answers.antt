@@ -3,9 +3,9 @@ use Rattle.std.proofs.lemmas.List.{map-append}
 use Rattle.calculus.specs.Rows.{Row}
 use Rattle.replay_scene.specs.Spaces.{bare, Part}
 use Rattle.replay_store.specs.Stores.{bare_shards}
-use Rattle.row_homes.specs.Homes.{gathered, home}
+use Rattle.row_shards.specs.Homes.{gathered, home}
 use Rattle.replay_store.proofs.Gathered.{bare-many}
-use Rattle.row_homes.proofs.Gathered.{gathered-more}
+use Rattle.row_shards.proofs.Gathered.{gathered-more}
 use Rattle.replay_store.proofs.gathering.gather.Goals as goal
 
 pub loop-shard-preserved : goal.loop-shard-preserved

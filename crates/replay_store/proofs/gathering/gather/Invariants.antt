@@ -1,6 +1,6 @@
 use Rattle.std.proofs.Common.{◌≡◌, length}
 use Rattle.replay_store.specs.Stores.{bare_shards}
-use Rattle.row_homes.specs.Homes.{gathered}
+use Rattle.row_shards.specs.Homes.{gathered}
 use Rattle.replay_store.proofs.gathering.gather.Given as goal
 
 abbrev pub invariant-loop-shard : goal.invariant-loop-shard

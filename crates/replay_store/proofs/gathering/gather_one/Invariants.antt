@@ -1,5 +1,5 @@
 use Rattle.std.proofs.Common.{◌≡◌, ◌++◌, eqb, filter}
-use Rattle.row_homes.specs.Homes.{home}
+use Rattle.row_shards.specs.Homes.{home}
 use Rattle.replay_store.proofs.gathering.gather_one.Given as goal
 
 abbrev pub invariant-loop-row : goal.invariant-loop-row

@@ -8,13 +8,13 @@ use Rattle.calculus.specs.Normal.{ascending, made_node}
 use Rattle.calculus.specs.Operators.{of_set, of_map, unary_answer, binary_answer}
 use Rattle.calculus.specs.Methods.{method_answer}
 use Rattle.calculus.specs.Values.{value, operated}
-use Rattle.capped_work.specs.Outcomes.{Came, CameFlat, Stopped, EndsWith}
+use Rattle.price_table.specs.Outcomes.{Came, CameFlat, Stopped, EndsWith}
 use Rattle.rho_eval.specs.Values.{Evaluates}
 use Rattle.rho_term.specs.Normal.{IsOrdered, IsNormal}
 use Rattle.rho_term.specs.Parts.{part_tree, pair_tree}
 use Rattle.rho_term.proofs.Trees.{weight-at, tree-at}
 use Rattle.value_ops.specs.Answers.{IsOperand}
-use Rattle.capped_work.proofs.Outcomes.{exit, exit-memory, Leads, leads-none, leads-next, leads-stop, leads-end, next-of, none-of, stop-form, come-form, told-form, came-after, came-one, came-two, came-pure, stopped-first, stopped-after, stopped-cons, stopped-rest}
+use Rattle.price_table.proofs.Outcomes.{exit, exit-memory, Leads, leads-none, leads-next, leads-stop, leads-end, next-of, none-of, stop-form, come-form, told-form, came-after, came-one, came-two, came-pure, stopped-first, stopped-after, stopped-cons, stopped-rest}
 use Rattle.rho_eval.proofs.Forms.{value-process, value-list, value-tuple, value-set, value-map, value-bundle, value-unary, value-binary, value-row, value-method, value-pair}
 use Rattle.std.proofs.lemmas.List.Elements.{All-append}
 use Rattle.rho_eval.proofs.Parts.{process-form, map-form, flat-more, limited-at, map-append, itself, called, pair-comes, pair-stops-first, pair-stops-second, parts-ordered, parts-closed, members-closed, keys-closed, values-closed, operand, operands, reordered-same, key-operands}

@@ -6,9 +6,9 @@ use Rattle.calculus.specs.Outcome.{Outcome, in_order}
 use Rattle.calculus.specs.Values.{value}
 use Rattle.rho_term.specs.Normal.{IsOrdered}
 use Rattle.rho_term.specs.Parts.{part_tree, pair_tree}
-use Rattle.capped_work.specs.declared.stop.EvalStop.{EvalStop}
-use Rattle.capped_work.specs.Outcomes.{Came, Stopped}
-use Rattle.capped_work.proofs.Outcomes.{Leads}
+use Rattle.price_table.specs.declared.stop.EvalStop.{EvalStop}
+use Rattle.price_table.specs.Outcomes.{Came, Stopped}
+use Rattle.price_table.proofs.Outcomes.{Leads}
 use Rattle.rho_eval.proofs.evaluation.+evaluate.Given as goal
 
 abbrev pub decreases-eval_term : goal.decreases-eval_term

@@ -2,7 +2,7 @@ use Rattle.std.proofs.Common.{sym, subst}
 use Rattle.std.specs.Result.{MatchResult}
 use Rattle.calculus.specs.Outcome.{Outcome}
 use Rattle.calculus.specs.Tree.{Tree}
-use Rattle.capped_work.specs.Outcomes.{Came, Stopped}
+use Rattle.price_table.specs.Outcomes.{Came, Stopped}
 use Rattle.rho_eval.proofs.OwnValues.{own-value}
 use Rattle.rho_eval.proofs.owned.eval_owned.Goals as goal
 

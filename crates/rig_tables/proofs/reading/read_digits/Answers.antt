@@ -1,5 +1,5 @@
 use Rattle.std.proofs.lemmas.Result.{MatchResult-at_ok}
-use Rattle.readable_logs.proofs.Ranges.{read_logs_are_writable}
+use Rattle.event_log.proofs.Ranges.{read_logs_are_writable}
 use Rattle.rig_tables.proofs.reading.read_digits.Goals as goal
 
 pub returns-in-Ok : goal.returns-in-Ok

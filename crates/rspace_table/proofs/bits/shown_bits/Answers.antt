@@ -8,8 +8,8 @@ use Rattle.rho_term.specs.declared.term.TermBind.{TermBind}
 use Rattle.row_search.specs.Choices.{AllBindsReady}
 use Rattle.row_search.proofs.Known.{as-row, send-channel, binds-ready}
 use Rattle.space_row.proofs.Codes.{channels-receive}
-use Rattle.shard_bits.proofs.SetBits.{or-none}
-use Rattle.shard_bits.proofs.Standing.{binds-stand}
+use Rattle.row_shards.proofs.SetBits.{or-none}
+use Rattle.row_shards.proofs.Standing.{binds-stand}
 use Rattle.shard_counts.specs.Bits.{AreBitsBeside}
 use Rattle.row_table.specs.Shown.{heard_on}
 use Rattle.rspace_table.proofs.Shown.{binds-shown, shown-on}

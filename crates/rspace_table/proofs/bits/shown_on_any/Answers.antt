@@ -2,7 +2,7 @@ use Rattle.std.proofs.Common.{ℕ, eqb, ap, subst}
 use Rattle.std.proofs.lemmas.Nat.Bits.{bit_at-zero}
 use Rattle.calculus.specs.Storing.{shard}
 use Rattle.rho_term.specs.declared.term.TermBind.{TermBind}
-use Rattle.shard_bits.proofs.SetBits.{beside-more}
+use Rattle.row_shards.proofs.SetBits.{beside-more}
 use Rattle.shard_counts.specs.Bits.{AreBitsBeside}
 use Rattle.row_table.specs.Shown.{heard_on}
 use Rattle.rspace_table.proofs.bits.shown_on_any.Goals as goal

@@ -1,7 +1,7 @@
 use Rattle.std.proofs.Common.{ℕ, List, [], ◌∷◌, ◌++◌, eqb, filter, length-append, ap, sym, ◌∙◌, arith}
 use Rattle.calculus.specs.Rows.{Row}
-use Rattle.row_homes.specs.Homes.{gathered, home}
-use Rattle.row_homes.proofs.Gathered.{gathered-more}
+use Rattle.row_shards.specs.Homes.{gathered, home}
+use Rattle.row_shards.proofs.Gathered.{gathered-more}
 use Rattle.rspace_table.proofs.gathering.gather.Goals as goal
 
 pub loop-shard-preserved : goal.loop-shard-preserved

@@ -1,5 +1,5 @@
 use Rattle.std.proofs.Common.{◌≡◌, length}
-use Rattle.row_homes.specs.Homes.{gathered}
+use Rattle.row_shards.specs.Homes.{gathered}
 use Rattle.rspace_table.proofs.gathering.gather.Given as goal
 
 abbrev pub invariant-loop-shard : goal.invariant-loop-shard

@@ -4,7 +4,7 @@ use Rattle.std.proofs.lemmas.Result.{IfOk-weaker}
 use Rattle.calculus.specs.Rows.{Row}
 use Rattle.calculus.specs.Storing.{IsStorable}
 use Rattle.shard_tables.specs.Hands.{IdsDiffer}
-use Rattle.storable_row_laws.proofs.Staying.{built_in_receivers_are_storable}
+use Rattle.process_laws.proofs.StorableStaying.{built_in_receivers_are_storable}
 use Rattle.rspace_table.proofs.Spread.{all-storable, are-built-ins, two-ids}
 use Rattle.rspace_table.proofs.spreading.built_in_table.Goals as goal
 

@@ -1,5 +1,5 @@
 use Rattle.std.proofs.Common.{List, ℕ, subst}
-use Rattle.base_states.specs.Bases.{IsStateOf}
+use Rattle.run_inputs.specs.Bases.{IsStateOf}
 use Rattle.run_inputs.specs.Refused.{StateCause}
 use Rattle.run_status.proofs.Handing.{handed}
 use Rattle.run_inputs.proofs.Refusing.{state_cause}

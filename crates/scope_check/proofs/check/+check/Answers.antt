@@ -6,16 +6,16 @@ use Rattle.calculus.specs.Written.{in_process, in_pattern, form_of, form_of_two,
 use Rattle.calculus.specs.Meaning.{row_of, pair_of, proc_written, name_written, pat_written, name_pat_written, bind_written, case_written, rest_written}
 use Rattle.scope.specs.Binding.{variables, inside, uses_more}
 use Rattle.scope.specs.Rules.{outside, after, where_so, how_many, pattern_wide, pattern_binder, breaks, all_breaks}
-use Rattle.scope_faults.specs.Faults.{IsRefusal}
-use Rattle.scope_faults.specs.Walks.{Judges}
-use Rattle.scope_variables.proofs.Insides.{bound-two, inside-two}
-use Rattle.scope_faults.proofs.Refusals.{refusal-left, refusal-right, none-append, judges-right, judges-end, loop-refusal, many-members, on-ok}
-use Rattle.scope_faults.proofs.Turns.{rules-turn, rules-end, bound-turn, bound-end}
+use Rattle.input_faults.specs.Faults.{IsRefusal}
+use Rattle.input_faults.specs.Walks.{Judges}
+use Rattle.scope_names.proofs.Insides.{bound-two, inside-two}
+use Rattle.input_faults.proofs.Refusals.{refusal-left, refusal-right, none-append, judges-right, judges-end, loop-refusal, many-members, on-ok}
+use Rattle.input_faults.proofs.Turns.{rules-turn, rules-end, bound-turn, bound-end}
 use Rattle.open_processes.specs.Pairs.{proc_pair, pat_pair}
 use Rattle.open_processes.proofs.Meanings.{proc-pairs, rest-breaks}
 use Rattle.open_processes.proofs.Forms.{bind-form, case-form, list-form, set-form, map-form}
 use Rattle.open_processes.proofs.Leaving.{is-err}
-use Rattle.scope_faults.proofs.Narrow.{breaks-narrow}
+use Rattle.input_faults.proofs.Narrow.{breaks-narrow}
 use Rattle.scope_check.proofs.check.+check.Goals as goal
 
 pub check_bind-returns-clause-bound : goal.check_bind-returns-clause-bound

@@ -1,5 +1,5 @@
 use Rattle.calculus.specs.Meaning.{proc_written}
-use Rattle.scope_faults.specs.Faults.{broken_rule}
+use Rattle.input_faults.specs.Faults.{broken_rule}
 use Rattle.sources.proofs.Fronts.{breaks}
 use Rattle.sources.proofs.reading.read_term.Goals as goal
 

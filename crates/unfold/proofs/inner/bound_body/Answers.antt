@@ -2,7 +2,7 @@ use Rattle.std.proofs.Common.{◌≡◌, sym, subst, arith, ◌∙◌}
 use Rattle.calculus.specs.Outcome.{free, within_limits}
 use Rattle.calculus.specs.Tree.{Tree}
 use Rattle.offered_rows.proofs.Kept.{put-same}
-use Rattle.capped_work.specs.Results.{ComesTo}
+use Rattle.price_table.specs.Results.{ComesTo}
 use Rattle.rho_term.specs.Normal.{IsNormal}
 use Rattle.term_bounds.specs.Bound.{bound_count}
 use Rattle.unfold.proofs.Cases.{case-binds-none}

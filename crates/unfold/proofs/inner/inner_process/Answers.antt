@@ -4,7 +4,7 @@ use Rattle.calculus.specs.Outcome.{after}
 use Rattle.calculus.specs.Tree.{Tree}
 use Rattle.calculus.specs.Values.{value}
 use Rattle.calculus.proofs.Placing.{listed-trees}
-use Rattle.capped_work.specs.Results.{ComesTo}
+use Rattle.price_table.specs.Results.{ComesTo}
 use Rattle.rho_term.specs.Parts.{case_tree, part_tree}
 use Rattle.unfold.specs.Inner.{chosen_body, inner_process}
 use Rattle.unfold.proofs.Cases.{named-closed}

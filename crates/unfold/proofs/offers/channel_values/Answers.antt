@@ -1,7 +1,7 @@
 use Rattle.std.proofs.Common.{◌≡◌, ◌<◌, ◌≤◌, ◌+◌, length, get_or, map, drop, subst, sym}
 use Rattle.calculus.specs.Values.{value}
 use Rattle.rho_term.specs.declared.term.TermBind.{TermBind}
-use Rattle.capped_work.proofs.Outcomes.{Leads, leads-next, leads-end, next-of, none-of}
+use Rattle.price_table.proofs.Outcomes.{Leads, leads-next, leads-end, next-of, none-of}
 use Rattle.unfold.proofs.offers.channel_values.Goals as goal
 
 pub loop-bind-preserved : goal.loop-bind-preserved

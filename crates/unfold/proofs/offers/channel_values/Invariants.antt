@@ -1,6 +1,6 @@
 use Rattle.std.proofs.Common.{◌≤◌, map, drop}
 use Rattle.calculus.specs.Values.{value}
-use Rattle.capped_work.proofs.Outcomes.{Leads}
+use Rattle.price_table.proofs.Outcomes.{Leads}
 use Rattle.unfold.proofs.offers.channel_values.Given as goal
 
 abbrev pub invariant-loop-bind : goal.invariant-loop-bind

@@ -6,8 +6,8 @@ use Rattle.calculus.specs.Unfolding.{a_row, opened, receive_offered}
 use Rattle.rho_term.specs.declared.term.TermBind.{TermBind}
 use Rattle.rho_term.specs.Parts.{bind_tree}
 use Rattle.rho_term.specs.Rows.{row_of_op}
-use Rattle.capped_work.specs.Outcomes.{Came, Stopped}
-use Rattle.capped_work.proofs.Outcomes.{exit, stop-form, told-form}
+use Rattle.price_table.specs.Outcomes.{Came, Stopped}
+use Rattle.price_table.proofs.Outcomes.{exit, stop-form, told-form}
 use Rattle.std.specs.Result.{MatchResult}
 use Rattle.unfold.specs.Offers.{receive_work}
 use Rattle.unfold.proofs.Offering.{channels-closed, receive-form, channel-operands, channel-count}

@@ -3,7 +3,7 @@ use Rattle.rho_term.specs.Rows.{row_of_op}
 use Rattle.unfold.specs.Progress.{Progress, StopsWith, with_part, pending_of, progress}
 use Rattle.unfold.proofs.Leading.{leads-itself, leads-ends, leads-stops, advances-further}
 use Rattle.unfold.proofs.Turning.{nothing-in-turn, part-taken, next-ready}
-use Rattle.capped_work.proofs.Outcomes.{exit}
+use Rattle.price_table.proofs.Outcomes.{exit}
 use Rattle.unfold.proofs.turns.finish.Goals as goal
 
 pub loop-turn-init : goal.loop-turn-init

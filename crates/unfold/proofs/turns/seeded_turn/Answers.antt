@@ -1,5 +1,5 @@
 use Rattle.std.proofs.Common.{map, ap, ◌∙◌, ◌++◌}
-use Rattle.capped_work.proofs.Outcomes.{exit}
+use Rattle.price_table.proofs.Outcomes.{exit}
 use Rattle.rho_term.specs.Parts.{part_tree, bind_tree}
 use Rattle.rho_term.specs.Rows.{row_of_op}
 use Rattle.unfold.specs.Inner.{inner_process}

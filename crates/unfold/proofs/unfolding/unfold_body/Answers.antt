@@ -1,4 +1,4 @@
-use Rattle.capped_work.proofs.Outcomes.{exit}
+use Rattle.price_table.proofs.Outcomes.{exit}
 use Rattle.unfold.proofs.Whole.{body-stops}
 use Rattle.unfold.proofs.unfolding.unfold_body.Goals as goal
 

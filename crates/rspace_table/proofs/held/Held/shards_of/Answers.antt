@@ -6,7 +6,7 @@ use Rattle.row_search.proofs.Looping.{take-whole}
 use Rattle.shard_rows.specs.Shards.{stands_in}
 use Rattle.shard_counts.specs.Bits.{AreBits, AreBitsBeside}
 use Rattle.rspace_table.specs.Hands.{InHand, shown_at}
-use Rattle.shard_bits.proofs.SetBits.{beside-on, or-none, same-bits}
+use Rattle.row_shards.proofs.SetBits.{beside-on, or-none, same-bits}
 use Rattle.rspace_table.proofs.InHand.{shown-in-hand}
 use Rattle.rspace_table.proofs.held.Held.shards_of.Goals as goal
 

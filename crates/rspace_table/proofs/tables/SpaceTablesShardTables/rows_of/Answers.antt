@@ -2,7 +2,7 @@ use Rattle.std.proofs.Common.{List, sym, subst}
 use Rattle.std.specs.Prelude.{IsPermutation}
 use Rattle.std.proofs.lemmas.Result.{IfOk-weaker}
 use Rattle.calculus.specs.Rows.{Row}
-use Rattle.row_homes.proofs.Gathered.{all-taken}
+use Rattle.row_shards.proofs.Gathered.{all-taken}
 use Rattle.rspace_table.proofs.tables.SpaceTablesShardTables.rows_of.Goals as goal
 
 pub returns : goal.returns

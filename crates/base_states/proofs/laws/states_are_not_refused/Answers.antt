@@ -1,5 +1,0 @@
-use Rattle.base_states.proofs.OneState.{states_are_not_refused}
-use Rattle.base_states.proofs.laws.states_are_not_refused.Goals as goal
-
-pub returns : goal.returns
-returns c = record { law = states_are_not_refused }

@@ -1,5 +1,0 @@
-use Rattle.rho_term.proofs.Measuring.{HasNormal}
-use Rattle.base_states.proofs.normal.see_terms.Given as goal
-
-abbrev pub invariant-loop-term : goal.invariant-loop-term
-invariant-loop-term l = HasNormal (λ t. t) l.terms.items l.term-index

@@ -1,5 +1,0 @@
-use Rattle.closed_row_laws.proofs.laws.sorted_receives_are_closed.Goals as goal
-use Rattle.closed_row_laws.proofs.Ordering.{sorted_receives_are_closed}
-
-pub returns : goal.returns
-returns c = record { law = sorted_receives_are_closed }

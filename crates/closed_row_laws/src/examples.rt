@@ -1,8 +1,0 @@
-// Worked examples stand in the contract of a function that does nothing.
-
-ghost use Rattle.closed_row_laws.specs.Examples.{ClosedRowExamples};
-
-/// Worked examples of rows that are closed, and of some that are not.
-pub fn closed_row_examples()
-    ensures examples { ClosedRowExamples }
-{}

@@ -1,9 +1,0 @@
-pub mod Members
-pub mod Lengths
-pub mod Numbers
-pub mod Texts
-pub mod Hexes
-pub mod Seen
-pub mod Operators
-pub mod Methods
-pub mod Values

@@ -1,9 +1,0 @@
-pub mod Zips
-pub mod Bindings
-pub mod Tied
-pub mod Targets
-pub mod Ways
-pub mod Forms
-pub mod Patterns
-pub mod Matched
-pub mod ExamplesAlike

@@ -1,8 +1,0 @@
-// Worked examples stand in the contract of a function that does nothing.
-
-ghost use Rattle.congruent_matches.specs.Examples.{AlikeExamples};
-
-/// Worked examples of matches that are alike or not.
-pub fn alike_examples()
-    ensures examples { AlikeExamples }
-{}

@@ -1,8 +1,0 @@
-// Each law stands in the contract of one function, which does nothing.
-
-ghost use Rattle.congruent_unfolding_laws.specs.Laws.{UnfoldingsAreAlike};
-
-/// Congruent closed processes with short codes unfold alike with one seed.
-pub fn unfoldings_are_alike()
-    ensures law { UnfoldingsAreAlike }
-{}

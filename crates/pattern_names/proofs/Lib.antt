@@ -1,2 +1,0 @@
-pub mod BindsNone
-pub mod Binding

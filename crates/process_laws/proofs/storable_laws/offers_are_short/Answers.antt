@@ -1,0 +1,5 @@
+use Rattle.process_laws.proofs.storable_laws.offers_are_short.Goals as goal
+use Rattle.process_laws.proofs.StorableStaying.{offers_are_short}
+
+pub returns : goal.returns
+returns c = record { law = offers_are_short }

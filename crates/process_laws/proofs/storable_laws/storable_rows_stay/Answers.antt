@@ -1,0 +1,5 @@
+use Rattle.process_laws.proofs.storable_laws.storable_rows_stay.Goals as goal
+use Rattle.process_laws.proofs.StorableStaying.{storable_rows_stay}
+
+pub returns : goal.returns
+returns c = record { law = storable_rows_stay }

@@ -1,0 +1,13 @@
+pub mod MatchingLaws
+pub mod MatchingExamples
+pub mod ValuedLaws
+pub mod ValuedExamples
+pub mod ClosedValueLaws
+pub mod UnfoldingLaws
+pub mod ClosedRowLaws
+pub mod ClosedRowExamples
+pub mod StorableLaws
+pub mod Storing
+pub mod StorableExamples
+pub mod CongruentLaws
+pub mod CongruentExamples

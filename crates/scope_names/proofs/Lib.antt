@@ -1,0 +1,3 @@
+mod Places
+pub mod Insides
+pub mod Scopes

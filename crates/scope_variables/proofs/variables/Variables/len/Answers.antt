@@ -1,6 +1,0 @@
-use Rattle.std.proofs.Common.{length, arith, ap}
-use Rattle.scope_variables.proofs.Scopes.{scope-length}
-use Rattle.scope_variables.proofs.variables.Variables.len.Goals as goal
-
-pub returns : goal.returns
-returns c = omega (arith, c.len.ensures, scope-length c.self.inside.names c.self.inside.roles.items c.self.invariant, ap length c.self.view_is)

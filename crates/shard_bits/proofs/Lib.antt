@@ -1,2 +1,0 @@
-pub mod SetBits
-pub mod Standing

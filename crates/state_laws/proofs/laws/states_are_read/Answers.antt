@@ -1,5 +1,0 @@
-use Rattle.state_laws.proofs.Read.{states_are_read}
-use Rattle.state_laws.proofs.laws.states_are_read.Goals as goal
-
-pub returns : goal.returns
-returns c = record { law = states_are_read }

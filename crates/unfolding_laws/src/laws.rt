@@ -1,8 +1,0 @@
-// Each law stands in the contract of one function, which does nothing.
-
-ghost use Rattle.unfolding_laws.specs.Laws.{EachProcessUnfolds};
-
-/// Each closed process unfolds to exactly one thing, whatever the prices, the cap and the seed.
-pub fn each_process_unfolds()
-    ensures law { EachProcessUnfolds }
-{}
