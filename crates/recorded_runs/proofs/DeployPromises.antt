@@ -13,11 +13,10 @@ use Rattle.run_verdict.specs.declared.verdict.Verdict.{Verdict}
 use Rattle.run_verdict.specs.declared.verdict.Verdict.TheVariants as ending
 use Rattle.run_status.specs.declared.status.Status.{Status}
 use Rattle.run_status.specs.declared.status.Status.TheVariants as status
-use Rattle.recorded_runs.specs.Accepted.{HasDeployed}
 use Rattle.recorded_runs.specs.Fetched.{HasFetched}
 use Rattle.recorded_runs.proofs.Endings.{on_refused, rose_before, fetched_world}
 use Rattle.recorded_runs.specs.Deploys.{IsDeploy}
-use Rattle.recorded_runs.specs.Ends.{Halts, Leaves, LeavesInPart}
+use Rattle.recorded_runs.specs.Ends.{Leaves, LeavesInPart}
 use Rattle.recorded_runs.proofs.Ending.{refused_ends}
 
 -- the end of a deploy, from fewer failed fetches
@@ -69,40 +68,6 @@ module _ (names : RunRequest) (limit : ℕ) where
   left_deploy a b accepted ending.Done l = is_deploy a b status.Done accepted tt (λ e. cc) l tt
   left_deploy a b accepted ending.Exhausted l = is_deploy a b status.Exhausted accepted tt (λ e. cc) l tt
   left_deploy a b accepted (ending.Faulted step kind) l = is_deploy a b status.Faulted accepted tt (λ e. cc) l tt
-
-  -- a deploy of accepted inputs that halted
-  pub halted_deploy : (a b : World) → IsAccepted a.files names limit → (s : Status) → Halts names limit a b s → IsDeploy names limit a b s
-  halted_deploy a b accepted status.WriteFault h = is_deploy a b status.WriteFault accepted tt (λ e. h.0) tt h.1
-  halted_deploy a b accepted status.NoMemory h = is_deploy a b status.NoMemory tt tt (λ e. cc) tt h
-  halted_deploy a b accepted status.Done h = absurd h
-  halted_deploy a b accepted status.Exhausted h = absurd h
-  halted_deploy a b accepted status.Faulted h = absurd h
-  halted_deploy a b accepted (status.ReadFault i) h = absurd h
-  halted_deploy a b accepted (status.TooLarge i n m) h = absurd h
-  halted_deploy a b accepted (status.State f) h = absurd h
-  halted_deploy a b accepted (status.Prices f) h = absurd h
-  halted_deploy a b accepted (status.Limit n m) h = absurd h
-  halted_deploy a b accepted (status.Source f) h = absurd h
-  halted_deploy a b accepted (status.Usage u) h = absurd h
-  halted_deploy a b accepted (status.Log f) h = absurd h
-  halted_deploy a b accepted (status.Replay f) h = absurd h
-
-  -- what halted is an end of accepted inputs
-  pub halted_deployed : (a b : World) (s : Status) → Halts names limit a b s → HasDeployed s
-  halted_deployed a b status.WriteFault h = tt
-  halted_deployed a b status.NoMemory h = tt
-  halted_deployed a b status.Done h = absurd h
-  halted_deployed a b status.Exhausted h = absurd h
-  halted_deployed a b status.Faulted h = absurd h
-  halted_deployed a b (status.ReadFault i) h = absurd h
-  halted_deployed a b (status.TooLarge i n m) h = absurd h
-  halted_deployed a b (status.State f) h = absurd h
-  halted_deployed a b (status.Prices f) h = absurd h
-  halted_deployed a b (status.Limit n m) h = absurd h
-  halted_deployed a b (status.Source f) h = absurd h
-  halted_deployed a b (status.Usage u) h = absurd h
-  halted_deployed a b (status.Log f) h = absurd h
-  halted_deployed a b (status.Replay f) h = absurd h
 
   -- a deploy whose inputs are refused
   pub refused_deploy : (a b : World) → HasFetched a b → (s : Status) → RefusedFor a.files names limit a.fetches b.fetches s → IsDeploy names limit a b s

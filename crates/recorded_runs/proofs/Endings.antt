@@ -10,23 +10,6 @@ use Rattle.run_verdict.specs.declared.verdict.Verdict.TheVariants as ending
 use Rattle.recorded_runs.specs.Accepted.{HasDeployed, HasReplayed}
 use Rattle.recorded_runs.specs.Fetched.{HasFetched}
 
--- what holds anyhow holds where a run ended with a verdict
-pub on_verdict : (s : Status) (P : Type 0) → P → OnVerdict s P
-on_verdict Done P p = p
-on_verdict Exhausted P p = p
-on_verdict Faulted P p = p
-on_verdict (Usage u) P p = tt
-on_verdict (ReadFault i) P p = tt
-on_verdict WriteFault P p = tt
-on_verdict (Source f) P p = tt
-on_verdict (Prices f) P p = tt
-on_verdict (Limit n m) P p = tt
-on_verdict (Log f) P p = tt
-on_verdict (Replay f) P p = tt
-on_verdict (State f) P p = tt
-on_verdict NoMemory P p = tt
-on_verdict (TooLarge i n m) P p = tt
-
 -- a verdict is an end of accepted inputs
 pub verdict_deployed : (v : Verdict) → HasDeployed (status_of v)
 verdict_deployed ending.Done = tt

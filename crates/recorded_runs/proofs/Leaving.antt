@@ -1,21 +1,17 @@
 -- What a written plan leaves of the told files and bytes.
-use Rattle.std.proofs.Common.{◌≡◌, ◌⊎◌, ◌∙◌, ℕ, List, [], ◌∷◌, Result, Ok, refl, ap, sym, subst}
+use Rattle.std.proofs.Common.{◌≡◌, ◌∙◌, ℕ, List, [], ◌∷◌, Result, Ok, ap, sym, subst}
 use Rattle.std.specs.Result.{IsOkAnd}
 use Rattle.calculus.specs.Log.{log_text}
-use Rattle.rho_outside.specs.Causes.{Rose}
 use Rattle.rho_outside.specs.Put.{GrewBy}
 use Rattle.rho_outside.specs.Kept.{with_files}
 use Rattle.command_words.specs.Commands.{RunRequest}
 use Rattle.run_inputs.specs.Inputs.{Task}
 use Rattle.run_reports.specs.Stops.{StopsOnTheWay}
 use Rattle.run_reports.specs.World.{World}
-use Rattle.run_reports.specs.declared.finish.Halt.{Halt}
-use Rattle.run_reports.specs.declared.finish.Halt.TheVariants as halt
 use Rattle.run_status.specs.Endings.{status_of}
-use Rattle.run_status.specs.Statuses.{status_of_halt}
 use Rattle.run_status.specs.declared.status.Status.{Status}
 use Rattle.recorded_runs.specs.Runs.{bytes_of, header_of}
-use Rattle.recorded_runs.specs.Ends.{Halts, LeavesAll, LeavesInPart, LeavesSome, entries_of}
+use Rattle.recorded_runs.specs.Ends.{LeavesAll, LeavesSome, entries_of}
 use Rattle.recorded_runs.specs.Plan.{IsPlan, planned}
 use Rattle.recorded_runs.specs.declared.deploys.Plan.{Plan}
 
@@ -47,9 +43,3 @@ leaves_some names limit task p a b plan stops =
     let entries = entries_of names plan.rows task limit plan.left in
     let all : F entries (bytes_of plan.left) = subst (λ y. F entries y) plan.bytes (subst (λ es. F es p.bytes.items) (same-entries names limit task p plan) stops) in
     (plan.rows, (plan.left, (plan.run, all)))
-
--- a deploy whose last steps ended early halted
-pub halts_by : (names : RunRequest) (limit : ℕ) (a b : World) (h : Halt) → (h ≡ halt.WriteFault → Rose a.keeps b.keeps ⊎ Rose a.puts b.puts)
-    → LeavesInPart names limit a b → Halts names limit a b (status_of_halt h)
-halts_by names limit a b halt.WriteFault w p = (w refl, p)
-halts_by names limit a b halt.NoMemory w p = p

@@ -10,8 +10,10 @@ pub mod Answering
 pub mod ReplayEnding
 pub mod Kept
 pub mod ReplayPromises
+mod Written
 mod Reading
 mod Playing
 mod Agreeing
 mod WorkloadEnding
 mod WorkloadLeaving
+mod WorkloadPromises

@@ -1,9 +1,8 @@
 -- How a replay ended, and what it leaves of the told files and bytes.
-use Rattle.std.proofs.Common.{◌≡◌, ◌⊎◌, inl, inr, ◌∙◌, ℕ, List, [], ◌∷◌, refl, sym, ap, subst, Result, Ok, Err, Option}
+use Rattle.std.proofs.Common.{◌≡◌, inr, ◌∙◌, ℕ, List, [], ◌∷◌, refl, sym, ap, subst, Result, Ok, Err, Option}
 use Rattle.std.specs.Result.{IsOkAnd, IsOk}
 use Rattle.calculus.specs.Rows.{Row}
 use Rattle.rho_outside.specs.FileMap.{FileMap}
-use Rattle.rho_outside.specs.Causes.{Rose}
 use Rattle.rho_outside.specs.Put.{GrewBy}
 use Rattle.rho_outside.specs.Kept.{with_files}
 use Rattle.command_words.specs.Commands.{RunRequest}
@@ -15,14 +14,12 @@ use Rattle.run_inputs.specs.Ended.{IsReplayable, IsReplayAccepted, ReplayEnds}
 use Rattle.run_inputs.specs.declared.acceptance.ReplayInputs.{ReplayInputs}
 use Rattle.run_reports.specs.Stops.{StopsOnTheWay}
 use Rattle.run_reports.specs.World.{World}
-use Rattle.run_reports.specs.declared.finish.Halt.{Halt}
-use Rattle.run_reports.specs.declared.finish.Halt.TheVariants as halt
+use Rattle.replays.specs.declared.fault.ReplayFault.{ReplayFault}
 use Rattle.run_status.specs.Endings.{status_of}
-use Rattle.run_status.specs.Statuses.{status_of_halt}
 use Rattle.run_status.specs.declared.status.Status.{Status}
 use Rattle.run_status.specs.declared.status.Status.TheVariants as status
 use Rattle.recorded_runs.specs.Runs.{bytes_of}
-use Rattle.recorded_runs.specs.Replaying.{EndsAs, IsSettled, ReplayHalts, ReplayLeaves, ReplayLeavesAll, ReplayLeavesInPart, ReplayLeavesSome}
+use Rattle.recorded_runs.specs.Replaying.{IsSettled, ReplayLeaves, ReplayLeavesAll, ReplayLeavesInPart, ReplayLeavesSome}
 use Rattle.recorded_runs.specs.ReplayPlans.{IsReplayStop, IsReplayPlan, planned_replay}
 use Rattle.recorded_runs.specs.declared.replaying.ReplayPlan.{ReplayPlan}
 use Rattle.recorded_runs.proofs.Answering.{settled_refusal, settled_fault, settled_verdict, left_by_replay}
@@ -65,45 +62,30 @@ module _ (a : World) (names : RunRequest) (r : ReplayInputs) (given : AreReplayA
         more = known inputs i;
       }
 
-  -- a log that is refused, or want of memory, before anything was kept or put
-  pub stop_halts : (s : Status) → IsReplayStop rows r s → ReplayHalts names a a s
-  stop_halts (status.Replay f) h = (accepted-so (status.Replay f) (λ inputs i. settled_refusal rows r inputs i given.state given.term f h), (refl, refl))
-  stop_halts status.NoMemory h = λ files e. inl (refl, refl)
-  stop_halts status.Done h = absurd h
-  stop_halts (status.Usage u) h = absurd h
-  stop_halts (status.ReadFault i) h = absurd h
-  stop_halts status.WriteFault h = absurd h
-  stop_halts (status.Source f) h = absurd h
-  stop_halts (status.Log f) h = absurd h
-  stop_halts (status.Prices f) h = absurd h
-  stop_halts (status.Limit n m) h = absurd h
-  stop_halts (status.State f) h = absurd h
-  stop_halts status.Exhausted h = absurd h
-  stop_halts status.Faulted h = absurd h
-  stop_halts (status.TooLarge i n m) h = absurd h
+  -- the log is refused
+  pub settled_stop : (f : ReplayFault) → IsReplayStop rows r (status.Replay f) → IsReplayAccepted (IsSettled (status.Replay f)) a.files names
+  settled_stop f h = accepted-so (status.Replay f) (λ inputs i. settled_refusal rows r inputs i given.state given.term f h)
 
-  module _ (p : ReplayPlan) (plan : IsReplayPlan rows r p) (b : World) where
+  module _ (p : ReplayPlan) (plan : IsReplayPlan rows r p) where
+    -- it ended with the verdict of a plan
+    pub settled_end : IsReplayAccepted (IsSettled (status_of p.verdict)) a.files names
+    settled_end = accepted-so (status_of p.verdict) (λ inputs i. settled_verdict rows r inputs i given.state given.term p plan)
+
+    -- or a write of a plan failed
+    pub settled_halt : IsReplayAccepted (IsSettled status.WriteFault) a.files names
+    settled_halt = accepted-so status.WriteFault (λ inputs i. settled_fault rows r inputs i given.state given.term p plan)
+
     -- a plan that was written is all that a replay leaves
-    leaves-all : b.files ≡ with_files (planned_replay names p) a.files → GrewBy p.bytes.items a.bytes b.bytes → ReplayLeaves (status_of p.verdict) names a b
-    leaves-all kept put files h =
+    pub replay_leaves : (b : World) → b.files ≡ with_files (planned_replay names p) a.files → GrewBy p.bytes.items a.bytes b.bytes → ReplayLeaves (status_of p.verdict) names a b
+    replay_leaves b kept put files h =
         let there : b.files ≡ with_files ((names.next, plan.left.next) ∷ []) a.files = kept ∙ ap (λ n. with_files ((names.next, n) ∷ []) a.files) plan.next in
         ok_more (IsGiven r) (ReplayLeavesAll (status_of p.verdict) names a b) (accepted_log names files) (λ inputs i.
         (plan.left, (record { replay = left_by_replay rows r inputs i given.state given.term p plan; verdict = ap status_of plan.verdict }, (there, subst (λ (l : List ℕ). GrewBy l a.bytes b.bytes) plan.bytes put)))) (given.accepted files h)
 
-    -- so it ended with its verdict
-    pub ends_as : b.files ≡ with_files (planned_replay names p) a.files → GrewBy p.bytes.items a.bytes b.bytes → EndsAs (status_of p.verdict) names a b
-    ends_as kept put = (accepted-so (status_of p.verdict) (λ inputs i. settled_verdict rows r inputs i given.state given.term p plan), leaves-all kept put)
-
     -- a plan that was written in part is some of it
-    leaves-some : StopsOnTheWay (planned_replay names p) p.bytes.items a b → ReplayLeavesInPart names a b
-    leaves-some stops files e =
+    pub replay_leaves_some : (b : World) → StopsOnTheWay (planned_replay names p) p.bytes.items a b → ReplayLeavesInPart names a b
+    replay_leaves_some b stops files e =
         let F = λ (n bytes : List ℕ). StopsOnTheWay ((names.next, n) ∷ []) bytes a b in
         let all : F plan.left.next (bytes_of plan.left) = subst (λ y. F plan.left.next y) plan.bytes (subst (λ n. F n p.bytes.items) plan.next stops) in
         inr (ok_more (IsGiven r) (ReplayLeavesSome names a b) (accepted_log names files) (λ inputs i.
         (plan.left, (left_by_replay rows r inputs i given.state given.term p plan, all))) (given.accepted files e))
-
-    -- so a replay whose last steps ended early halted
-    pub replay_halts_by : (h : Halt) → (h ≡ halt.WriteFault → Rose a.keeps b.keeps ⊎ Rose a.puts b.puts) → StopsOnTheWay (planned_replay names p) p.bytes.items a b
-        → ReplayHalts names a b (status_of_halt h)
-    replay_halts_by halt.WriteFault w stops = (accepted-so status.WriteFault (λ inputs i. settled_fault rows r inputs i given.state given.term p plan), (w refl, leaves-some stops))
-    replay_halts_by halt.NoMemory w stops = leaves-some stops

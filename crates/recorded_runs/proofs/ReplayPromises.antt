@@ -5,7 +5,7 @@ use Rattle.rho_outside.specs.FileMap.{FileMap}
 use Rattle.command_words.specs.Commands.{RunRequest}
 use Rattle.run_inputs.specs.Inputs.{Task, accepted_state, accepted_source, accepted_log}
 use Rattle.run_inputs.specs.Replaying.{ReplayRefusedFor}
-use Rattle.run_inputs.specs.Ended.{ReplayEnds}
+use Rattle.run_inputs.specs.Ended.{IsReplayAccepted, ReplayEnds}
 use Rattle.run_inputs.proofs.Exact.{if_ok}
 use Rattle.run_inputs.proofs.ReplayExact.{replay_exact, replay_state_exact, replay_source_exact, replay_log_exact, replay_known}
 use Rattle.run_reports.specs.World.{World, world}
@@ -14,10 +14,9 @@ use Rattle.run_verdict.specs.declared.verdict.Verdict.{Verdict}
 use Rattle.run_verdict.specs.declared.verdict.Verdict.TheVariants as ending
 use Rattle.run_status.specs.declared.status.Status.{Status}
 use Rattle.run_status.specs.declared.status.Status.TheVariants as status
-use Rattle.recorded_runs.specs.Accepted.{HasReplayed}
 use Rattle.recorded_runs.specs.Fetched.{HasFetched}
 use Rattle.recorded_runs.proofs.Endings.{on_refused, rose_before, fetched_world}
-use Rattle.recorded_runs.specs.Replaying.{EndsAs, IsSettled, ReplayHalts, ReplayLeaves, ReplayLeavesInPart}
+use Rattle.recorded_runs.specs.Replaying.{IsSettled, ReplayLeaves, ReplayLeavesInPart}
 use Rattle.recorded_runs.specs.Replays.{IsReplay}
 use Rattle.recorded_runs.proofs.Answering.{tells_of, ends_if_run}
 use Rattle.recorded_runs.proofs.ReplayEnding.{replay_refused_ends}
@@ -68,45 +67,11 @@ module _ (names : RunRequest) where
         part = part;
       }
 
-  -- a replay that ended with this verdict
-  pub left_replay : (a b : World) (v : Verdict) → EndsAs (status_of v) names a b → IsReplay names a b (status_of v)
-  left_replay a b ending.Done h = is_replay a b status.Done h.0 tt (λ e. cc) h.1 tt
-  left_replay a b ending.Exhausted h = is_replay a b status.Exhausted h.0 tt (λ e. cc) h.1 tt
-  left_replay a b (ending.Faulted step kind) h = is_replay a b status.Faulted h.0 tt (λ e. cc) h.1 tt
-
-  -- a replay that halted
-  pub halted_replay : (a b : World) (s : Status) → ReplayHalts names a b s → IsReplay names a b s
-  halted_replay a b (status.Replay f) h = is_replay a b (status.Replay f) h.0 h.1 (λ e. cc) tt tt
-  halted_replay a b status.WriteFault h = is_replay a b status.WriteFault h.0 tt (λ e. h.1.0) tt h.1.1
-  halted_replay a b status.NoMemory h = is_replay a b status.NoMemory tt tt (λ e. cc) tt h
-  halted_replay a b status.Done h = absurd h
-  halted_replay a b status.Exhausted h = absurd h
-  halted_replay a b status.Faulted h = absurd h
-  halted_replay a b (status.ReadFault i) h = absurd h
-  halted_replay a b (status.TooLarge i n m) h = absurd h
-  halted_replay a b (status.State f) h = absurd h
-  halted_replay a b (status.Prices f) h = absurd h
-  halted_replay a b (status.Limit n m) h = absurd h
-  halted_replay a b (status.Source f) h = absurd h
-  halted_replay a b (status.Usage u) h = absurd h
-  halted_replay a b (status.Log f) h = absurd h
-
-  -- what halted is an end of accepted inputs
-  pub halted_replayed : (a b : World) (s : Status) → ReplayHalts names a b s → HasReplayed s
-  halted_replayed a b (status.Replay f) h = tt
-  halted_replayed a b status.WriteFault h = tt
-  halted_replayed a b status.NoMemory h = tt
-  halted_replayed a b status.Done h = absurd h
-  halted_replayed a b status.Exhausted h = absurd h
-  halted_replayed a b status.Faulted h = absurd h
-  halted_replayed a b (status.ReadFault i) h = absurd h
-  halted_replayed a b (status.TooLarge i n m) h = absurd h
-  halted_replayed a b (status.State f) h = absurd h
-  halted_replayed a b (status.Prices f) h = absurd h
-  halted_replayed a b (status.Limit n m) h = absurd h
-  halted_replayed a b (status.Source f) h = absurd h
-  halted_replayed a b (status.Usage u) h = absurd h
-  halted_replayed a b (status.Log f) h = absurd h
+  -- a replay of accepted inputs that left all that it leaves, with this verdict
+  pub left_replay : (a b : World) (v : Verdict) → IsReplayAccepted (IsSettled (status_of v)) a.files names → ReplayLeaves (status_of v) names a b → IsReplay names a b (status_of v)
+  left_replay a b ending.Done accepted l = is_replay a b status.Done accepted tt (λ e. cc) l tt
+  left_replay a b ending.Exhausted accepted l = is_replay a b status.Exhausted accepted tt (λ e. cc) l tt
+  left_replay a b (ending.Faulted step kind) accepted l = is_replay a b status.Faulted accepted tt (λ e. cc) l tt
 
   -- a replay whose inputs are refused
   pub refused_replay : (a b : World) → HasFetched a b → (s : Status) → ReplayRefusedFor a.files names a.fetches b.fetches s → IsReplay names a b s

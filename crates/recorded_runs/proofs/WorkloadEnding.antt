@@ -1,5 +1,5 @@
 -- How a workload ends.
-use Rattle.std.proofs.Common.{◌≡◌, ◌⊎◌, inl, inr, ℕ, List, [], sym, subst, refl}
+use Rattle.std.proofs.Common.{◌≡◌, ◌⊎◌, inl, inr, ℕ, List, [], refl}
 use Rattle.calculus.specs.Rows.{Row}
 use Rattle.run_inputs.specs.Bases.{IsStateOf}
 use Rattle.run_inputs.specs.Given.{IsGiven}
@@ -7,11 +7,8 @@ use Rattle.run_inputs.specs.Inputs.{Task}
 use Rattle.run_inputs.specs.declared.acceptance.ReplayInputs.{ReplayInputs}
 use Rattle.recorded_runs.specs.ReplayPlans.{IsReplayStop}
 use Rattle.recorded_runs.proofs.Answering.{settled_refusal}
-use Rattle.run_status.specs.Endings.{status_of}
 use Rattle.run_status.specs.declared.status.Status.{Status}
 use Rattle.run_status.specs.declared.status.Status.TheVariants as status
-use Rattle.run_verdict.specs.declared.verdict.Verdict.{Verdict}
-use Rattle.run_verdict.specs.declared.verdict.Verdict.TheVariants as ending
 use Rattle.sources.specs.Sources.{IsSourceOf}
 use Rattle.recorded_runs.specs.Runs.{IsLeftBySource, Left}
 use Rattle.recorded_runs.specs.Made.{made_limit, made_replay, made_task}
@@ -32,18 +29,6 @@ module _ (steps : ℕ) where
   stop_refuses p play (status.Replay f) h = is_refused steps p play f h
   stop_refuses p play status.NoMemory h = tt
   stop_refuses p play s h = absurd h
-
-  -- a refusal has its cause
-  pub refusal_ends : (s : Status) → RefusedFor steps s → WorkloadEnds steps s
-  refusal_ends (status.Replay f) h = h
-  refusal_ends status.NoMemory h = h
-  refusal_ends s h = absurd h
-
-  -- a verdict is an end
-  pub verdict_ends : (v : Verdict) (s : Status) → s ≡ status_of v → WorkloadEnds steps s
-  verdict_ends ending.Done s e = subst (WorkloadEnds steps) (sym e) tt
-  verdict_ends ending.Exhausted s e = subst (WorkloadEnds steps) (sym e) tt
-  verdict_ends (ending.Faulted step kind) s e = subst (WorkloadEnds steps) (sym e) tt
 
   -- where nothing failed it ended with a verdict or for want of memory, or the log is refused
   pub has_ended : (s : Status) (A B : Type 0) → WorkloadEnds steps s → (s ≡ status.WriteFault → A ⊎ B) → ¬ A → ¬ B → EndsOrRefuses s

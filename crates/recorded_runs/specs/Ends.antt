@@ -2,7 +2,6 @@
 use Rattle.std.specs.Prelude.{◌≡◌, ◌⊎◌, ℕ, List, [], ◌∷◌, IsOkAnd}
 use Rattle.calculus.specs.Log.{log_text}
 use Rattle.calculus.specs.Rows.{Row}
-use Rattle.rho_outside.specs.Causes.{Rose}
 use Rattle.rho_outside.specs.Put.{GrewBy}
 use Rattle.rho_outside.specs.Told.{Told}
 use Rattle.rho_outside.specs.Kept.{with_files}
@@ -12,7 +11,6 @@ use Rattle.run_reports.specs.Stops.{StopsOnTheWay}
 use Rattle.run_reports.specs.World.{World}
 use Rattle.run_status.specs.Endings.{status_of}
 use Rattle.run_status.specs.declared.status.Status.{Status}
-use Rattle.run_status.specs.declared.status.Status.TheVariants.{NoMemory, WriteFault}
 use Rattle.recorded_runs.specs.Runs.{Left, bytes_of, header_of, IsLeftBySource}
 
 -- the files that are kept, in this order
@@ -42,9 +40,3 @@ Leaves status names limit a b = Told a.files (λ files. IsOkAnd (accepted names 
 abbrev pub LeavesInPart : RunRequest → ℕ → World → World → Type 0
 LeavesInPart names limit a b = Told a.files (λ files.
     ((b.files ≡ a.files) × (b.bytes ≡ a.bytes)) ⊎ IsOkAnd (accepted names limit files) (LeavesSome names limit a b))
-
--- from one world to the next a deploy halted with this status: a write failed, or memory is wanted, and all is as it was, or some of what a deploy leaves is there
-abbrev pub Halts : RunRequest → ℕ → World → World → Status → Type 0
-Halts names limit a b WriteFault = (Rose a.keeps b.keeps ⊎ Rose a.puts b.puts) × LeavesInPart names limit a b
-Halts names limit a b NoMemory = LeavesInPart names limit a b
-Halts names limit a b _ = ⊥

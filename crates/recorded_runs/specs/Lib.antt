@@ -11,4 +11,5 @@ pub mod Laws
 pub mod Made
 pub mod Left
 pub mod WorkloadPlan
+pub mod Written
 pub mod Workloads

@@ -17,13 +17,11 @@ use Rattle.replays.specs.declared.fault.ReplayFault.{ReplayFault}
 use Rattle.replays.specs.declared.fault.ReplayFault.TheVariants.{NoRun, Reducible}
 use Rattle.replay_answers.specs.Answers.{Clashes}
 use Rattle.replay_answers.specs.Bases.{asked}
-use Rattle.rho_outside.specs.Causes.{Rose}
 use Rattle.rho_outside.specs.Told.{Told}
 use Rattle.rho_outside.specs.Put.{GrewBy}
 use Rattle.rho_outside.specs.Kept.{with_files}
 use Rattle.command_words.specs.Commands.{RunRequest}
 use Rattle.run_inputs.specs.Inputs.{Task, accepted_log}
-use Rattle.run_inputs.specs.Ended.{IsReplayAccepted}
 use Rattle.run_inputs.specs.Bases.{IsStateOf}
 use Rattle.run_reports.specs.Stops.{StopsOnTheWay}
 use Rattle.run_reports.specs.World.{World}
@@ -141,14 +139,3 @@ ReplayLeaves s names a b = Told a.files (λ files. IsOkAnd (accepted_log names f
 abbrev pub ReplayLeavesInPart : RunRequest → World → World → Type 0
 ReplayLeavesInPart names a b = Told a.files (λ files.
     ((b.files ≡ a.files) × (b.bytes ≡ a.bytes)) ⊎ IsOkAnd (accepted_log names files) (ReplayLeavesSome names a b))
-
--- from one world to the next a replay ended with this status: all was accepted, the answer to the log is settled, and all that a replay leaves is there
-abbrev pub EndsAs : Status → RunRequest → World → World → Type 0
-EndsAs s names a b = IsReplayAccepted (IsSettled s) a.files names × ReplayLeaves s names a b
-
--- from one world to the next a replay halted with this status: the log is refused, and nothing changed; or a write failed, or memory is wanted, and all is as it was, or some of what a replay leaves is there
-abbrev pub ReplayHalts : RunRequest → World → World → Status → Type 0
-ReplayHalts names a b (status.Replay f) = IsReplayAccepted (IsSettled (status.Replay f)) a.files names × ((b.files ≡ a.files) × (b.bytes ≡ a.bytes))
-ReplayHalts names a b status.WriteFault = IsReplayAccepted (IsSettled status.WriteFault) a.files names × ((Rose a.keeps b.keeps ⊎ Rose a.puts b.puts) × ReplayLeavesInPart names a b)
-ReplayHalts names a b status.NoMemory = ReplayLeavesInPart names a b
-ReplayHalts names a b _ = ⊥

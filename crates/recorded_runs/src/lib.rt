@@ -6,6 +6,7 @@ pub mod deploys;
 mod inputs;
 pub mod laws;
 pub mod next;
+mod outcomes;
 mod plans;
 pub mod replaying;
 pub mod workers;

@@ -9,7 +9,7 @@ ghost use Rattle.recorded_runs.specs.Workloads.{RefusedFor};
 use crate::inputs::made_inputs;
 use crate::{Plan, ReplayPlan, make_plan, make_replay_plan};
 use event_log::readable_laws::read_logs_are_writable;
-use event_log::{Log, read_log};
+use event_log::{Log, LogFault, read_log};
 use numbered_jobs::Crew;
 use rho_outside::Gate;
 use run_inputs::ReplayInputs;
@@ -42,22 +42,30 @@ fn play_made<R: Threads + Wait + Sync, G: Gate + Sync>(
     make_plan(crew, inputs, LIMIT)
 }
 
-/// The log of a text that is one. Want of memory is the one error.
-fn read_played(alloc: Global, text: &[u8]) -> Result<Log, Status>
+/// The error of a fault of the log of a text that is one: memory is wanted.
+fn log_memory_error(_fault: LogFault) -> AllocError
+    requires { _fault ≡ LogFault.NoMemory }
+{
+    AllocError
+}
+
+/// The log of a text that is one.
+fn read_played(alloc: Global, text: &[u8]) -> Result<Log, AllocError>
     requires { IsOk (log_of text.now) }
     ensures read { IfOk result (λ log. log_of text.now ≡ Ok (header_of log.header, map step_of log.steps.items)) }
     ensures writable { IfOk result IsWritable }
-    ensures memory { IfErr result (λ s. s ≡ Status.NoMemory) }
 {
     read_logs_are_writable();
-    Ok(read_log(alloc, text)?)
+    match read_log(alloc, text) {
+        Ok(log) => Ok(log),
+        Err(fault) => Err(log_memory_error(fault)),
+    }
 }
 
-/// The made input of so many steps, and the log of this text. Want of memory is the one error.
-fn made_replay(alloc: Global, steps: u32, text: &[u8]) -> Result<ReplayInputs, Status>
+/// The made input of so many steps, and the log of this text.
+fn made_replay(alloc: Global, steps: u32, text: &[u8]) -> Result<ReplayInputs, AllocError>
     requires { IsOk (log_of text.now) }
-    ensures given { IfOk result (IsMadeReplay steps text.now) }
-    ensures memory { IfErr result (λ s. s ≡ Status.NoMemory) }
+    ensures { IfOk result (IsMadeReplay steps text.now) }
 {
     let log = read_played(alloc, text)?;
     let inputs = made_inputs(alloc, steps)?;

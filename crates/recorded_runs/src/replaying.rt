@@ -1,19 +1,16 @@
-ghost use Rattle.std.specs.Prelude.{◌≡◌, ◌≤◌, length, IfOk, IfErr, OnOk, OnErr, IsErrOf};
+ghost use Rattle.std.specs.Prelude.{◌≤◌, length, IfOk, IfErr};
 ghost use Rattle.calculus.specs.Form.{IsClosed};
-ghost use Rattle.rho_outside.specs.Put.{GrewBy};
-ghost use Rattle.run_reports.specs.Stops.{SetsAll, StopsOnTheWay, WriteFailed};
 ghost use Rattle.sources.specs.Sources.{IsSourceOf};
 ghost use Rattle.command_words.specs.Answers.{run_of};
 ghost use Rattle.event_log.specs.View.{IsWritable};
 ghost use Rattle.run_inputs.specs.Given.{AreReplayAccepted, IsBase};
-ghost use Rattle.run_status.specs.Endings.{status_of};
-ghost use Rattle.recorded_runs.specs.Replaying.{EndsAs, ReplayHalts};
-ghost use Rattle.recorded_runs.specs.ReplayPlans.{IsPlanned, IsReplayPlan, IsReplayStop, planned_replay};
+ghost use Rattle.recorded_runs.specs.ReplayPlans.{IsPlanned, IsReplayPlan, IsReplayStop};
 ghost use Rattle.recorded_runs.specs.Replays.{IsReplay};
 ghost use Rattle.recorded_runs.specs.Accepted.{HasReplayed};
 ghost use Rattle.run_reports.specs.World.{world};
 
 use crate::next::{next_state, printed};
+use crate::outcomes::status_after;
 use calculus::Digest;
 use command_words::Run;
 use name_seed::bytes_digest;
@@ -23,8 +20,8 @@ use replay_answers::Replayed;
 use replay_runs::replay as replay_log;
 use rho_outside::{Gate, Shelf, Sink};
 use run_inputs::{Base, Inputs, ReplayInputs};
-use run_reports::{Halt, keep_and_put, report};
-use run_status::{Status, status_of};
+use run_reports::{keep_and_put, report};
+use run_status::Status;
 use run_verdict::Verdict;
 use std::alloc::{AllocError, Global};
 use std::sync::Wait;
@@ -43,7 +40,7 @@ pub struct ReplayPlan {
 
 /// Makes all bytes that are to be written of what the replay of a log of so many steps came to, from a state with
 /// this root.
-fn plan_of(
+pub(crate) fn answer_plan(
     alloc: Global,
     state: KnownState,
     base: &Digest,
@@ -108,52 +105,12 @@ pub fn make_replay_plan<R: Threads + Wait + Sync, G: Gate + Sync>(
         log,
     )?;
     let state = KnownState::without_rows(text, checkpoint);
-    let plan = plan_of(crew.alloc, state, &root, count, replayed)?;
+    let plan = answer_plan(crew.alloc, state, &root, count, replayed)?;
     Ok(plan)
 }
 
-/// Keeps the next state, and then puts what is printed and the report.
-fn write_replay<S: Shelf, O: Sink>(
-    alloc: Global,
-    run: &Run,
-    plan: &ReplayPlan,
-    shelf: &mut S,
-    out: &mut O,
-) -> Result<(), Halt>
-    ensures kept { OnOk result (SetsAll (planned_replay (run_of run.now) plan.now) S.files shelf.old shelf.new) }
-    ensures put { OnOk result (GrewBy plan.now.bytes.items (O.written out.old) (O.written out.new)) }
-    ensures part { OnErr result (StopsOnTheWay (planned_replay (run_of run.now) plan.now) plan.now.bytes.items
-        (world (S.files shelf.old) (S.fetch_faults shelf.old) (S.keep_faults shelf.old) (O.written out.old) (O.faults out.old))
-        (world (S.files shelf.new) (S.fetch_faults shelf.new) (S.keep_faults shelf.new) (O.written out.new) (O.faults out.new))) }
-    ensures cause { IsErrOf result Halt.WriteFault → WriteFailed S.keep_faults shelf.old shelf.new O.faults out.old out.new }
-    ensures fetch_faults { S.fetch_faults shelf.new ≡ S.fetch_faults shelf.old }
-{
-    let next = (run.next.as_str(), plan.next.as_slice());
-    keep_and_put(alloc, shelf, out, next, plan.bytes.as_slice())
-}
-
-/// Replays a log, and keeps and puts what its replay leaves.
-fn replay_run<R: Threads + Wait + Sync, S: Shelf, O: Sink, G: Gate + Sync>(
-    crew: &Crew<R, G>,
-    run: &Run,
-    inputs: ReplayInputs,
-    shelf: &mut S,
-    out: &mut O,
-) -> Result<Verdict, Status>
-    requires inputs { AreReplayAccepted (S.files shelf.now) (run_of run.now) inputs }
-    ensures left { IfOk result (λ verdict. EndsAs (status_of verdict) (run_of run.now)
-        (world (S.files shelf.old) (S.fetch_faults shelf.old) (S.keep_faults shelf.old) (O.written out.old) (O.faults out.old))
-        (world (S.files shelf.new) (S.fetch_faults shelf.new) (S.keep_faults shelf.new) (O.written out.new) (O.faults out.new))) }
-    ensures halts { IfErr result (ReplayHalts (run_of run.now)
-        (world (S.files shelf.old) (S.fetch_faults shelf.old) (S.keep_faults shelf.old) (O.written out.old) (O.faults out.old))
-        (world (S.files shelf.new) (S.fetch_faults shelf.new) (S.keep_faults shelf.new) (O.written out.new) (O.faults out.new))) }
-{
-    let plan = make_replay_plan(crew, inputs)?;
-    write_replay(crew.alloc, run, &plan, shelf, out)?;
-    Ok(plan.verdict)
-}
-
-/// Replays the log of accepted inputs by a crew: nothing is kept or put before the replay has ended.
+/// Replays the log of accepted inputs by a crew: nothing is kept or put before the replay has ended. Then the next state is kept,
+/// and then what is printed is put with the report.
 ///
 /// None of its inputs is refused any more but the log, as no run: else it ends with a verdict, or a write failed, or
 /// memory is wanted.
@@ -170,8 +127,14 @@ pub fn replay_accepted<R: Threads + Wait + Sync, S: Shelf, O: Sink, G: Gate + Sy
         (world (S.files shelf.old) (S.fetch_faults shelf.old) (S.keep_faults shelf.old) (O.written out.old) (O.faults out.old))
         (world (S.files shelf.new) (S.fetch_faults shelf.new) (S.keep_faults shelf.new) (O.written out.new) (O.faults out.new)) result }
 {
-    match replay_run(crew, run, inputs, shelf, out) {
-        Ok(verdict) => status_of(verdict),
+    match make_replay_plan(crew, inputs) {
+        Ok(plan) => {
+            let name = run.next.as_str();
+            let next = plan.next.as_slice();
+            let bytes = plan.bytes.as_slice();
+            let written = keep_and_put(crew.alloc, shelf, out, (name, next), bytes);
+            status_after(plan.verdict, written)
+        }
         Err(status) => status,
     }
 }

@@ -1,4 +1,5 @@
-use denote.Param.Send.{sendable}
+use denote.Exit.{no}
+use denote.Param.Send.{arg_send, arg_sync, param_send, param_sync}
 use Rattle.std.proofs.Common.{◌≡◌, ◌∙◌, ℕ, List, ap, sym, refl, subst}
 use Rattle.std.proofs.lemmas.Result.{IfOk-weaker}
 use Rattle.sha2.specs.Sha256.{sha256}
@@ -31,13 +32,13 @@ returns g c =
     IfOk-weaker c.plan_of.result _ _ (λ p m. is_plan i limit _ o p is c.requires.source header played c.in_ok-played.ensures.most (made_from c.of-rows.ensures.text m)) c.plan_of.ensures
 
 pub play-requires-send-T-Shard : goal.play-requires-send-T-Shard
-play-requires-send-T-Shard g c κs = let a = shard-send in search sendable depth 10
+play-requires-send-T-Shard g c κs within = param_send _ _ (arg_send _ no _ shard-send)
 
 pub play-requires-send-T-Held : goal.play-requires-send-T-Held
-play-requires-send-T-Held g c κs = let a = held-send in search sendable depth 10
+play-requires-send-T-Held g c κs within = param_send _ _ (arg_send _ no _ held-send)
 
 pub play-requires-sync-T-Shard : goal.play-requires-sync-T-Shard
-play-requires-sync-T-Shard g c κs = let a = shard-sync in search sendable depth 10
+play-requires-sync-T-Shard g c κs within = param_sync _ _ (arg_sync _ no _ shard-sync)
 
 pub play-requires-sync-T-Held : goal.play-requires-sync-T-Held
-play-requires-sync-T-Held g c κs = let a = held-sync in search sendable depth 10
+play-requires-sync-T-Held g c κs within = param_sync _ _ (arg_sync _ no _ held-sync)

@@ -1,5 +1,5 @@
 use Rattle.std.proofs.Common.{refl, rules}
-use Rattle.recorded_runs.proofs.replaying.plan_of.Goals as goal
+use Rattle.recorded_runs.proofs.replaying.answer_plan.Goals as goal
 
 pub returns : goal.returns
 returns c = record {
