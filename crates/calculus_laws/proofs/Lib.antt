@@ -1,1 +1,11 @@
 pub mod Least
+pub mod ByteLimits
+pub mod Bare
+pub mod Congruence
+pub mod Form
+pub mod Matches
+pub mod Printed
+pub mod Runs
+pub mod Steps
+pub mod Unfoldings
+pub mod Values

@@ -1,8 +1,9 @@
-//! The laws of the definitions, each the contract of a function that does nothing.
+//! What is proved of the definitions of the calculus, and worked examples, each proved by computing with them.
 #![tactic(auto)]
 
 pub mod code_laws;
 pub mod congruence_laws;
+pub mod examples;
 pub mod laws;
 pub mod list_laws;
 pub mod substitution_laws;

@@ -12,7 +12,7 @@ use Rattle.calculus.specs.Rows.{Row, row_code}
 use Rattle.calculus.specs.Root.{key}
 use Rattle.calculus.specs.Steps.{differ, is_one_of}
 use Rattle.calculus.proofs.Ordered.{up_to_total, up_to_both, up_to_trans}
-use Rattle.states.proofs.Groups.{same, equal, sorted-moved}
+use Rattle.events.proofs.Groups.{same, equal, sorted-moved}
 use Rattle.calculus.proofs.ListCodes.{sorted-ascending, length-map}
 use Rattle.radix_root.specs.Leaves.{group_digest, codes_at, groups_of}
 use Rattle.radix_root.specs.Groups.{given, digest_after}

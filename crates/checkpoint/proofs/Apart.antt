@@ -6,7 +6,7 @@ use Rattle.calculus.specs.Order.{sorted}
 use Rattle.calculus.specs.Rows.{Row}
 use Rattle.calculus.specs.Steps.{differ, is_one_of}
 use Rattle.calculus.proofs.Sorting.{length-sorted}
-use Rattle.states.proofs.Groups.{same, equal}
+use Rattle.events.proofs.Groups.{same, equal}
 use Rattle.calculus.proofs.ListCodes.{length-map}
 use Rattle.radix_root.specs.Leaves.{codes_at, groups_of}
 use Rattle.radix_root.specs.declared.group.Group.{Group}

@@ -6,7 +6,7 @@ use Rattle.calculus.specs.Root.{root}
 use Rattle.calculus.specs.Rows.{Row, row_code}
 use Rattle.calculus.proofs.Sorting.{length-sorted}
 use Rattle.calculus.proofs.ListCodes.{sorted-ascending, length-map}
-use Rattle.states.specs.States.{state_text}
+use Rattle.events.specs.States.{state_text}
 use Rattle.checkpoint.specs.Kept.{AreKept, AreInOrder}
 use Rattle.checkpoint.specs.Texts.{head_with, text_with}
 

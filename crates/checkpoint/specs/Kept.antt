@@ -4,7 +4,7 @@ use Rattle.calculus.specs.Order.{IsAscending}
 use Rattle.calculus.specs.Rows.{Row, row_code}
 use Rattle.calculus.specs.Steps.{differ}
 use Rattle.calculus.specs.Storing.{IsStorable}
-use Rattle.states.specs.Quiet.{AreQuiet}
+use Rattle.events.specs.Quiet.{AreQuiet}
 
 -- rows that stand in the order of a state: each may be stored, their codes ascend, and no two have one id
 pub record AreInOrder (rows : List Row) : Type 0 where

@@ -13,5 +13,5 @@ pub use checkpoint::{Checkpoint, Parts};
 pub use groups::{coded_tree, marked_tree, tree_of};
 pub use marks::Mark;
 pub use outcome::Outcome;
-pub use run_verdict::Verdict;
+pub use replays::Verdict;
 pub use text::{MadeState, made_state, state_of, text_of_codes, write_state};

@@ -1,5 +1,5 @@
 use crate::checkpoint::Checkpoint;
-use run_verdict::Verdict;
+use replays::Verdict;
 
 /// What a run came to: how it ended, the rows that it leaves where it is done, what it costs, and what it printed.
 #[derive(Drop)]

@@ -4,7 +4,7 @@ ghost use Rattle.calculus.specs.Order.{sorted};
 ghost use Rattle.calculus.specs.Root.{root};
 ghost use Rattle.calculus.specs.Rows.{row_code as code_of_row};
 ghost use Rattle.radix_root.specs.Leaves.{groups_of, Keeps};
-ghost use Rattle.states.specs.States.{state_text};
+ghost use Rattle.events.specs.States.{state_text};
 ghost use Rattle.checkpoint.specs.Made.{AreMade, no_codes};
 ghost use Rattle.checkpoint.specs.Texts.{head_with, text_with};
 

@@ -15,8 +15,8 @@ use Rattle.events.proofs.Counts.{ids, times, one_if, same_bytes, AreDistinct, di
 use Rattle.events.proofs.Lookups.{row_with, row_with-there}
 use Rattle.events.proofs.Meetings.{MadeBy, made_by}
 use Rattle.events.proofs.Lasting.{stays_if, Joins, joins-of}
-use Rattle.events.proofs.Standing.{built_ins, ids-times, standing-times, in-standing, rows-times, digests-more}
-use Rattle.events.proofs.Following.{append_nothing, bag-left}
+use Rattle.events.proofs.EventStanding.{built_ins, ids-times, standing-times, in-standing, rows-times, digests-more}
+use Rattle.events.proofs.EventFollowing.{append_nothing, bag-left}
 use Rattle.events.proofs.Legal.{leads-none, leads-more}
 
 -- what is left once places are emptied was there

@@ -7,10 +7,10 @@ use Rattle.calculus.specs.Runs.{Work, work_products}
 use Rattle.calculus.specs.Steps.{differ}
 use Rattle.calculus.specs.Runs.{made_digests}
 use Rattle.events.specs.Events.{first_ids, digests, built_in_names, built_in_digests}
-use Rattle.events.specs.Laws.{IdsAreOfferedOnce, FreshDigestsAreFresh}
+use Rattle.events.specs.EventLaws.{IdsAreOfferedOnce, FreshDigestsAreFresh}
 use Rattle.events.proofs.Counts.{ids, times, differ-distinct, distinct-differ, times-append}
-use Rattle.events.proofs.Standing.{ids-times, rows-times}
-use Rattle.events.proofs.Following.{append_nothing}
+use Rattle.events.proofs.EventStanding.{ids-times, rows-times}
+use Rattle.events.proofs.EventFollowing.{append_nothing}
 
 -- the rows that these works offer
 abbrev offered : List Work → List Row

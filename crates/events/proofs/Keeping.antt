@@ -8,7 +8,7 @@ use Rattle.calculus.specs.Unfolding.{rows_of, digest}
 use Rattle.calculus.specs.Steps.{Bag, Meeting, standing, stored_rows, is_one_of, meeting, printed_line, bag_after, right_repeat}
 use Rattle.calculus.specs.Runs.{Deploy, Work, work_products, moved, begun, body_work}
 use Rattle.events.specs.Events.{Core, started, stored, with_operation, Puts, Meets, Events, no_event, one_more, first_ids, AreFresh, digests}
-use Rattle.events.specs.Laws.{Begins, EventsAreLegal}
+use Rattle.events.specs.EventLaws.{Begins, EventsAreLegal}
 use Rattle.events.proofs.Counts.{ids, times, AreDistinct, member-times, one_of-times, times-append}
 use Rattle.events.proofs.Meetings.{Joined, meeting_at, MadeBy, made_by, makes}
 use Rattle.events.specs.Found.{without, leaving_rows}
@@ -17,8 +17,8 @@ use Rattle.events.proofs.Orders.{times-moved, without-moved}
 use Rattle.events.proofs.Printing.{line-of}
 use Rattle.events.proofs.Legal.{leads-none, leads-more}
 use Rattle.events.proofs.Changed.{all-leaving-times, among-times, rest-moved}
-use Rattle.events.proofs.Standing.{built_ins, ids-times, standing-times, left-times, none-leaves, rows-times, digests-more}
-use Rattle.events.proofs.Following.{Kept, all-distinct, bag-distinct, state-distinct, store-distinct, operation-distinct, operation-there, quiet-put, quiet-step, bag-left}
+use Rattle.events.proofs.EventStanding.{built_ins, ids-times, standing-times, left-times, none-leaves, rows-times, digests-more}
+use Rattle.events.proofs.EventFollowing.{Kept, all-distinct, bag-distinct, state-distinct, store-distinct, operation-distinct, operation-there, quiet-put, quiet-step, bag-left}
 use Rattle.calculus.proofs.Permutations.{join, moved_after, moved_before, over, unmoved}
 
 module _ (deploy : Deploy) where

@@ -9,7 +9,7 @@ use Rattle.calculus.specs.Rows.{Row}
 use Rattle.calculus.specs.Matching.{Bindings}
 use Rattle.calculus.specs.Steps.{Receiver, Datum, as_receiver, as_datum, all_bindings, stays, peeks, all_persistent}
 use Rattle.events.specs.Found.{leaving_rows, leaving_sends}
-use Rattle.events.proofs.Standing.{built_ins}
+use Rattle.events.proofs.EventStanding.{built_ins}
 use Rattle.events.proofs.Meetings.{Joined, as_facts, join}
 
 -- whether a part is a receiver that stays, or none

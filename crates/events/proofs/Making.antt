@@ -11,12 +11,12 @@ use Rattle.calculus.specs.Runs.{work_products, body_work}
 use Rattle.events.specs.Events.{with_operation, takes_part, Meets}
 use Rattle.events.specs.Found.{met, Among, AreAtHand, without, leaving_rows, is_lasting, printed_by, after_meeting, step_of}
 use Rattle.events.proofs.Printing.{line-of}
-use Rattle.events.specs.Laws.{MeetingsAreSteps, LonelyOperationsAreStored}
+use Rattle.events.specs.EventLaws.{MeetingsAreSteps, LonelyOperationsAreStored}
 use Rattle.events.proofs.Counts.{ids, AreDistinct, member-times, times-one_of}
 use Rattle.events.proofs.Lookups.{row_with, row_with-there}
 use Rattle.events.proofs.Meetings.{Joined, join, meeting_with, meeting_at, meet_rows-of, MadeBy, made_by, makes}
 use Rattle.events.proofs.Lasting.{takes_none, joins-of}
-use Rattle.events.proofs.Following.{Kept, operation-distinct, operation-there, bag-left}
+use Rattle.events.proofs.EventFollowing.{Kept, operation-distinct, operation-there, bag-left}
 use Rattle.events.proofs.Keeping.{kept-all}
 use Rattle.events.proofs.Spent.{row-of-id, all-past, not-made}
 

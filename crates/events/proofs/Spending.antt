@@ -14,12 +14,12 @@ use Rattle.calculus.proofs.Candidates.{and_then-inv, map-inv}
 use Rattle.events.specs.Events.{first_ids, AreFresh, digests}
 use Rattle.events.specs.Found.{without, leaving_rows, leaving_sends}
 use Rattle.events.specs.Spending.{spent_data, spent_ids, IsSpentBy}
-use Rattle.events.specs.Laws.{SpentIdsAreGone, IdsAreSpentOnce}
+use Rattle.events.specs.EventLaws.{SpentIdsAreGone, IdsAreSpentOnce}
 use Rattle.events.proofs.Counts.{ids, times, one_if, AreDistinct, one_of-times, times-one_of, member-times}
 use Rattle.events.proofs.Meetings.{MadeBy, made_by}
 use Rattle.events.proofs.Lasting.{lasts, built-lasts, Joins, joins-of, leaving-fade}
-use Rattle.events.proofs.Standing.{built_ins, ids-times, standing-times, from-standing, rows-times}
-use Rattle.events.proofs.Following.{bag-left}
+use Rattle.events.proofs.EventStanding.{built_ins, ids-times, standing-times, from-standing, rows-times}
+use Rattle.events.proofs.EventFollowing.{bag-left}
 use Rattle.events.proofs.Keeping.{fresh-first}
 use Rattle.events.proofs.Legal.{leads-more, leads-rest}
 use Rattle.events.proofs.Spent.{row-of-id, leaving-met, none-left}

@@ -11,15 +11,15 @@ use Rattle.calculus.specs.Runs.{Deploy, Work, work_products}
 use Rattle.calculus.specs.Unfolding.{digest}
 use Rattle.calculus.specs.Steps.{Datum, is_one_of, standing, stored_rows, stays, peeks, same_ids, same_meeting}
 use Rattle.events.specs.Events.{Core, started, with_operation, Puts, Meets, Events, no_event, one_more, first_ids, AreFresh, digests}
-use Rattle.events.specs.Laws.{Begins}
+use Rattle.events.specs.EventLaws.{Begins}
 use Rattle.events.specs.Found.{without, leaving_rows, leaving_sends}
 use Rattle.events.proofs.Counts.{ids, times, one_if, bytes_same, member-times, times-one_of, times-append}
 use Rattle.events.proofs.Lookups.{row_with, rows_with, row_with-there, rows_with-there}
 use Rattle.events.proofs.Meetings.{Joined, MadeBy, join}
 use Rattle.events.proofs.Lasting.{lasts, built-lasts, takes_none, all-last, leaving-fade, one-leaves}
 use Rattle.events.proofs.Orders.{member-moved, times-moved}
-use Rattle.events.proofs.Standing.{built_ins, ids-times, standing-times, from-standing, in-standing, left-times, rows-times, digests-more}
-use Rattle.events.proofs.Following.{Kept, all-distinct, state-distinct, operation-there}
+use Rattle.events.proofs.EventStanding.{built_ins, ids-times, standing-times, from-standing, in-standing, left-times, rows-times, digests-more}
+use Rattle.events.proofs.EventFollowing.{Kept, all-distinct, state-distinct, operation-there}
 use Rattle.events.proofs.Keeping.{kept-all, fresh-first, put-moved, how, is_after, after_it, ns, new, after_moved}
 use Rattle.calculus.proofs.Permutations.{moved_so}
 

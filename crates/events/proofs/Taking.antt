@@ -7,7 +7,7 @@ use Rattle.calculus.specs.declared.plain.Kind.{Kind}
 use Rattle.calculus.specs.Rows.{Row}
 use Rattle.calculus.specs.Steps.{Receiver, Datum, Meeting, is_one_of, standing, as_receiver, as_datum, stays, peeks}
 use Rattle.events.specs.Spending.{spent_data, spent_ids}
-use Rattle.events.specs.Laws.{TakenRowsAreSpent}
+use Rattle.events.specs.EventLaws.{TakenRowsAreSpent}
 use Rattle.events.proofs.Counts.{ids, same_bytes, AreDistinct}
 use Rattle.events.proofs.Lookups.{row_with, row_with-there}
 use Rattle.events.proofs.Meetings.{as_facts, MadeBy, made_by}

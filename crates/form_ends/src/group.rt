@@ -1,83 +1,41 @@
 //! Groups, tuples and blocks.
 ghost use Rattle.form_ends.specs.Reading.{after_first};
 ghost use Rattle.form_steps.specs.Handing.{CompletesAt};
-ghost use Rattle.grammar.specs.Grammar.{rule};
-ghost use Rattle.grammar.specs.Productions.{Prod};
-ghost use Rattle.grammar.specs.Rules.{Sort, round};
+ghost use Rattle.calculus.specs.Written.{Written};
+ghost use Rattle.grammar.specs.Rules.{Sort, done, round, sign};
 ghost use Rattle.grammar.specs.Terminals.{Terminal};
-ghost use Rattle.grammar.specs.Values.{patterns, processes};
-ghost use Rattle.grammar.specs.declared.dialect.Dialect.TheVariants.{Tutorial};
+ghost use Rattle.grammar.specs.Values.{opened, patterns, processes, spelt};
 ghost use Rattle.token_cursor.specs.Reading.{Gives, Makes, of_pat, of_pat_row, of_proc, of_row};
 ghost use Rattle.std.specs.Prelude.{◌≡◌, ◌+◌, ◌-◌, ◌<◌, ◌≤◌, ◌^◌, ℕ, IfOk, List, length};
 
 use calculus::{Pat, Proc};
 use form_parts::part::Part;
 use form_parts::parts;
-use grammar::Fault;
-use leaf_forms::{brace_close, group_close, pattern_brace_close, pattern_close};
+use form_steps::then_mark;
+use grammar::{Fault, Mark};
 use syntax_forms::{pattern_forms, process_forms};
 use token_cursor::Cursor;
 
-/// The group of the process that was read, and a parenthesis.
-pub fn close_group(
+/// What was read in parentheses or braces, and the mark that closes them.
+pub fn close<T: Drop>(
     cursor: &mut Cursor<'_>,
-    inner: Result<Part<Proc>, Fault>,
-) -> Result<Part<Proc>, Fault>
+    inner: Result<Part<T>, Fault>,
+    mark: Mark,
+) -> Result<Part<T>, Fault>
     requires { IfOk inner (λ p. p.height + 1 < 2 ^ 32) }
-    ensures reads { CompletesAt cursor.old inner (λ p. rule Tutorial (Prod.group_close processes (of_proc p))) of_proc result cursor.new }
+    ensures reads { (written : T → Written) → CompletesAt cursor.old inner (λ p. sign mark (done (opened (written p.value) p.height)))
+        (λ p. spelt (written p.value) p.height) result cursor.new }
     ensures room { (n : ℕ) → IfOk inner (λ p. p.height < n) → IfOk result (λ p. p.height ≤ n) }
     ensures shorter { length cursor.new.rest.now ≤ length cursor.old.rest.now }
 {
-    match inner {
-        Ok(inner) => group_close(cursor, inner),
-        Err(fault) => Err(fault),
-    }
-}
-
-/// The group of the pattern that was read, and a parenthesis.
-pub fn close_pattern_group(
-    cursor: &mut Cursor<'_>,
-    inner: Result<Part<Pat>, Fault>,
-) -> Result<Part<Pat>, Fault>
-    requires { IfOk inner (λ p. p.height + 1 < 2 ^ 32) }
-    ensures reads { CompletesAt cursor.old inner (λ p. rule Tutorial (Prod.group_close patterns (of_pat p))) of_pat result cursor.new }
-    ensures room { (n : ℕ) → IfOk inner (λ p. p.height < n) → IfOk result (λ p. p.height ≤ n) }
-    ensures shorter { length cursor.new.rest.now ≤ length cursor.old.rest.now }
-{
-    match inner {
-        Ok(inner) => pattern_close(cursor, inner),
-        Err(fault) => Err(fault),
-    }
-}
-
-/// The block of the process that was read, and a brace.
-pub fn close_block(
-    cursor: &mut Cursor<'_>,
-    inner: Result<Part<Proc>, Fault>,
-) -> Result<Part<Proc>, Fault>
-    requires { IfOk inner (λ p. p.height + 1 < 2 ^ 32) }
-    ensures reads { CompletesAt cursor.old inner (λ p. rule Tutorial (Prod.brace_close (of_proc p))) of_proc result cursor.new }
-    ensures room { (n : ℕ) → IfOk inner (λ p. p.height < n) → IfOk result (λ p. p.height ≤ n) }
-    ensures shorter { length cursor.new.rest.now ≤ length cursor.old.rest.now }
-{
-    match inner {
-        Ok(inner) => brace_close(cursor, inner),
-        Err(fault) => Err(fault),
-    }
-}
-
-/// The block of the pattern that was read, and a brace.
-pub fn close_pattern_block(
-    cursor: &mut Cursor<'_>,
-    inner: Result<Part<Pat>, Fault>,
-) -> Result<Part<Pat>, Fault>
-    requires { IfOk inner (λ p. p.height + 1 < 2 ^ 32) }
-    ensures reads { CompletesAt cursor.old inner (λ p. rule Tutorial (Prod.pbrace_close (of_pat p))) of_pat result cursor.new }
-    ensures room { (n : ℕ) → IfOk inner (λ p. p.height < n) → IfOk result (λ p. p.height ≤ n) }
-    ensures shorter { length cursor.new.rest.now ≤ length cursor.old.rest.now }
-{
-    match inner {
-        Ok(inner) => pattern_brace_close(cursor, inner),
+    match then_mark(cursor, inner, mark) {
+        Ok(inner) => {
+            let height = inner.height + 1;
+            Ok(Part {
+                value: inner.value,
+                height,
+            })
+        }
         Err(fault) => Err(fault),
     }
 }

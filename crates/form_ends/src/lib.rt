@@ -18,9 +18,7 @@ pub use form_end::{
     close_receive, closed_form, contract_head, contract_with_body, if_with_else, if_without_else,
     new_with_body, quoted_name, quoted_pattern, unary_with_operand,
 };
-pub use group::{
-    close_block, close_group, close_pattern_block, close_pattern_group, tuple, tuple_pattern,
-};
+pub use group::{close, tuple, tuple_pattern};
 pub use joint::Joint;
 pub use list_steps::{
     close_left, close_map, close_pairs, close_sequence, composed, composed_pattern, first_pair,

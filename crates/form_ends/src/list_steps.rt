@@ -16,9 +16,9 @@ ghost use Rattle.std.specs.Prelude.{◌≡◌, ◌∷◌, ◌+◌, ◌<◌, ◌�
 
 use calculus::{NamePat, Pat, Proc};
 use form_parts::part::{Bracket, Left, Part, Sequence};
-use form_steps::{first_of, one_more, paired, skip, skip_comma};
+use form_steps::{first_of, one_more, paired, skip, skip_comma, then_mark};
 use grammar::{Fault, Mark};
-use leaf_forms::{left_end, map_close, pairs_end, sequence_end};
+use leaf_forms::{left_end, pairs_end, sequence_end};
 use std::alloc::Global;
 use syntax_forms::{pattern_forms, process_forms};
 use token_cursor::Cursor;
@@ -153,8 +153,8 @@ pub fn close_map(
     ensures room { (n : ℕ) → IfOk pairs (λ ps. ps.height < n) → IfOk result (λ p. p.height ≤ n) }
     ensures shorter { length cursor.new.rest.now ≤ length cursor.old.rest.now }
 {
-    match pairs {
-        Ok(pairs) => map_close(cursor, pairs),
+    match then_mark(cursor, pairs, Mark::CloseBrace) {
+        Ok(pairs) => Ok(process_forms::map(pairs)),
         Err(fault) => Err(fault),
     }
 }

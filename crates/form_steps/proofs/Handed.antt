@@ -1,5 +1,5 @@
 -- What was read, or a fault in its place, that is handed on.
-use Rattle.std.proofs.Common.{◌≡◌, ◌-◌, ◌<◌, ◌≤◌, ℕ, List, Result, Ok, Err, subst, sym, arith}
+use Rattle.std.proofs.Common.{◌≡◌, ◌-◌, ◌≤◌, ℕ, List, Result, Ok, Err, subst, sym, arith}
 use Rattle.std.specs.Prelude.{IfOk, MatchResult}
 use Rattle.std.specs.declared.alloc.Global.{Global}
 use Rattle.std.specs.declared.vec.Vec.{Vec}
@@ -13,7 +13,6 @@ use Rattle.grammar.specs.Grammar.{rule}
 use Rattle.grammar.specs.Rules.{Sort, Rule, at, done, sign, under}
 use Rattle.grammar.specs.Terminals.{Terminal}
 use Rattle.grammar.specs.Values.{Spelt}
-use Rattle.form_steps.specs.declared.step.Sending.{Sending}
 use Rattle.form_parts.specs.declared.part.Part.{Part}
 use Rattle.token_cursor.specs.Reading.{Gives, Makes, Turns}
 use Rattle.token_cursor.proofs.Steps.{faulty}
@@ -45,11 +44,6 @@ pub made_room : {T : Type 0} {h n : ℕ} (res : Result (Part T) Fault) → IfOk 
 made_room (Ok p) e l = omega (arith, e, l)
 made_room (Err d) e l = e
 
--- the height of a channel that is small enough
-pub channel_room : {T : Type 0} {h n : ℕ} (res : Result (Sending T) Fault) → IfOk res (λ s. s.channel.height ≡ h) → h < n → IfOk res (λ s. s.channel.height < n)
-channel_room (Ok p) e l = omega (arith, e, l)
-channel_room (Err d) e l = e
-
 -- a tree and a height are those that the rule says
 pub tree_as : {A : Type 0} {free : ℕ} {us : List Terminal} {out : Outcome} (after : A → ℕ → Rule) (v w : A) (h k : ℕ) → w ≡ v → k ≡ h
     → Runs Tutorial free (after w k) us out → Runs Tutorial free (after v h) us out
@@ -79,10 +73,6 @@ pub then_on : {T : Type 0} {free : ℕ} {us : List Terminal} (r : Rule) (ts : Li
     → ((x : T) (out : Outcome) → Runs Tutorial free (after x) us out → Runs Tutorial free (before x) us out) → Turns free r before ts res us → Turns free r after ts res us
 then_on r ts before after (Ok x) k t = λ out h. t out (k x out h)
 then_on r ts before after (Err d) k t = t
-
--- what is known of a value that was read, or of a fault
-pub if_matched : {T : Type 0} {res : Result T Fault} (P : T → Type 0) (Q : Fault → Type 0) (x : T) → res ≡ Ok x → MatchResult res P Q → P x
-if_matched {T} {res} P Q x e h = subst (λ (y : Result T Fault). MatchResult y P Q) e h
 
 -- a constituent under a form, after what is held before it
 pub both_ok : {A T : Type 0} {free : ℕ} {s : Sort} {ts us : List Terminal} (of : T → Spelt) (f : A → Spelt → Rule) (a : A) (second : Result T Fault) (p : A × T)

@@ -1,3 +1,4 @@
 pub mod Handed
 mod Keys
+mod Opened
 pub mod Turning

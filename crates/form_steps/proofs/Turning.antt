@@ -1,27 +1,27 @@
 -- The steps of descent up to the first constituent of a form.
-use Rattle.std.proofs.Common.{◌≡◌, ◌<◌, max, ℕ, List, Result, Ok, Err, Option, None, subst, sym, ap, arith, refl, not, ◌&&◌, Bool, true, false}
+use Rattle.std.proofs.Common.{◌≡◌, ◌<◌, max, ℕ, List, Result, Ok, Err, Option, None, Some, subst, sym, ap, arith, refl, not, ◌&&◌, Bool, true, false}
 use Rattle.std.specs.Prelude.{IfOk, MatchResult}
-use Rattle.calculus.specs.Meaning.{name_written}
 use Rattle.calculus.specs.Written.{Written}
-use Rattle.calculus.specs.declared.process.Name.{Name}
 use Rattle.form_steps.specs.Parts.{keyed_part, part_or, unkeyed_part}
+use Rattle.form_steps.specs.Steps.{form_of_pattern, type_or, typed_pattern}
 use Rattle.form_steps.specs.declared.step.FormKey.{FormKey}
+use Rattle.calculus.specs.declared.plain.Simple.{Simple}
 use Rattle.grammar.specs.declared.dialect.Dialect.TheVariants.{Tutorial}
 use Rattle.grammar.specs.declared.fault.Fault.{Fault}
 use Rattle.grammar.specs.declared.fault.Fault.TheVariants.{NoMemory}
 use Rattle.grammar.specs.declared.mark.Mark.TheVariants as marks
 use Rattle.std.proofs.lemmas.Bool.{false≢true}
-use Rattle.grammar.specs.Choice.{after, choose}
+use Rattle.grammar.specs.Choice.{after, choose, sees_number, sees_prefix}
 use Rattle.grammar.specs.Descent.{Outcome, fault, Runs, shows, runs_under, no_under, runs_last, runs_opens_next, no_memory}
 use Rattle.grammar.specs.Grammar.{rule}
 use Rattle.grammar.specs.Productions.{Prod}
 use Rattle.grammar.specs.Rules.{Sort, Rule, round, done, last, opens_next, under}
 use Rattle.grammar.specs.Terminals.{Terminal, sees}
-use Rattle.grammar.specs.Values.{Side, Spelt, spelt, leaf, opened, processes, send_of}
+use Rattle.grammar.specs.Values.{Side, Spelt, spelt, opened, send_of}
 use Rattle.rho_lexer.specs.declared.token.Token.{Token}
 use Rattle.form_parts.specs.declared.part.Part.{Part}
 use Rattle.token_cursor.specs.Meaning.{view}
-use Rattle.token_cursor.specs.Reading.{Makes, of_name, sees_member}
+use Rattle.token_cursor.specs.Reading.{Makes, sees_member}
 use Rattle.token_cursor.proofs.Fronts.{no_fresh}
 use Rattle.token_cursor.proofs.Steps.{ends, faulty}
 
@@ -55,16 +55,6 @@ opened_next {free} {r} {out} {test} {xs} {ys} s z e h = runs_opens_next s z (sub
 -- memory ran out
 pub forgets : {free : ℕ} {r : Rule} {ts us : List Terminal} (e : Fault) → e ≡ NoMemory → Runs Tutorial free r ts (fault e us)
 forgets {free} {r} {ts} {us} e m = subst (λ (x : Fault). Runs Tutorial free r ts (fault x us)) (sym m) no_memory
-
--- what follows the variable of a send
-pub sent_on : {free : ℕ} {ts : List Terminal} {out : Outcome} (t : Written) (n : Part Name) → name_written n.value ≡ t → n.height ≡ 0
-    → Runs Tutorial free (rule Tutorial (choose (Sort.Sent processes (of_name n)) ts)) ts out → Runs Tutorial free (last (Sort.Sent processes (leaf t))) ts out
-sent_on t n e g h = tails (λ v. last (Sort.Sent processes v)) (leaf t) (of_name n) e g (runs_last h)
-
--- what follows the quoted process of a send
-pub sent_after : {free : ℕ} {ts : List Terminal} {out : Outcome} (v : Spelt) (n : Part Name) → name_written n.value ≡ v.tree → n.height ≡ v.height
-    → Runs Tutorial free (rule Tutorial (choose (Sort.SentTail processes (of_name n)) ts)) ts out → Runs Tutorial free (last (Sort.SentTail processes v)) ts out
-sent_after v n e g h = tails (λ w. last (Sort.SentTail processes w)) v (of_name n) e g (runs_last h)
 
 -- the mark of a send that is next
 pub sent_as : {free : ℕ} {ts : List Terminal} {out : Outcome} (side : Side) (n : Spelt) (q : Bool) → q ≡ sees marks.DoubleBang ts
@@ -106,10 +96,22 @@ flat_channel side q t n e h = under_as (λ r. ap (λ k. done (opened (send_of si
 pub unkeyed : (ts : List Terminal) (k : Option FormKey) → k ≡ None → ((p : Prod Sort.POne) → keyed_part ts p ≡ part_or k p) → choose Sort.POne ts ≡ unkeyed_part ts
 unkeyed ts k e f = subst (λ (x : Option FormKey). keyed_part ts (unkeyed_part ts) ≡ part_or x (unkeyed_part ts)) e (f (unkeyed_part ts))
 
+-- no simple type is next, or this one
+pub untyped : (ts : List Terminal) (k : Option Simple) → k ≡ None → ((p : Prod Sort.PAtom) → typed_pattern ts p ≡ type_or k p) → typed_pattern ts (form_of_pattern ts) ≡ form_of_pattern ts
+untyped ts k e f = subst (λ (x : Option Simple). typed_pattern ts (form_of_pattern ts) ≡ type_or x (form_of_pattern ts)) e (f (form_of_pattern ts))
+
+pub typed : (ts : List Terminal) (s : Simple) (k : Option Simple) → k ≡ Some s → ((p : Prod Sort.PAtom) → typed_pattern ts p ≡ type_or k p) → typed_pattern ts (form_of_pattern ts) ≡ Prod.patom_type s
+typed ts s k e f = subst (λ (x : Option Simple). typed_pattern ts (form_of_pattern ts) ≡ type_or x (form_of_pattern ts)) e (f (form_of_pattern ts))
+
+-- where both tests pass, the first does
+first : (x y : Bool) → (x && y) ≡ true → x ≡ true
+first true y e = refl
+first false y e = absurd (false≢true e)
+
 -- where a member follows a comma, the comma is next
 pub sees_comma : (ts : List Terminal) → sees_member ts ≡ true → sees marks.Comma ts ≡ true
 sees_comma ts m = first (sees marks.Comma ts) (not (sees marks.Ellipsis (after ts))) m
-  where
-    first : (x y : Bool) → (x && y) ≡ true → x ≡ true
-    first true y e = refl
-    first false y e = absurd (false≢true e)
+
+-- where a `-` is no part of an integer, it is next
+pub sees_minus : (ts : List Terminal) → sees_prefix ts ≡ true → sees marks.Minus ts ≡ true
+sees_minus ts m = first (sees marks.Minus ts) (not (sees_number (after ts))) m

@@ -1,3 +1,4 @@
 pub mod Handing
+pub mod Opening
 pub mod Parts
 pub mod Steps

@@ -10,6 +10,7 @@ use Rattle.form_steps.specs.declared.step.PartStep.{PartStep}
 use Rattle.form_steps.specs.declared.step.PartStep.TheVariants as parts
 use Rattle.form_steps.specs.declared.step.TermStep.{TermStep}
 use Rattle.form_steps.specs.declared.step.TermStep.TheVariants as terms
+use Rattle.calculus.specs.Written.{Written}
 use Rattle.form_steps.specs.declared.step.Sending.{Sending}
 use Rattle.grammar.specs.declared.mark.Mark.{Mark}
 use Rattle.grammar.specs.declared.mark.Mark.TheVariants as marks
@@ -81,6 +82,10 @@ after_quoted a = last (Sort.SentTail processes (spelt (quote_of a.tree) a.height
 -- a send on the pattern of a name that quotes this pattern
 abbrev pub after_quoted_pattern : Spelt → Rule
 after_quoted_pattern a = last (Sort.SentTail patterns (spelt (quoted_of a.tree) a.height))
+
+-- after a channel that is written so and a parenthesis
+abbrev pub after_sent : {T : Type 0} → Side → (T → Written) → Sending T → Rule
+after_sent side written s = under (Sort.Row side round) (λ r. done (opened (send_of side s.persistent (written s.channel.value) r.tree) (max s.channel.height r.height)))
 
 -- after the channel of a send and a parenthesis
 abbrev pub after_channel : Sending Name → Rule

@@ -1,12 +1,14 @@
 //! Processes without operators.
+ghost use Rattle.form_steps.specs.Opening.{Begins};
 ghost use Rattle.form_steps.specs.Steps.{HasRoomFor, Passes, after_process_step};
 ghost use Rattle.grammar.specs.Grammar.{rule};
 ghost use Rattle.grammar.specs.Productions.{Prod};
 ghost use Rattle.grammar.specs.Rules.{Sort};
 ghost use Rattle.grammar.specs.declared.dialect.Dialect.TheVariants.{Tutorial};
-ghost use Rattle.token_cursor.specs.Cursors.{BeginsWithin, ContinuesWithin, ShortensAs};
+ghost use Rattle.token_cursor.specs.Cursors.{BeginsWithin, ShortensAs, rule_at};
 ghost use Rattle.std.specs.Prelude.{IfOk};
 
+use crate::next_mark::{opening, skip, then_mark};
 use crate::step::{PlainProcess, ProcessStep};
 use form_parts::part::Bracket;
 use grammar::{Fault, Mark};
@@ -21,20 +23,17 @@ pub fn begin_atom(cursor: &mut Cursor<'_>, free: u32) -> Result<ProcessStep, Fau
     if !cursor.sees(Mark::Star) {
         return begin_form(cursor, free);
     }
-    cursor.expect(Mark::Star)?;
+    skip(cursor, Mark::Star);
     if !cursor.sees(Mark::At) {
         return Ok(ProcessStep::Plain(PlainProcess::Dropped));
     }
-    cursor.opens(Mark::At, 0, free)?;
-    Ok(ProcessStep::Dropped)
+    opening(cursor, Mark::At, free, ProcessStep::Dropped)
 }
 
 /// Atom ::= Word | Ground | "Nil" | "(" Par Group | "{" Brace | "[" Row "]" | "Set" "(" Row ")", up to its
 /// first constituent
 fn begin_form(cursor: &mut Cursor<'_>, free: u32) -> Result<ProcessStep, Fault>
-    ensures reads { BeginsWithin free cursor.old Sort.Atom after_process_step result cursor.new }
-    ensures room { IfOk result (HasRoomFor free) }
-    ensures shorter { ShortensAs Passes cursor.old result cursor.new }
+    ensures { Begins after_process_step HasRoomFor Passes free (rule_at cursor.old Sort.Atom) cursor.old result cursor.new }
 {
     if cursor.sees_word() {
         return Ok(ProcessStep::Plain(PlainProcess::Word));
@@ -43,42 +42,41 @@ fn begin_form(cursor: &mut Cursor<'_>, free: u32) -> Result<ProcessStep, Fault>
         return Ok(ProcessStep::Plain(PlainProcess::Nil));
     }
     if cursor.sees(Mark::Open) {
-        cursor.opens(Mark::Open, 0, free)?;
-        return Ok(ProcessStep::Group);
+        return opening(cursor, Mark::Open, free, ProcessStep::Group);
     }
     if cursor.sees(Mark::OpenBrace) {
         return begin_block(cursor, free);
     }
     if cursor.sees(Mark::OpenSquare) {
-        cursor.opens(Mark::OpenSquare, 0, free)?;
-        return Ok(ProcessStep::Members(Bracket::Square));
+        return opening(
+            cursor,
+            Mark::OpenSquare,
+            free,
+            ProcessStep::Members(Bracket::Square),
+        );
     }
     if cursor.sees(Mark::Set) {
-        return begin_set(cursor, free);
+        let set = opening(
+            cursor,
+            Mark::Set,
+            free,
+            ProcessStep::Members(Bracket::Round),
+        );
+        return then_mark(cursor, set, Mark::Open);
     }
     Ok(ProcessStep::Plain(PlainProcess::Ground))
 }
 
 /// A `{`, and whether a process follows.
 fn begin_block(cursor: &mut Cursor<'_>, free: u32) -> Result<ProcessStep, Fault>
-    ensures reads { ContinuesWithin free cursor.old (rule Tutorial Prod.atom_brace) after_process_step result cursor.new }
-    ensures room { IfOk result (HasRoomFor free) }
-    ensures shorter { ShortensAs Passes cursor.old result cursor.new }
+    ensures { Begins after_process_step HasRoomFor Passes free (rule Tutorial Prod.atom_brace) cursor.old result cursor.new }
 {
-    cursor.opens(Mark::OpenBrace, 0, free)?;
+    match cursor.opens(Mark::OpenBrace, 0, free) {
+        Ok(()) => {}
+        Err(fault) => return Err(fault),
+    }
     if cursor.sees(Mark::CloseBrace) {
         return Ok(ProcessStep::Plain(PlainProcess::EmptyMap));
     }
     Ok(ProcessStep::Block)
-}
-
-/// `Set` and a parenthesis.
-fn begin_set(cursor: &mut Cursor<'_>, free: u32) -> Result<ProcessStep, Fault>
-    ensures reads { ContinuesWithin free cursor.old (rule Tutorial Prod.atom_set) after_process_step result cursor.new }
-    ensures room { IfOk result (HasRoomFor free) }
-    ensures shorter { ShortensAs Passes cursor.old result cursor.new }
-{
-    cursor.opens(Mark::Set, 0, free)?;
-    cursor.expect(Mark::Open)?;
-    Ok(ProcessStep::Members(Bracket::Round))
 }

@@ -3,6 +3,7 @@ ghost use Rattle.form_steps.specs.Parts.{after_key, form_sort, has_parenthesis, 
 ghost use Rattle.token_cursor.specs.Cursors.{BeginsWithin, Shortens};
 ghost use Rattle.std.specs.Prelude.{◌≡◌, ◌<◌, IfOk};
 
+use crate::next_mark::then_mark;
 use crate::step::FormKey;
 use grammar::{Fault, Mark};
 use token_cursor::Cursor;
@@ -33,9 +34,9 @@ pub fn begin_keyed(cursor: &mut Cursor<'_>, key: FormKey, free: u32) -> Result<(
     ensures room { IfOk result (λ _. 0 < free) }
     ensures shorter { Shortens cursor.old result cursor.new }
 {
-    cursor.opens(key_mark(key), 0, free)?;
+    let opened = cursor.opens(key_mark(key), 0, free);
     if !has_parenthesis(key) {
-        return Ok(());
+        return opened;
     }
-    cursor.expect(Mark::Open)
+    then_mark(cursor, opened, Mark::Open)
 }

@@ -6,6 +6,7 @@ ghost use Rattle.grammar.specs.declared.mark.Mark.TheVariants as marks;
 ghost use Rattle.token_cursor.specs.Meaning.{view};
 ghost use Rattle.token_cursor.specs.Reading.{sees_member};
 ghost use Rattle.form_steps.specs.Handing.{TakesMarkAfter};
+ghost use Rattle.form_steps.specs.Opening.{OpensWith};
 ghost use Rattle.token_cursor.specs.Cursors.{Shortens};
 ghost use Rattle.std.specs.Prelude.{◌≡◌, ◌<◌, ◌≤◌, IfOk, false, length, true};
 
@@ -66,5 +67,21 @@ pub fn then_mark<T: Drop>(
             Err(fault) => parts::give_up(value, fault),
         },
         Err(fault) => Err(fault),
+    }
+}
+
+/// What was made, once this mark is taken, which opens a form; where that fails, what was made is let go.
+pub(crate) fn opening<T: Drop>(
+    cursor: &mut Cursor<'_>,
+    mark: Mark,
+    free: u32,
+    made: T,
+) -> Result<T, Fault>
+    ensures reads { OpensWith cursor.old made mark free result cursor.new }
+    ensures shorter { Shortens cursor.old result cursor.new }
+{
+    match cursor.opens(mark, 0, free) {
+        Ok(()) => Ok(made),
+        Err(fault) => parts::give_up(made, fault),
     }
 }

@@ -6,6 +6,7 @@ ghost use Rattle.calculus.specs.Written.{Written};
 ghost use Rattle.token_cursor.specs.Cursors.{BeginsWithin, ShortensAs};
 ghost use Rattle.std.specs.Prelude.{IfOk};
 
+use crate::next_mark::{opening, skip, then_mark};
 use calculus::UnaryOp;
 use grammar::{Fault, Mark};
 use token_cursor::Cursor;
@@ -17,15 +18,16 @@ pub fn begin_operand(cursor: &mut Cursor<'_>, free: u32) -> Result<Option<UnaryO
     ensures shorter { ShortensAs PassesOperator cursor.old result cursor.new }
 {
     if cursor.sees(Mark::Not) {
-        cursor.opens(Mark::Not, 0, free)?;
-        return Ok(Some(UnaryOp::Not));
+        return opening(cursor, Mark::Not, free, Some(UnaryOp::Not));
     }
     if !cursor.sees_prefix() {
         return Ok(None);
     }
-    cursor.expect(Mark::Minus)?;
-    cursor.opens_operand(free)?;
-    Ok(Some(UnaryOp::Neg))
+    skip(cursor, Mark::Minus);
+    match cursor.opens_operand(free) {
+        Ok(()) => Ok(Some(UnaryOp::Neg)),
+        Err(fault) => Err(fault),
+    }
 }
 
 /// The name of a method that is called on a target of this height, up to the arguments; `None` where no call
@@ -39,8 +41,13 @@ pub fn begin_call(cursor: &mut Cursor<'_>, height: u32, free: u32) -> Result<Opt
     if !cursor.sees(Mark::Dot) {
         return Ok(None);
     }
-    cursor.opens(Mark::Dot, height, free)?;
-    let name = cursor.word()?;
-    cursor.expect(Mark::Open)?;
-    Ok(Some(name))
+    match cursor.opens(Mark::Dot, height, free) {
+        Ok(()) => {}
+        Err(fault) => return Err(fault),
+    }
+    let name = cursor.word();
+    match then_mark(cursor, name, Mark::Open) {
+        Ok(name) => Ok(Some(name)),
+        Err(fault) => Err(fault),
+    }
 }

@@ -8,6 +8,7 @@ ghost use Rattle.form_steps.specs.Parts.{after_bundle, keyed_part, part_or};
 ghost use Rattle.grammar.specs.Productions.{Prod};
 ghost use Rattle.token_cursor.specs.Cursors.{BeginsWithin, Shortens, ShortensAs, rule_at};
 
+use crate::next_mark::then_mark;
 use crate::send::{begin_any_send, begin_send, begin_send_pattern};
 use crate::step::{FormKey, PartStep, TermStep};
 use calculus::Rights;
@@ -43,16 +44,22 @@ pub fn begin_term(cursor: &mut Cursor<'_>, free: u32) -> Result<TermStep, Fault>
         return Ok(TermStep::Form(FormKey::Match));
     }
     if cursor.sees_bundle() {
-        let rights = begin_bundle(cursor, free)?;
-        return Ok(TermStep::Bundle(rights));
+        return match begin_bundle(cursor, free) {
+            Ok(rights) => Ok(TermStep::Bundle(rights)),
+            Err(fault) => Err(fault),
+        };
     }
     if cursor.sees(Mark::At) {
-        cursor.opens(Mark::At, 0, free)?;
-        return Ok(TermStep::Quoted);
+        return match cursor.opens(Mark::At, 0, free) {
+            Ok(()) => Ok(TermStep::Quoted),
+            Err(fault) => Err(fault),
+        };
     }
     if cursor.sees_send() {
-        let sending = begin_send(cursor, free)?;
-        return Ok(TermStep::Send(sending));
+        return match begin_send(cursor, free) {
+            Ok(sending) => Ok(TermStep::Send(sending)),
+            Err(fault) => Err(fault),
+        };
     }
     Ok(TermStep::Chain)
 }
@@ -64,9 +71,11 @@ fn begin_bundle(cursor: &mut Cursor<'_>, free: u32) -> Result<Rights, Fault>
     ensures shorter { Shortens cursor.old result cursor.new }
 {
     let rights = cursor.rights();
-    cursor.opens_bundle(rights, free)?;
-    cursor.expect(Mark::OpenBrace)?;
-    Ok(rights)
+    let opened = cursor.opens_bundle(rights, free);
+    match then_mark(cursor, opened, Mark::OpenBrace) {
+        Ok(()) => Ok(rights),
+        Err(fault) => Err(fault),
+    }
 }
 
 /// The keyed form of processes that a pattern begins with.
@@ -102,20 +111,28 @@ pub fn begin_part(cursor: &mut Cursor<'_>, free: u32) -> Result<PartStep, Fault>
         return Ok(PartStep::Form(key));
     }
     if cursor.sees_bundle() {
-        let rights = begin_bundle(cursor, free)?;
-        return Ok(PartStep::Bundle(rights));
+        return match begin_bundle(cursor, free) {
+            Ok(rights) => Ok(PartStep::Bundle(rights)),
+            Err(fault) => Err(fault),
+        };
     }
     if cursor.sees(Mark::At) {
-        cursor.opens(Mark::At, 0, free)?;
-        return Ok(PartStep::Quoted);
+        return match cursor.opens(Mark::At, 0, free) {
+            Ok(()) => Ok(PartStep::Quoted),
+            Err(fault) => Err(fault),
+        };
     }
     if cursor.sees_any_send() {
-        let any = begin_any_send(cursor, free)?;
-        return Ok(PartStep::Send(any));
+        return match begin_any_send(cursor, free) {
+            Ok(sending) => Ok(PartStep::Send(sending)),
+            Err(fault) => Err(fault),
+        };
     }
     if cursor.sees_send() {
-        let sending = begin_send_pattern(cursor, free)?;
-        return Ok(PartStep::Send(sending));
+        return match begin_send_pattern(cursor, free) {
+            Ok(sending) => Ok(PartStep::Send(sending)),
+            Err(fault) => Err(fault),
+        };
     }
     Ok(PartStep::Alternative)
 }

@@ -1,13 +1,15 @@
 //! Patterns without `\/` and `/\`.
+ghost use Rattle.form_steps.specs.Opening.{Begins};
 ghost use Rattle.form_steps.specs.Steps.{HasRoomForPattern, PassesPattern, after_pattern_step, form_of_pattern, type_or, typed_pattern};
 ghost use Rattle.grammar.specs.Grammar.{rule};
 ghost use Rattle.grammar.specs.Productions.{Prod};
 ghost use Rattle.grammar.specs.Rules.{Sort};
 ghost use Rattle.grammar.specs.declared.dialect.Dialect.TheVariants.{Tutorial};
 ghost use Rattle.token_cursor.specs.Meaning.{view};
-ghost use Rattle.token_cursor.specs.Cursors.{BeginsWithin, ContinuesWithin, ShortensAs, ahead};
+ghost use Rattle.token_cursor.specs.Cursors.{BeginsWithin, ShortensAs, ahead, rule_at};
 ghost use Rattle.std.specs.Prelude.{◌≡◌, IfOk};
 
+use crate::next_mark::{opening, skip, then_mark};
 use crate::step::{PatternStep, PlainPattern};
 use calculus::Simple;
 use form_parts::part::Bracket;
@@ -23,8 +25,7 @@ pub fn begin_pattern(cursor: &mut Cursor<'_>, free: u32) -> Result<PatternStep, 
     if !cursor.sees(Mark::Tilde) {
         return begin_pattern_atom(cursor, free);
     }
-    cursor.opens(Mark::Tilde, 0, free)?;
-    Ok(PatternStep::Not)
+    opening(cursor, Mark::Tilde, free, PatternStep::Not)
 }
 
 /// The simple type that is next.
@@ -51,9 +52,7 @@ fn simple_type(cursor: &Cursor<'_>) -> Option<Simple>
 
 /// PAtom, up to its first constituent
 fn begin_pattern_atom(cursor: &mut Cursor<'_>, free: u32) -> Result<PatternStep, Fault>
-    ensures reads { BeginsWithin free cursor.old Sort.PAtom after_pattern_step result cursor.new }
-    ensures room { IfOk result (HasRoomForPattern free) }
-    ensures shorter { ShortensAs PassesPattern cursor.old result cursor.new }
+    ensures { Begins after_pattern_step HasRoomForPattern PassesPattern free (rule_at cursor.old Sort.PAtom) cursor.old result cursor.new }
 {
     if cursor.sees_word() {
         return Ok(PatternStep::Plain(PlainPattern::Word));
@@ -69,10 +68,7 @@ fn begin_pattern_atom(cursor: &mut Cursor<'_>, free: u32) -> Result<PatternStep,
 
 /// A pattern that is no variable, no `_` and no simple type, up to its first constituent.
 fn begin_pattern_form(cursor: &mut Cursor<'_>, free: u32) -> Result<PatternStep, Fault>
-    ensures reads { ContinuesWithin free cursor.old (rule Tutorial (form_of_pattern (ahead cursor.old)))
-        after_pattern_step result cursor.new }
-    ensures room { IfOk result (HasRoomForPattern free) }
-    ensures shorter { ShortensAs PassesPattern cursor.old result cursor.new }
+    ensures { Begins after_pattern_step HasRoomForPattern PassesPattern free (rule Tutorial (form_of_pattern (ahead cursor.old))) cursor.old result cursor.new }
 {
     if cursor.sees(Mark::Assign) {
         return begin_same(cursor, free);
@@ -81,46 +77,56 @@ fn begin_pattern_form(cursor: &mut Cursor<'_>, free: u32) -> Result<PatternStep,
         return Ok(PatternStep::Plain(PlainPattern::Nil));
     }
     if cursor.sees(Mark::Open) {
-        cursor.opens(Mark::Open, 0, free)?;
-        return Ok(PatternStep::Group);
+        return opening(cursor, Mark::Open, free, PatternStep::Group);
     }
     if cursor.sees(Mark::OpenBrace) {
         return begin_pattern_block(cursor, free);
     }
     if cursor.sees(Mark::OpenSquare) {
-        cursor.opens(Mark::OpenSquare, 0, free)?;
-        return Ok(PatternStep::Members(Bracket::Square));
+        return opening(
+            cursor,
+            Mark::OpenSquare,
+            free,
+            PatternStep::Members(Bracket::Square),
+        );
     }
     if cursor.sees(Mark::Set) {
-        return begin_pattern_set(cursor, free);
+        let set = opening(
+            cursor,
+            Mark::Set,
+            free,
+            PatternStep::Members(Bracket::Round),
+        );
+        return then_mark(cursor, set, Mark::Open);
     }
     Ok(PatternStep::Plain(PlainPattern::Ground))
 }
 
 /// A `=`, and what follows it.
 fn begin_same(cursor: &mut Cursor<'_>, free: u32) -> Result<PatternStep, Fault>
-    ensures reads { ContinuesWithin free cursor.old (rule Tutorial Prod.patom_same) after_pattern_step result cursor.new }
-    ensures room { IfOk result (HasRoomForPattern free) }
-    ensures shorter { ShortensAs PassesPattern cursor.old result cursor.new }
+    ensures { Begins after_pattern_step HasRoomForPattern PassesPattern free (rule Tutorial Prod.patom_same) cursor.old result cursor.new }
 {
-    cursor.opens(Mark::Assign, 0, free)?;
+    match cursor.opens(Mark::Assign, 0, free) {
+        Ok(()) => {}
+        Err(fault) => return Err(fault),
+    }
     if cursor.sees(Mark::Star) {
         return Ok(PatternStep::Plain(PlainPattern::SameDropped));
     }
-    if !cursor.sees(Mark::OpenBrace) {
-        return Ok(PatternStep::Plain(PlainPattern::SameWord));
+    if skip(cursor, Mark::OpenBrace) {
+        return Ok(PatternStep::Same);
     }
-    cursor.expect(Mark::OpenBrace)?;
-    Ok(PatternStep::Same)
+    Ok(PatternStep::Plain(PlainPattern::SameWord))
 }
 
 /// A `{`, and whether a pattern follows.
 fn begin_pattern_block(cursor: &mut Cursor<'_>, free: u32) -> Result<PatternStep, Fault>
-    ensures reads { ContinuesWithin free cursor.old (rule Tutorial Prod.patom_brace) after_pattern_step result cursor.new }
-    ensures room { IfOk result (HasRoomForPattern free) }
-    ensures shorter { ShortensAs PassesPattern cursor.old result cursor.new }
+    ensures { Begins after_pattern_step HasRoomForPattern PassesPattern free (rule Tutorial Prod.patom_brace) cursor.old result cursor.new }
 {
-    cursor.opens(Mark::OpenBrace, 0, free)?;
+    match cursor.opens(Mark::OpenBrace, 0, free) {
+        Ok(()) => {}
+        Err(fault) => return Err(fault),
+    }
     if cursor.sees(Mark::CloseBrace) {
         return Ok(PatternStep::Plain(PlainPattern::EmptyMap));
     }
@@ -128,15 +134,4 @@ fn begin_pattern_block(cursor: &mut Cursor<'_>, free: u32) -> Result<PatternStep
         return Ok(PatternStep::Plain(PlainPattern::RestMap));
     }
     Ok(PatternStep::Block)
-}
-
-/// `Set` and a parenthesis.
-fn begin_pattern_set(cursor: &mut Cursor<'_>, free: u32) -> Result<PatternStep, Fault>
-    ensures reads { ContinuesWithin free cursor.old (rule Tutorial Prod.patom_set) after_pattern_step result cursor.new }
-    ensures room { IfOk result (HasRoomForPattern free) }
-    ensures shorter { ShortensAs PassesPattern cursor.old result cursor.new }
-{
-    cursor.opens(Mark::Set, 0, free)?;
-    cursor.expect(Mark::Open)?;
-    Ok(PatternStep::Members(Bracket::Round))
 }

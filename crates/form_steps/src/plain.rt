@@ -17,18 +17,6 @@ use std::alloc::Global;
 use syntax_forms::{pattern_forms, process_forms};
 use token_cursor::Cursor;
 
-/// The list or the set of these members.
-fn list_or_set(bracket: Bracket, row: Part<Vec<Proc>>) -> Part<Proc>
-    requires { row.height + 1 < 2 ^ 32 }
-    ensures tree { proc_written result.value ≡ members_of bracket (row_of (map proc_written row.value.items)) }
-    ensures height { result.height ≡ row.height + 1 }
-{
-    match bracket {
-        Bracket::Square => process_forms::list(row),
-        Bracket::Round => process_forms::set(row),
-    }
-}
-
 /// The list or the set of the members that were read.
 pub fn members(bracket: Bracket, row: Result<Part<Vec<Proc>>, Fault>) -> Result<Part<Proc>, Fault>
     requires { IfOk row (λ p. p.height + 1 < 2 ^ 32) }
@@ -36,20 +24,11 @@ pub fn members(bracket: Bracket, row: Result<Part<Vec<Proc>>, Fault>) -> Result<
     ensures room { (n : ℕ) → IfOk row (λ p. p.height < n) → IfOk result (λ p. p.height ≤ n) }
 {
     match row {
-        Ok(row) => Ok(list_or_set(bracket, row)),
+        Ok(row) => match bracket {
+            Bracket::Square => Ok(process_forms::list(row)),
+            Bracket::Round => Ok(process_forms::set(row)),
+        },
         Err(fault) => Err(fault),
-    }
-}
-
-/// The pattern of a list or a set of these members.
-fn list_or_set_pattern(bracket: Bracket, sequence: Part<Sequence>) -> Part<Pat>
-    requires { sequence.height + 1 < 2 ^ 32 }
-    ensures tree { pat_written result.value ≡ member_patterns_of bracket (sequence_written sequence.value) }
-    ensures height { result.height ≡ sequence.height + 1 }
-{
-    match bracket {
-        Bracket::Square => pattern_forms::list_pat(sequence),
-        Bracket::Round => pattern_forms::set_pat(sequence),
     }
 }
 
@@ -63,19 +42,12 @@ pub fn member_patterns(
     ensures room { (n : ℕ) → IfOk sequence (λ p. p.height < n) → IfOk result (λ p. p.height ≤ n) }
 {
     match sequence {
-        Ok(sequence) => Ok(list_or_set_pattern(bracket, sequence)),
+        Ok(sequence) => match bracket {
+            Bracket::Square => Ok(pattern_forms::list_pat(sequence)),
+            Bracket::Round => Ok(pattern_forms::set_pat(sequence)),
+        },
         Err(fault) => Err(fault),
     }
-}
-
-/// The process that this one stands for when it is quoted and dropped.
-fn drop_quoted(alloc: Global, quoted: Part<Proc>) -> Result<Part<Proc>, Fault>
-    requires { quoted.height + 1 < 2 ^ 32 }
-    ensures tree { HasTree proc_written result (drop_of (quote_of (proc_written quoted.value))) }
-    ensures height { IfOk result (λ p. p.height ≡ quoted.height + 1) }
-{
-    let name = process_forms::quote(alloc, quoted)?;
-    Ok(process_forms::dropped_quote(name))
 }
 
 /// The process that was read, quoted and dropped.
@@ -85,7 +57,10 @@ pub fn dropped_quote(alloc: Global, quoted: Result<Part<Proc>, Fault>) -> Result
     ensures room { (n : ℕ) → IfOk quoted (λ p. p.height < n) → IfOk result (λ p. p.height ≤ n) }
 {
     match quoted {
-        Ok(quoted) => drop_quoted(alloc, quoted),
+        Ok(quoted) => match process_forms::quote(alloc, quoted) {
+            Ok(name) => Ok(process_forms::dropped_quote(name)),
+            Err(fault) => Err(fault),
+        },
         Err(fault) => Err(fault),
     }
 }
@@ -113,8 +88,10 @@ pub fn close_bundle(
     ensures room { (n : ℕ) → IfOk body (λ p. p.height < n) → IfOk result (λ p. p.height ≤ n) }
     ensures shorter { length cursor.new.rest.now ≤ length cursor.old.rest.now }
 {
-    let inner = then_mark(cursor, body, Mark::CloseBrace)?;
-    process_forms::bundle(cursor.alloc, rights, inner)
+    match then_mark(cursor, body, Mark::CloseBrace) {
+        Ok(inner) => process_forms::bundle(cursor.alloc, rights, inner),
+        Err(fault) => Err(fault),
+    }
 }
 
 /// The end of a bundle of the pattern that was read.
@@ -128,8 +105,10 @@ pub fn close_bundle_pattern(
     ensures room { (n : ℕ) → IfOk body (λ p. p.height < n) → IfOk result (λ p. p.height ≤ n) }
     ensures shorter { length cursor.new.rest.now ≤ length cursor.old.rest.now }
 {
-    let inner = then_mark(cursor, body, Mark::CloseBrace)?;
-    pattern_forms::bundle_pat(cursor.alloc, rights, inner)
+    match then_mark(cursor, body, Mark::CloseBrace) {
+        Ok(inner) => pattern_forms::bundle_pat(cursor.alloc, rights, inner),
+        Err(fault) => Err(fault),
+    }
 }
 
 /// The end of a process that was read and is to be the same.
@@ -142,6 +121,8 @@ pub fn close_same(
     ensures room { (n : ℕ) → IfOk body (λ p. p.height < n) → IfOk result (λ p. p.height ≤ n) }
     ensures shorter { length cursor.new.rest.now ≤ length cursor.old.rest.now }
 {
-    let inner = then_mark(cursor, body, Mark::CloseBrace)?;
-    pattern_forms::same(cursor.alloc, inner)
+    match then_mark(cursor, body, Mark::CloseBrace) {
+        Ok(inner) => pattern_forms::same(cursor.alloc, inner),
+        Err(fault) => Err(fault),
+    }
 }

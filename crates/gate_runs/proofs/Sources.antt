@@ -2,8 +2,8 @@
 use Rattle.std.proofs.Common.{◌≤◌, ℕ, List, length, sym, subst}
 use Rattle.calculus.specs.Tree.{Tree}
 use Rattle.sources.specs.Sources.{IsSourceOf}
-use Rattle.fresh_digests.specs.Numbers.{IsNumberable}
-use Rattle.fresh_sources.proofs.Sources.{source_texts_are_numberable}
+use Rattle.events.specs.Numbers.{IsNumberable}
+use Rattle.source_laws.proofs.NumberedSources.{source_texts_are_numberable}
 
 -- four bytes number the parts and names of the process of a source
 pub numberable : (source : List ℕ) (t : Tree) → IsSourceOf source t → length source ≤ 1048576 → IsNumberable t

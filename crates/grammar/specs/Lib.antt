@@ -1,9 +1,11 @@
 pub mod Choice
 pub mod Descent
-pub mod Examples
+pub mod GrammarExamples
 pub mod Grammar
 pub mod Productions
 pub mod Rules
 pub mod Spells
 pub mod Terminals
 pub mod Values
+pub mod PlaceExamples
+pub mod Places

@@ -7,9 +7,8 @@ ghost use Rattle.atomic_table.specs.Table.{rest};
 
 use hub_rule::{
     ASLEEP, BELL, Board, DESK, DESK_TURN, Fetch, LINE, Leave, MARK, PENDING, Ring, Scene, Slot,
-    TakeDesk, Tell, Token, WAITING,
+    TakeDesk, Tell, Token, WAITING, move_all,
 };
-use list_moves::move_all;
 use std::alloc::Global;
 use std::sync::Wait;
 
@@ -197,30 +196,8 @@ fn give_desk<S: Scene>(
     wake_turn(board, desk as usize * LINE + DESK_TURN);
 }
 
-// Takes a work from a desk, if one lies there.
-fn fetch_work<S: Scene, R: Wait>(
-    rt: &R,
-    alloc: Global,
-    board: &Board<S>,
-    token: &mut Token<S>,
-    desk: u32,
-) -> Option<S::Work>
-    requires table { (token.old.table_id ≡ board.now.table_id) × (board.now.table_id.words ≡ 800) }
-    requires desk { MayTakeDesk token.old.me.0 desk }
-    requires idle { hand token.old.me.0.pile ≡ [] }
-    ensures same { (token.new.table_id ≡ token.old.table_id) × (token.new.id ≡ token.old.id) }
-    ensures some { IfSome result (TakesUp token.old token.new) }
-    ensures none { IfNone result (token.new.me ≡ token.old.me) }
-{
-    take_desk(rt, board, token, desk);
-    let mut works = desk_out(alloc, board, token, desk);
-    let taken = works.pop();
-    give_desk(board, token, desk, works, &taken);
-    taken
-}
-
 // Takes a work from a desk, if one lies there. The turn is not taken where the desk is marked as empty.
-fn fetch_unmarked<S: Scene, R: Wait>(
+fn fetch_work<S: Scene, R: Wait>(
     rt: &R,
     alloc: Global,
     board: &Board<S>,
@@ -237,7 +214,11 @@ fn fetch_unmarked<S: Scene, R: Wait>(
     if board.peek(desk as usize * LINE + MARK) == 1 {
         return None;
     }
-    fetch_work(rt, alloc, board, token, desk)
+    take_desk(rt, board, token, desk);
+    let mut works = desk_out(alloc, board, token, desk);
+    let taken = works.pop();
+    give_desk(board, token, desk, works, &taken);
+    taken
 }
 
 /// Takes a work from the first desk, from this one on, where one lies.
@@ -258,7 +239,7 @@ pub fn look_round<S: Scene, R: Wait>(
     ensures none { IfNone result (token.new.me ≡ token.old.me) }
 {
     for step in 0..desks {
-        if let Some(work) = fetch_unmarked(rt, alloc, board, token, (first + step) % desks) {
+        if let Some(work) = fetch_work(rt, alloc, board, token, (first + step) % desks) {
             return Some(work);
         }
     }

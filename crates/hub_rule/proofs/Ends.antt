@@ -20,14 +20,14 @@ use Rattle.atomic_table.specs.Table.{State, Me, Final, Seen}
 use Rattle.hub_rule.specs.declared.terms.StopCause.{StopCause}
 use Rattle.hub_rule.specs.declared.terms.StopCause.TheVariants.{Fault, NoMemory}
 use Rattle.hub_rule.specs.Stops.{cause_at, FaultCause}
-use Rattle.hub_rule.specs.Meaning.{Meaning, store_after, offered, Allowed, ArePending, Ran}
+use Rattle.hub_rule.specs.Meaning.{Meaning, store_after, offered, Allowed, ArePending}
 use Rattle.hub_rule.proofs.Sums.{empty_list, total_two, total_both, total_map, count_more, each_to, each_more, each_cut}
 use Rattle.hub_rule.proofs.Offers.{one_at_most, things_both, length_things}
 use Rattle.hub_rule.proofs.Piles.{at_piles}
 use Rattle.hub_rule.proofs.Deals.{count_parts}
 use Rattle.hub_rule.proofs.Counting.{total_short, nothing_left}
 use Rattle.hub_rule.proofs.Lookups.{get_some, get_elem}
-use Rattle.hub_rule.specs.Rule.{view, joined, both, heaped, cost, emptied, FaultIn, HubRule, RanBy, share_of, piles_of}
+use Rattle.hub_rule.specs.Rule.{view, cost, emptied, FaultIn, HubRule, share_of, piles_of}
 use Rattle.hub_rule.specs.Works.{hand, LiesOn}
 use Rattle.hub_rule.specs.declared.view.Pile.{Pile}
 
@@ -41,18 +41,6 @@ module _ {A : Type 0} where
   pub all_of_snoc : {B : Type 0} (f : A → List B) (xs : List A) (x : A) → all_of f (xs ++ x ∷ []) ≡ all_of f xs ++ f x
   all_of_snoc f [] x = append-nil (f x)
   all_of_snoc f (y ∷ ys) x = ap {A = List _} (λ l. f y ++ l) (all_of_snoc f ys x) ∙ sym (append_assoc (f y) (all_of f ys) (f x))
-
-  pub total_split : (f : A → ℕ) (xs ys : List A) (x : A) → xs ≡ x ∷ ys → total f xs ≡ f x + total f ys
-  total_split f xs ys x e = ap {A = List A} (λ l. total f l) e
-
--- the views after a seat is joined
-pub joined_view : {E X W : Type 0} (all : List (ℕ × E)) (t : Tally E) (p : Pile E W) (n : ℕ) (w : View E X W) → w.parts ≡ 32
-    → joined {E = E} {X = X} {W = W} (view (32 * n) all [] [] t p) w ≡ view (32 * (n + 1)) (all ++ w.entries) [] [] (both t w.tally) (heaped p w.pile)
-joined_view {E} {X} {W} all t p n w part = let e : 32 * n + w.parts ≡ 32 * (n + 1) = omega arith in ap {A = ℕ} (λ k. view {E = E} {X = X} {W = W} k (all ++ w.entries) [] [] (both t w.tally) (heaped p w.pile)) e
-
--- the hand of a pile that has only what others had
-pub kept_alone : {E W : Type 0} (p : Pile E W) → p.taken ≡ [] → p.offered ≡ [] → hand p ≡ p.kept
-kept_alone {E} {W} p taken offered = ap {A = List (ℕ × W)} (λ l. p.kept ++ (l ++ p.offered)) taken ∙ (ap {A = List (ℕ × W)} (λ l. p.kept ++ l) offered ∙ append-nil p.kept)
 
 -- no slot is out where no shard is held
 pub out_of : {X W : Type 0} (held : List (ℕ × X)) (out : List (ℕ × Slot X W)) → held ≡ [] → out ≡ emptied held → out ≡ []
@@ -368,13 +356,6 @@ word_is (w ∷ ws) (suc i) n e = word_is ws i n e
 pub length_all_of : {A T : Type 0} (f : A → List T) (xs : List A) → length (all_of f xs) ≡ total (λ x. length (f x)) xs
 length_all_of f [] = refl
 length_all_of f (x ∷ xs) = length-append (f x) (all_of f xs) ∙ ap (λ (n : ℕ). length (f x) + n) (length_all_of f xs)
-
--- the run, and what is said of its list, told of the entries in order
-pub ran_in_order : {Store E X W : Type 0} (m : Meaning Store E X W) (opened : List X) (works : List W) (all : List (ℕ × E)) (closed : List X) (left : List W) (hands : List (ℕ × W)) (out : List E) (Q : List E → Type 0) → RanBy m opened works all closed left hands Q
-    → length out ≡ length all → Each (λ n e. slice_get out n ≡ Some e) all → Ran m opened works out closed left hands × Q out
-ran_in_order {E = E} m opened works all closed left hands out Q r long each =
-    let P : List E → Type 0 = λ l. Ran m opened works l closed left hands × Q l in
-    subst P (same_things out r.0 all long r.3 r.5 each r.4) (r.2, r.1)
 
 -- the works on all desks, one desk after another
 pub things_of_lists : {A : Type 0} (ls : List (List (ℕ × A))) → things_of (all_of (λ l. l) ls) ≡ all_of (λ l. l) (map things_of ls)

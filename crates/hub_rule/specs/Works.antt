@@ -24,10 +24,6 @@ bare = pile [] [] [] [] 0 false [] 0 0 0
 abbrev pub hand : {E W : Type 0} → Pile E W → List (ℕ × W)
 hand p = p.kept ++ (p.taken ++ p.offered)
 
--- this work was taken, and nothing else of what is in hand since
-abbrev pub HasOneWork : {E W : Type 0} → Pile E W → W → Type 0
-HasOneWork p w = (index : ℕ) × (p.taken ≡ (index, w) ∷ []) × (p.offered ≡ [])
-
 -- the turn of this desk is held, and P holds of the works that lay there
 abbrev pub HoldsDesk : {E W : Type 0} → Pile E W → ℕ → (List W → Type 0) → Type 0
 HoldsDesk {W = W} p d P = (ps : List (ℕ × W)) × (p.desk ≡ (d, ps) ∷ []) × P (things_of ps)

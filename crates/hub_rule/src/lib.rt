@@ -2,6 +2,7 @@
 #![tactic(auto)]
 
 mod board;
+mod moving;
 mod pending;
 mod rule;
 mod scene;
@@ -12,6 +13,7 @@ mod view;
 pub use crate::board::{
     ASLEEP, BELL, Board, CHARGED, DESK, DESK_TURN, LINE, MARK, PENDING, STOP, TURN, Token, WAITING,
 };
+pub use crate::moving::move_all;
 pub use crate::pending::read_pending;
 pub use crate::rule::{
     Cut, Draw, Enter, Fetch, FindCharged, FindPending, FindStop, Give, Halt, Leave, Limiting,

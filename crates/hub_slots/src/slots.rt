@@ -1,12 +1,11 @@
 //! The slots of a hub, as it opens and as it ends.
-ghost use Rattle.std.specs.Prelude.{◌≡◌, ℕ, ◌<◌, ◌≤◌, ◌++◌, [], Some, IfOk, List, length, map, slice_get, vec_capacity};
+ghost use Rattle.std.specs.Prelude.{◌≡◌, ℕ, ◌-◌, ◌<◌, ◌≤◌, ◌++◌, [], Some, IfOk, List, length, map, slice_get, vec_capacity};
 ghost use Rattle.std.specs.Vec.Iter.{into_iter_items};
 ghost use Rattle.std.specs.Mem.Slots.{slots_items, slots_len, slots_filled, IsFull};
 ghost use Rattle.hub_rule.specs.Counts.{all_of};
 ghost use Rattle.hub_rule.specs.Works.{Laid, LiesOn, LiesAt, DesksFit, FilledFrom};
 
-use hub_rule::Slot;
-use list_moves::move_all;
+use hub_rule::{Slot, move_all};
 use std::alloc::{AllocError, Global};
 use std::vec::IntoIter;
 
@@ -26,7 +25,7 @@ pub fn slots_of<X: Drop, W: Drop>(
     for _ in 0..31u32 {
         slots.push(Slot::Desk(take_some(alloc, &mut works, share)?))?;
     }
-    slots.push(Slot::Desk(take_rest(alloc, works)?))?;
+    slots.push(Slot::Desk(take_some(alloc, &mut works, usize::MAX)?))?;
     Ok(slots)
 }
 
@@ -36,7 +35,8 @@ fn take_some<T: Drop>(
     things: &mut IntoIter<T>,
     count: usize,
 ) -> Result<Vec<T>, AllocError>
-    ensures { IfOk result (λ v. v.items ++ into_iter_items things.new ≡ into_iter_items things.old) }
+    ensures { IfOk result (λ v. (v.items ++ into_iter_items things.new ≡ into_iter_items things.old)
+        × (length (into_iter_items things.new) ≤ length (into_iter_items things.old) - count)) }
 {
     let mut some = Vec::with_capacity(alloc, count.min(things.len()))?;
     for _ in 0..count {
@@ -46,17 +46,6 @@ fn take_some<T: Drop>(
         some.push(thing)?;
     }
     Ok(some)
-}
-
-// Moves all out.
-fn take_rest<T: Drop>(alloc: Global, things: IntoIter<T>) -> Result<Vec<T>, AllocError>
-    ensures { IfOk result (λ v. v.items ≡ into_iter_items things) }
-{
-    let mut rest = Vec::with_capacity(alloc, things.len())?;
-    for thing in things {
-        rest.push(thing)?;
-    }
-    Ok(rest)
 }
 
 fn all_shards<X: Drop, W: Drop>(

@@ -2,3 +2,4 @@ pub mod Loops
 pub mod Groups
 pub mod SetBits
 pub mod Waits
+pub mod Looking

@@ -11,7 +11,6 @@ use hub_rule::{
     Board, CHARGED, Draw, FindCharged, FindStop, Give, Halt, LINE, Limiting, Naming, Pay, STOP,
     Scene, Slot, StopCause, TURN, Take, Token,
 };
-use std::marker::Brand;
 use std::sync::Wait;
 
 // Takes the turn of a shard, and the shard out of its slot.
@@ -117,8 +116,8 @@ pub fn give_turns<S: Scene>(
     }
 }
 
-// Draws the entry that the proof names.
-fn draw_as<S: Scene, J: Naming<S::Entry>>(
+// Draws the entry, which the proof names.
+pub fn draw_as<S: Scene, J: Naming<S::Entry>>(
     board: &Board<S>,
     token: &mut Token<S>,
     entry: &S::Entry,
@@ -131,16 +130,6 @@ fn draw_as<S: Scene, J: Naming<S::Entry>>(
 {
     let _ = entry;
     board.fetch_add::<Draw<S, J>>(token, 0, 1)
-}
-
-// Draws the entry.
-pub fn draw<S: Scene>(board: &Board<S>, token: &mut Token<S>, entry: &S::Entry) -> u64
-    requires table { (token.old.table_id ≡ board.now.table_id) × (board.now.table_id.words ≡ 800) }
-    requires may { MayDraw S.meaning token.old.me.0 entry.now }
-    ensures same { (token.new.table_id ≡ token.old.table_id) × (token.new.id ≡ token.old.id) }
-    ensures drawn { (base : ℕ) × (token.new.me ≡ (after_draw S.meaning token.old.me.0 result entry.now base, token.old.me.1)) }
-{
-    draw_as::<S, Brand>(board, token, entry)
 }
 
 // Adds the price of what is due to the charged word, and rings the bell where that passes the limit.
@@ -161,7 +150,7 @@ pub fn pay<S: Scene>(board: &Board<S>, token: &mut Token<S>, price: u64, limit: 
 }
 
 // Reads the charged word, under the limit that the proof names.
-fn read_charged_as<S: Scene, J: Limiting>(board: &Board<S>, token: &mut Token<S>) -> u64
+pub fn read_charged_as<S: Scene, J: Limiting>(board: &Board<S>, token: &mut Token<S>) -> u64
     requires table { (token.old.table_id ≡ board.now.table_id) × (board.now.table_id.words ≡ 800) }
     requires named { J.limit ≡ board.now.key.terms.limit }
     ensures same { (token.new.table_id ≡ token.old.table_id) × (token.new.id ≡ token.old.id) }
@@ -171,18 +160,6 @@ fn read_charged_as<S: Scene, J: Limiting>(board: &Board<S>, token: &mut Token<S>
     ensures fresh { length token.new.me.0.tally.fresh ≤ length token.old.me.0.tally.fresh }
 {
     board.load::<FindCharged<J>>(token, CHARGED)
-}
-
-// Reads the charged word.
-pub fn read_charged<S: Scene>(board: &Board<S>, token: &mut Token<S>) -> u64
-    requires table { (token.old.table_id ≡ board.now.table_id) × (board.now.table_id.words ≡ 800) }
-    ensures same { (token.new.table_id ≡ token.old.table_id) × (token.new.id ≡ token.old.id) }
-    ensures over { board.now.key.terms.limit < result → ChangesTally token.old token.new saw_over }
-    ensures low { result ≤ board.now.key.terms.limit → ChangesTally token.old token.new saw_low }
-    ensures charged { all_charged token.new.me.0.tally ≡ all_charged token.old.me.0.tally }
-    ensures fresh { length token.new.me.0.tally.fresh ≤ length token.old.me.0.tally.fresh }
-{
-    read_charged_as::<S, Brand>(board, token)
 }
 
 // Reads the stop word.

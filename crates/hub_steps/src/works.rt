@@ -5,10 +5,11 @@ ghost use Rattle.hub_rule.specs.Rule.{after_commit, with_tally, MayDraw, MayTake
 ghost use Rattle.hub_rule.specs.Works.{hand};
 ghost use Rattle.hub_steps.specs.Looks.{Looked};
 
-use crate::steps::{draw, read_charged, read_stop};
+use crate::steps::{draw_as, read_charged_as, read_stop};
 use hub_desks::{look_round, ring, sleep_for_bell, tell};
 use hub_rule::{BELL, Board, Scene, Terms, Token, read_pending};
 use std::alloc::Global;
+use std::marker::Brand;
 use std::sync::Wait;
 
 // Whether a further entry may be drawn: reads the stop word and the charged word.
@@ -27,7 +28,7 @@ pub fn may_go<S: Scene>(board: &Board<S>, token: &mut Token<S>, limit: u64) -> b
     if read_stop(board, token) != 0 {
         return false;
     }
-    read_charged(board, token) <= limit
+    read_charged_as::<S, Brand>(board, token) <= limit
 }
 
 // Draws the entry, and tells the pending word what it offers, less the work that it ends.
@@ -44,7 +45,7 @@ pub fn draw_and_tell<S: Scene>(
     ensures same { (token.new.table_id ≡ token.old.table_id) × (token.new.id ≡ token.old.id) }
     ensures drawn { (base : ℕ) × (token.new.me ≡ (after_commit S.meaning token.old.me.0 result entry.now base, token.old.me.1)) }
 {
-    let number = draw(board, token, entry);
+    let number = draw_as::<S, Brand>(board, token, entry);
     let found = tell(board, token, offers);
     ring(board, token, found.wrapping_add(offers) == 0);
     number

@@ -5,10 +5,7 @@ mod close;
 mod leaf;
 mod left;
 
-pub use close::{
-    brace_close, group_close, map_close, pattern_brace_close, pattern_close, pattern_row_none,
-    row_none, sequence_only_rest,
-};
+pub use close::{pattern_row_none, row_none, sequence_only_rest};
 pub use leaf::{
     atom_ground, atom_nil, atom_word, declarations, dropped_word, empty_map, empty_map_pat, ground,
     left_end, name_any, name_bound, name_word, pairs_end, pat_any, pat_ground, pat_nil, pat_type,

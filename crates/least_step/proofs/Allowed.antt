@@ -10,7 +10,7 @@ use Rattle.calculus.specs.Steps.{Bag, Meeting, standing, differ, same_meeting, m
 use Rattle.events.specs.Events.{first_ids}
 use Rattle.events.specs.Found.{met, is_lasting, step_of, Among}
 use Rattle.events.proofs.Counts.{ids, AreDistinct, differ-distinct}
-use Rattle.events.proofs.Standing.{ids-times, standing-times, from-standing, in-standing}
+use Rattle.events.proofs.EventStanding.{ids-times, standing-times, from-standing, in-standing}
 use Rattle.events.proofs.Orders.{member-moved, times-moved}
 use Rattle.events.proofs.Meetings.{join, meeting_with, meet_rows-of, made_by, makes}
 use Rattle.events.proofs.Lasting.{takes_none, joins-of}

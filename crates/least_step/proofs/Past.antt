@@ -14,8 +14,8 @@ use Rattle.events.proofs.Counts.{ids, times, AreDistinct, member-times, times-on
 use Rattle.events.proofs.Lookups.{row_with, row_with-there, rows_with, rows_with-there}
 use Rattle.events.proofs.Meetings.{Joined, join, MadeBy, made_by}
 use Rattle.events.proofs.Lasting.{takes_none, lasts, built-lasts, all-last, leaving-fade, one-leaves}
-use Rattle.events.proofs.Standing.{built_ins, ids-times, standing-times, from-standing, in-standing, rows-times}
-use Rattle.events.proofs.Following.{append_nothing, bag-left}
+use Rattle.events.proofs.EventStanding.{built_ins, ids-times, standing-times, from-standing, in-standing, rows-times}
+use Rattle.events.proofs.EventFollowing.{append_nothing, bag-left}
 use Rattle.events.proofs.Legal.{leads-none, leads-more}
 use Rattle.events.proofs.Accounts.{Accounted, accounted, all-next, distinct-at, fresh-at, stored-next}
 use Rattle.events.proofs.Spent.{row-of-id, leaving-met, none-left, same-names, count-none}

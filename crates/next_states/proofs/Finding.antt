@@ -1,19 +1,18 @@
 -- Which groups a walk in the order of codes finds.
-use Rattle.std.proofs.Common.{◌≡◌, ℕ, ◌≤◌, ◌+◌, Bool, true, false, cond, ◌||◌, List, [], ◌∷◌, ◌++◌, map as each, refl, ap, sym, ◌∙◌, subst, arith, append_assoc, append-nil, inl, inr}
-use Rattle.std.specs.Prelude.{◌⊎◌, ◌≢◌, All, Option, Some, None, IfSome}
+use Rattle.std.proofs.Common.{◌≡◌, ℕ, ◌+◌, Bool, true, false, cond, ◌||◌, List, [], ◌∷◌, ◌++◌, map as each, refl, ap, sym, ◌∙◌, subst, arith, append_assoc, inl, inr}
+use Rattle.std.specs.Prelude.{◌⊎◌, All, Option, Some, None, IfSome}
 use Rattle.std.specs.Borrow.{Bor}
 use Rattle.std.specs.Str.{bytes_eq}
 use Rattle.std.proofs.lemmas.List.Elements.{All-head, All-tail}
 use Rattle.calculus.specs.Order.{up_to, placed, sorted, IsAscending, IsBelowFirst}
-use Rattle.calculus.specs.Root.{key}
 use Rattle.calculus.specs.Rows.{Row, row_code}
 use Rattle.calculus.specs.Steps.{is_one_of}
 use Rattle.calculus.proofs.Ordered.{up_to_both, up_to_trans}
 use Rattle.calculus.proofs.Sorting.{by_place}
-use Rattle.states.proofs.Groups.{same, equal}
+use Rattle.events.proofs.Groups.{same, equal}
 use Rattle.checkpoint.proofs.Adding.{up_to-self}
 use Rattle.checkpoint.proofs.Apart.{unequal}
-use Rattle.next_states.specs.Pairs.{Pair, pair_of, codes_in, groups_in, first_code, seconds, times, held, IsChanged}
+use Rattle.next_states.specs.Pairs.{Pair, pair_of, codes_in, first_code, seconds, times, held, IsChanged}
 use Rattle.next_states.specs.Walks.{pairs_left, Has, Finds, Stands, row_of, IsCoded}
 use Rattle.next_states.specs.declared.changed.Changed.{Changed}
 use Rattle.next_states.specs.declared.left.Left.{Left}

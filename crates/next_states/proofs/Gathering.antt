@@ -14,8 +14,9 @@ use Rattle.std.proofs.lemmas.Map.Keys.{sorted_head, sorted_tail}
 use Rattle.std.proofs.lemmas.Map.Text.{is_eq-slice_cmp}
 use Rattle.calculus.specs.Order.{byte_cmp}
 use Rattle.calculus.specs.Steps.{differ, is_one_of}
-use Rattle.states.proofs.Groups.{same, equal}
+use Rattle.events.proofs.Groups.{same, equal}
 use Rattle.next_states.specs.Pairs.{Pair, codes_in}
+use Rattle.next_states.specs.Walks.{Sets}
 use Rattle.next_states.proofs.Pairs.{codes-append}
 
 -- lists of bytes
@@ -34,13 +35,13 @@ AreOf ps k v = each (λ x. x.items) v.items ≡ codes_in ps k
 abbrev pub AreThere : Groups → List Pair → Type 0
 AreThere m ps = (k : List ℕ) → IfSome (get byte_cmp m k) (AreOf ps k)
 
--- what is there under each key but one, and there this
-abbrev pub Sets : Groups → List ℕ → Option Codes → Groups → Type 0
-Sets m d o n = (k : List ℕ) → get byte_cmp n k ≡ cond (is_at (byte_cmp d) k) o (get byte_cmp m k)
-
 some-weaker : (P Q : Codes → Type 0) → ((v : Codes) → P v → Q v) → (o : Option Codes) → IfSome o P → IfSome o Q
 some-weaker P Q f (Some v) h = f v h
 some-weaker P Q f None h = tt
+
+-- the key that is set is there
+pub set-here : (m n : Groups) (d : List ℕ) (w : Codes) → Sets m d (Some w) n → IsSome (get byte_cmp n d)
+set-here m n d w s = ap is_some (s d ∙ ap (λ b. cond b (Some w) (get byte_cmp m d)) (is_eq-slice_cmp d d ∙ equal d d refl))
 
 -- a key that was there is there
 pub set-others : (m n : Groups) (d : List ℕ) (w : Codes) → Sets m d (Some w) n → (k : List ℕ) → IsSome (get byte_cmp m k) → IsSome (get byte_cmp n k)
@@ -115,6 +116,20 @@ set-there m n d v w s e k h = go (set-only m n d w s k h)
     go : IsSome (get byte_cmp m k) ⊎ (k ≡ d) → IsSome (get byte_cmp m k)
     go (inl g) = g
     go (inr q) = ap is_some (ap (get byte_cmp m) q ∙ e)
+
+-- where one is taken away that was not there, the others are there
+pub gone-others : (m n : Groups) (d : List ℕ) → Sets m d None n → get byte_cmp m d ≡ None → (k : List ℕ) → IsSome (get byte_cmp m k) → IsSome (get byte_cmp n k)
+gone-others m n d s e k h = subst IsSome (sym (s k ∙ ap (λ b. cond b None (get byte_cmp m k)) (is_eq-slice_cmp d k))) (on (bytes_eq d k) refl)
+  where
+    on : (b : Bool) → bytes_eq d k ≡ b → IsSome (cond b None (get byte_cmp m k))
+    on true g = absurd (no (ap is_some (sym (ap (get byte_cmp m) (same d k g)) ∙ e)) h)
+      where
+        truth : false ≡ true → ⊥
+        truth y = cc
+
+        no : is_some (get byte_cmp m k) ≡ false → IsSome (get byte_cmp m k) → ⊥
+        no z i = truth (sym z ∙ i)
+    on false g = h
 
 -- one is taken away
 pub set-none : (m n : Groups) (d : List ℕ) → Sets m d None n → (k : List ℕ) → IsSome (get byte_cmp n k) → IsSome (get byte_cmp m k)

@@ -14,13 +14,13 @@ use Rattle.calculus.specs.Steps.{is_one_of}
 use Rattle.calculus.specs.Storing.{IsStorable}
 use Rattle.calculus.proofs.Tails.{length-be64}
 use Rattle.calculus.proofs.ListCodes.{length-map}
-use Rattle.states.proofs.Groups.{same, sorted-moved}
-use Rattle.states.specs.States.{state_text}
+use Rattle.events.proofs.Groups.{same, sorted-moved}
+use Rattle.events.specs.States.{state_text}
 use Rattle.radix_root.specs.Leaves.{Leaves, Keeps, group_digest, codes_at, groups_of}
 use Rattle.radix_root.specs.Groups.{given, digest_after}
 use Rattle.radix_root.specs.declared.group.Group.{Group}
 use Rattle.checkpoint.specs.Kept.{AreKept}
-use Rattle.checkpoint.specs.Made.{AreFor, AreMade}
+use Rattle.checkpoint.specs.Made.{AreFor}
 use Rattle.checkpoint.specs.Marks.{AreMarks, seen_mark, row_mark}
 use Rattle.checkpoint.specs.declared.marks.Mark.{Mark}
 use Rattle.state_reader.specs.Files.{heading}

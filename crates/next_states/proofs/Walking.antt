@@ -12,7 +12,7 @@ use Rattle.calculus.specs.Rows.{Row, row_code}
 use Rattle.calculus.specs.Steps.{is_one_of}
 use Rattle.calculus.specs.Storing.{IsStorable}
 use Rattle.calculus.proofs.Permutations.{each-moved}
-use Rattle.states.proofs.Groups.{same, sorted-moved}
+use Rattle.events.proofs.Groups.{same, sorted-moved}
 use Rattle.calculus.proofs.ListCodes.{sorted-ascending}
 use Rattle.checkpoint.proofs.Adding.{map-push}
 use Rattle.radix_root.specs.Groups.{given, digest_after}

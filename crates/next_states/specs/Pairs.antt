@@ -11,7 +11,7 @@ use Rattle.checkpoint.specs.declared.marks.Mark.{Mark}
 use Rattle.radix_root.specs.Groups.{given}
 use Rattle.radix_root.specs.Leaves.{Leaves, Keeps, group_digest}
 use Rattle.radix_root.specs.declared.group.Group.{Group}
-use Rattle.states.specs.States.{state_text}
+use Rattle.events.specs.States.{state_text}
 
 -- the key of a row's group, and the row's code
 abbrev pub Pair : Type 0

@@ -1,11 +1,11 @@
 -- A walk over the rows of a base and those of the next state.
-use Rattle.std.specs.Prelude.{◌≡◌, ◌⊎◌, ◌≤◌, ◌+◌, ℕ, true, List, [], ◌∷◌, ◌++◌, map as each, All, Option, Some, None, IfSome, IsSome}
+use Rattle.std.specs.Prelude.{◌≡◌, ◌⊎◌, ◌≤◌, ◌+◌, ℕ, cond, true, false, List, [], ◌∷◌, ◌++◌, map as each, All, Option, Some, None, IfSome, IsSome}
 use Rattle.std.specs.Borrow.{Bor}
-use Rattle.std.specs.BTreeMap.{get}
+use Rattle.std.specs.BTreeMap.{BTreeMap, get, is_at}
 use Rattle.std.specs.declared.alloc.Global.{Global}
 use Rattle.std.specs.declared.vec.Vec.{Vec}
 use Rattle.calculus.specs.declared.ids.Digest.{Digest}
-use Rattle.calculus.specs.Order.{byte_cmp, IsAscending}
+use Rattle.calculus.specs.Order.{byte_cmp, IsAscending, IsBelowFirst}
 use Rattle.calculus.specs.Root.{key}
 use Rattle.calculus.specs.Rows.{Row, row_code}
 use Rattle.calculus.specs.Steps.{is_one_of}
@@ -74,23 +74,47 @@ coded_pair c = pair_of (row_of c)
 abbrev pub coded_pairs : List Coded → List Pair
 coded_pairs cs = each pair_of (each row_of cs)
 
--- a walk takes this row: what agreed before agrees with the row behind those that are done
-abbrev pub TakesRow : Coded → Walk → Walk → Type 0
-TakesRow c before after = (all done : List Pair) → IsCoded c → Agrees before all done → Agrees after all (done ++ coded_pair c ∷ [])
+-- if memory was never wanting, it was not before, and this is so
+abbrev pub Once : Changed → Changed → Type 0 → Type 0
+Once old new done = new.failed ≡ false → (old.failed ≡ false) × done
 
--- the same of all these rows, at the start of a walk
-abbrev pub TakesRows : List Coded → Walk → Walk → Type 0
-TakesRows cs before after = (all : List Pair) → Agrees before all [] → Agrees after all (coded_pairs cs)
+-- what is there under each key but one, and there this
+abbrev pub Sets : BTreeMap (List ℕ) (Vec (Vec ℕ Global) Global) → List ℕ → Option (Vec (Vec ℕ Global) Global) → BTreeMap (List ℕ) (Vec (Vec ℕ Global) Global) → Type 0
+Sets m d o n = (k : List ℕ) → get byte_cmp n k ≡ cond (is_at (byte_cmp d) k) o (get byte_cmp m k)
 
--- where a walk agrees, this is the key of the row
-abbrev pub IsKeyOf : Coded → Walk → Digest → Type 0
-IsKeyOf c before d = (all done : List Pair) → IsCoded c → Agrees before all done → d.0 ≡ key (row_of c)
+-- the group of this key changes too
+pub record Adds (old new : Changed) (d : List ℕ) : Type 0 where
+  pub here : Has new d
+  pub others : (k : List ℕ) → Has old k → Has new k
+  pub bare : Holds old [] → Holds new []
+  pub only : (k : List ℕ) → Has new k → Has old k ⊎ (k ≡ d)
 
--- a walk that found only what changes does so with this row behind those that are done
-abbrev pub FindsRow : Coded → Walk → Walk → Type 0
-FindsRow c before after = (all done next : List Pair) → IsCoded c → Agrees before all done
-    → Finds before all done (coded_pair c ∷ next) → Finds after all (done ++ coded_pair c ∷ []) next
+-- the codes of these pairs are gathered too, and the groups that change are the same
+pub record Puts (old new : Changed) (ps : List Pair) : Type 0 where
+  pub others : (k : List ℕ) → Has old k → Has new k
+  pub only : (k : List ℕ) → Has new k → Has old k
+  pub holds : (qs : List Pair) → Holds old qs → Holds new (qs ++ ps)
 
--- the same of all these rows, at the start of a walk
-abbrev pub FindsRows : List Coded → Walk → Walk → Type 0
-FindsRows cs before after = (all : List Pair) → Agrees before all [] → Finds before all [] (coded_pairs cs) → Finds after all (coded_pairs cs) []
+-- a walk passes rows of the base whose codes are less than this, or any
+pub record Passing (code : Option (Bor (List ℕ))) (old new : Walk) : Type 0 where
+  pub agrees : (all done : List Pair) → Agrees old all done → Agrees new all done
+  pub finds : (all done next : List Pair) → Stands code next → Finds old all done next → Finds new all done next
+
+-- and passes all of them
+pub record Passes (code : Option (Bor (List ℕ))) (old new : Walk) : Type 0 where
+  pub passing : Passing code old new
+  pub all : code ≡ None → pairs_left new.left ≡ []
+  pub least : IfSome code (λ c. IsBelowFirst c.now (seconds (pairs_left new.left)))
+
+-- a walk takes this row, whose key is this: what agreed before agrees with the row behind those that are done, and it finds only what changes
+pub record Takes (c : Coded) (old new : Walk) (d : Digest) : Type 0 where
+  pub agrees : (all done : List Pair) → IsCoded c → Agrees old all done → Agrees new all (done ++ coded_pair c ∷ [])
+  pub own : (all done : List Pair) → IsCoded c → Agrees old all done → d.0 ≡ key (row_of c)
+  pub finds : (all done next : List Pair) → IsCoded c → Agrees old all done
+      → Finds old all done (coded_pair c ∷ next) → Finds new all (done ++ coded_pair c ∷ []) next
+
+-- the same of all these rows, at the start of a walk, whose codes are these with their keys
+pub record TakesAll (cs : List Coded) (old new : Walk) (ks : List Keyed) : Type 0 where
+  pub pairs : (all : List Pair) → All IsCoded cs → Agrees old all [] → each pair_in ks ≡ coded_pairs cs
+  pub agrees : (all : List Pair) → All IsCoded cs → Agrees old all [] → Agrees new all (coded_pairs cs)
+  pub finds : (all next : List Pair) → All IsCoded cs → Agrees old all [] → Finds old all [] (coded_pairs cs ++ next) → Finds new all (coded_pairs cs) next

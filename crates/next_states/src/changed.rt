@@ -1,11 +1,11 @@
 // The groups that change from a base to the next state.
-ghost use Rattle.std.specs.Prelude.{◌≡◌, ◌≤◌, ◌⊎◌, ◌+◌, ◌++◌, ◌∷◌, [], ℕ, List, true, length, map, All, IfOk, OnOk};
+ghost use Rattle.std.specs.Prelude.{◌≡◌, ◌≤◌, ◌+◌, ◌++◌, ◌∷◌, [], ℕ, List, Some, true, length, map, All, IfOk};
 ghost use Rattle.calculus.specs.Order.{sorted};
 ghost use Rattle.calculus.specs.Steps.{differ, is_one_of};
 ghost use Rattle.radix_root.specs.Groups.{given};
 ghost use Rattle.radix_root.specs.Leaves.{group_digest};
 ghost use Rattle.next_states.specs.Pairs.{Pair, IsRight};
-ghost use Rattle.next_states.specs.Walks.{Has, Holds};
+ghost use Rattle.next_states.specs.Walks.{Adds, Has, Holds, Once, Puts, Sets};
 
 use calculus::{Digest, Steps};
 use radix_root::{Group, slices_of};
@@ -16,10 +16,11 @@ use std::sync::ledger::Ledger;
 // The codes of groups, by their keys.
 type Groups = BTreeMap<[u8; 32], Vec<Vec<u8>>>;
 
-// The groups that change, with the codes that are gathered of them.
+// The groups that change, with the codes that are gathered of them. Once memory was wanting, they are of no use.
 #[derive(Drop)]
 pub(crate) struct Changed {
-    pub(crate) groups: Groups,
+    groups: Groups,
+    failed: bool,
 }
 
 impl Changed {
@@ -30,34 +31,77 @@ impl Changed {
     {
         Changed {
             groups: BTreeMap::new(alloc),
+            failed: false,
+        }
+    }
+
+    // Remembers that memory was wanting.
+    pub(crate) fn fail(&mut self)
+        ensures { self.new.failed ≡ true }
+    {
+        self.failed = true;
+    }
+
+    // Whether memory was wanting.
+    pub(crate) fn has_failed(&self) -> bool
+        ensures { result ≡ self.now.failed }
+    {
+        self.failed
+    }
+
+    // One more item, at the end of these.
+    pub(crate) fn keep<T: Drop>(&mut self, items: &mut Vec<T>, item: T)
+        ensures { Once self.old self.new ((items.new.items ≡ items.old.items ++ item ∷ []) × (self.new ≡ self.old)) }
+    {
+        match items.push(item) {
+            Ok(()) => {}
+            Err(_) => self.failed = true,
+        }
+    }
+
+    // These bytes, with new memory.
+    fn copy_of(&mut self, alloc: Global, bytes: &[u8]) -> Vec<u8>
+        ensures { Once self.old self.new ((result.items ≡ bytes.now) × (self.new ≡ self.old)) }
+    {
+        let mut copy = Vec::new(alloc);
+        match copy.extend_from_slice(bytes) {
+            Ok(()) => copy,
+            Err(_) => {
+                self.failed = true;
+                copy
+            }
+        }
+    }
+
+    // Makes these the codes that are gathered of a key.
+    fn set(&mut self, key: &Digest, codes: Vec<Vec<u8>>)
+        ensures { Once self.old self.new (Sets self.old.groups key.now.0 (Some codes) self.new.groups) }
+    {
+        match self.groups.insert(key.0, codes) {
+            Ok(_) => {}
+            Err(_) => self.failed = true,
         }
     }
 
     // Makes the group of this key one that changes, while no codes are gathered.
-    pub(crate) fn add(&mut self, alloc: Global, key: &Digest) -> Result<(), AllocError>
-        ensures here { OnOk result (Has self.new key.now.0) }
-        ensures others { OnOk result ((k : List ℕ) → Has self.old k → Has self.new k) }
-        ensures bare { OnOk result (Holds self.old [] → Holds self.new []) }
-        ensures only { OnOk result ((k : List ℕ) → Has self.new k → Has self.old k ⊎ (k ≡ key.now.0)) }
+    pub(crate) fn add(&mut self, alloc: Global, key: &Digest)
+        ensures { Once self.old self.new (Adds self.old self.new key.now.0) }
     {
-        self.groups.insert(key.0, Vec::new(alloc))?;
-        Ok(())
+        self.set(key, Vec::new(alloc));
     }
 
     // Gathers the code of a row with this key, where its group changes.
-    pub(crate) fn put(&mut self, alloc: Global, key: &Digest, code: &[u8]) -> Result<(), AllocError>
-        ensures others { OnOk result ((k : List ℕ) → Has self.old k → Has self.new k) }
-        ensures only { OnOk result ((k : List ℕ) → Has self.new k → Has self.old k) }
-        ensures holds { OnOk result ((ps : List Pair) → Holds self.old ps → Holds self.new (ps ++ (key.now.0, code.now) ∷ [])) }
+    pub(crate) fn put(&mut self, alloc: Global, key: &Digest, code: &[u8])
+        ensures { Once self.old self.new (Puts self.old self.new ((key.now.0, code.now) ∷ [])) }
     {
         match self.groups.remove(&key.0) {
-            Some(mut codes) => {
-                let copy = copy_of(alloc, code)?;
-                codes.push(copy)?;
-                self.groups.insert(key.0, codes)?;
-                Ok(())
+            Some(codes) => {
+                let mut codes = codes;
+                let copy = self.copy_of(alloc, code);
+                self.keep(&mut codes, copy);
+                self.set(key, codes);
             }
-            None => Ok(()),
+            None => {}
         }
     }
 
@@ -80,15 +124,6 @@ impl Changed {
         }
         Ok(groups)
     }
-}
-
-// These bytes, with new memory.
-fn copy_of(alloc: Global, bytes: &[u8]) -> Result<Vec<u8>, AllocError>
-    ensures { IfOk result (λ v. v.items ≡ bytes.now) }
-{
-    let mut copy = Vec::new(alloc);
-    copy.extend_from_slice(bytes)?;
-    Ok(copy)
 }
 
 // The group of this key with these codes, in any order. Its digest is one more step, where it has rows.

@@ -1,14 +1,14 @@
 // A state that a run starts from, and the next one.
-ghost use Rattle.std.specs.Prelude.{◌≡◌, ◌≤◌, ◌<◌, ◌-◌, ◌/◌, [], List, ℕ, drop, length, map, IfOk, OnOk};
+ghost use Rattle.std.specs.Prelude.{◌≡◌, ◌≤◌, ◌<◌, ◌-◌, ◌/◌, [], List, drop, length, map, IfOk, OnOk};
 ghost use Rattle.calculus.specs.Order.{sorted};
 ghost use Rattle.calculus.specs.Root.{root};
 ghost use Rattle.calculus.specs.Rows.{row_code as code_of_row};
 ghost use Rattle.checkpoint.specs.Kept.{AreKept};
 ghost use Rattle.checkpoint.specs.Made.{AreFor, AreMade, no_codes};
 ghost use Rattle.radix_root.specs.Leaves.{Keeps, groups_of};
-ghost use Rattle.states.specs.States.{state_text};
+ghost use Rattle.events.specs.States.{state_text};
 ghost use Rattle.next_states.specs.Pairs.{Pair, groups_in, OfState};
-ghost use Rattle.next_states.specs.Walks.{Covers, Has, Holds, pair_in};
+ghost use Rattle.next_states.specs.Walks.{Covers, Has, Holds, Once, Puts, pair_in};
 
 use crate::changed::Changed;
 use crate::walk::{Keyed, compared};
@@ -78,8 +78,7 @@ impl KnownState {
         ensures root { IfOk result (λ s. s.root.0 ≡ root rows.items) }
         ensures text { IfOk result (λ s. s.text.items ≡ state_text rows.items) }
     {
-        let state = next_in::<Brand>(alloc, self, rows, Blank::new(1))?;
-        Ok(state)
+        next_in::<Brand>(alloc, self, rows, Blank::new(1))
     }
 
     /// The same. Each digest of a group or of a node above them is one more step.
@@ -100,8 +99,7 @@ impl KnownState {
             length base < length rows.items / 2 → AreMade no_codes (groups_of rows.items) (steps.new - steps.old))) }
     {
         if rows.len() / 2 > self.marks.len() {
-            let state = made_state(alloc, rows, steps)?;
-            return Ok(state);
+            return made_state(alloc, rows, steps);
         }
         let (root, keyed) = next_root(alloc, self, rows, steps)?;
         let codes = codes_of(alloc, keyed)?;
@@ -124,8 +122,7 @@ fn next_in<L: Ledger>(
     ensures text { IfOk result (λ s. s.text.items ≡ state_text rows.items) }
 {
     let mut steps = Steps::<L>::new(blank);
-    let state = known.counted_next_state(alloc, rows, &mut steps)?;
-    Ok(state)
+    known.counted_next_state(alloc, rows, &mut steps)
 }
 
 // The root of these rows, and their codes, ascending.
@@ -168,22 +165,21 @@ fn changed_tree<L: Ledger>(
     ensures made { OnOk result (AreFor (Has changed) (steps.new - steps.old)) }
 {
     let mut changed = changed;
-    gather(alloc, &mut changed, keyed)?;
+    gather(alloc, &mut changed, keyed);
+    if changed.has_failed() {
+        return Err(AllocError);
+    }
     let groups = changed.into_groups(alloc, steps)?;
-    let next = tree.with_groups(alloc, groups.as_slice(), steps)?;
-    Ok(next)
+    tree.with_groups(alloc, groups.as_slice(), steps)
 }
 
 // Gathers these codes, as far as their groups change.
-fn gather(alloc: Global, changed: &mut Changed, keyed: &[Keyed]) -> Result<(), AllocError>
-    ensures holds { OnOk result (Holds changed.old [] → Holds changed.new (map pair_in keyed.now)) }
-    ensures others { OnOk result ((k : List ℕ) → Has changed.old k → Has changed.new k) }
-    ensures only { OnOk result ((k : List ℕ) → Has changed.new k → Has changed.old k) }
+fn gather(alloc: Global, changed: &mut Changed, keyed: &[Keyed])
+    ensures { Once changed.old changed.new (Puts changed.old changed.new (map pair_in keyed.now)) }
 {
     for row in keyed {
-        changed.put(alloc, &row.key, row.code.as_slice())?;
+        changed.put(alloc, &row.key, row.code.as_slice());
     }
-    Ok(())
 }
 
 // These codes without their keys.

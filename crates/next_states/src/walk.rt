@@ -1,12 +1,10 @@
 // A walk over the rows of a base and those of the next state, both in the order of their codes. That it finds each
 // group that changes is right in any order; in this one it finds no other.
-ghost use Rattle.std.specs.Prelude.{◌≡◌, [], ℕ, List, None, map, All, IfOk, IfSome, OnOk, IsPermutation};
-ghost use Rattle.calculus.specs.Order.{IsAscending, IsBelowFirst};
-ghost use Rattle.calculus.specs.Root.{key};
+ghost use Rattle.std.specs.Prelude.{◌≡◌, [], ℕ, List, map, All, IfOk, IsPermutation};
+ghost use Rattle.calculus.specs.Order.{IsAscending};
 ghost use Rattle.calculus.specs.Storing.{IsStorable};
-ghost use Rattle.next_states.specs.Pairs.{Pair, pair_of, seconds, IsChanged, TellsKey, cut_by};
-ghost use Rattle.next_states.specs.Walks.{Agrees, Covers, Finds, Has, Holds, IsCoded, Stands, coded_pairs, pair_in, pairs_left, row_of};
-ghost use Rattle.next_states.specs.Walks.{FindsRow, FindsRows, IsKeyOf, TakesRow, TakesRows};
+ghost use Rattle.next_states.specs.Pairs.{pair_of, seconds, IsChanged, TellsKey, cut_by};
+ghost use Rattle.next_states.specs.Walks.{Covers, Has, Holds, IsCoded, Once, Passes, Takes, TakesAll, pair_in, row_of};
 
 use crate::changed::Changed;
 use crate::left::Left;
@@ -38,45 +36,35 @@ pub(crate) struct Walk<'a> {
 
 impl<'a> Walk<'a> {
     // Passes the rows of the base whose codes are less than this, or all: their groups change.
-    fn pass_below(&mut self, alloc: Global, code: Option<&[u8]>) -> Result<(), AllocError>
-        ensures agrees { OnOk result ((all done : List Pair) → Agrees self.old all done → Agrees self.new all done) }
-        ensures all { OnOk result (code.entry ≡ None → pairs_left self.new.left ≡ []) }
-        ensures finds { OnOk result ((all done next : List Pair) → Stands code.entry next →
-            Finds self.old all done next → Finds self.new all done next) }
-        ensures least { OnOk result (IfSome code.entry (λ c. IsBelowFirst c.now (seconds (pairs_left self.new.left)))) }
+    fn pass_below(&mut self, alloc: Global, code: Option<&[u8]>)
+        ensures { Once self.old.changed self.new.changed (Passes code.entry self.old self.new) }
     {
         'below: while self.left.is_below(code) {
             let key = self.left.pass();
-            self.changed.add(alloc, &key)?;
+            self.changed.add(alloc, &key);
         }
-        Ok(())
     }
 
     // The key of the next row's group: that of the base's row with this code, and else its group changes.
-    fn take(&mut self, alloc: Global, coded: &Coded<'_>) -> Result<Digest, AllocError>
-        ensures agrees { OnOk result (TakesRow coded.now self.old self.new) }
-        ensures key { IfOk result (IsKeyOf coded.now self.old) }
-        ensures finds { OnOk result (FindsRow coded.now self.old self.new) }
-    {
-        self.pass_below(alloc, Some(coded.code.as_slice()))?;
-        let key = self.take_next(alloc, coded)?;
-        Ok(key)
-    }
-
-    // The same, where the rows of the base whose codes are less are passed.
-    fn take_next(&mut self, alloc: Global, coded: &Coded<'_>) -> Result<Digest, AllocError>
-        ensures agrees { OnOk result (TakesRow coded.now self.old self.new) }
-        ensures key { IfOk result (IsKeyOf coded.now self.old) }
-        ensures finds { OnOk result (IsBelowFirst coded.now.code.items (seconds (pairs_left self.old.left)) →
-            FindsRow coded.now self.old self.new) }
+    fn take(&mut self, alloc: Global, coded: &Coded<'_>) -> Digest
+        ensures { Once self.old.changed self.new.changed (Takes coded.now self.old self.new result) }
     {
         known_storable(coded.row);
-        if self.left.is_next(coded.code.as_slice()) {
-            return Ok(self.left.pass());
+        let code = coded.code.as_slice();
+        self.pass_below(alloc, Some(code));
+        if self.left.is_next(code) {
+            return self.left.pass();
         }
-        let key = row_key(alloc, coded.row)?;
-        self.changed.add(alloc, &key)?;
-        Ok(key)
+        match row_key(alloc, coded.row) {
+            Ok(key) => {
+                self.changed.add(alloc, &key);
+                key
+            }
+            Err(_) => {
+                self.changed.fail();
+                Digest([0; 32])
+            }
+        }
     }
 }
 
@@ -112,24 +100,16 @@ fn rows_by_code<'a>(alloc: Global, rows: &'a [Row]) -> Result<Vec<Coded<'a>>, Al
 }
 
 // The codes of these rows with their keys, as the walk goes on over them.
-fn keyed_codes(
-    alloc: Global,
-    walk: &mut Walk<'_>,
-    rows: Vec<Coded<'_>>,
-) -> Result<Vec<Keyed>, AllocError>
-    requires { All IsCoded rows.items }
-    ensures pairs { IfOk result (λ v. (all : List Pair) → Agrees walk.old all [] →
-        map pair_in v.items ≡ coded_pairs rows.entry.items) }
-    ensures agrees { OnOk result (TakesRows rows.entry.items walk.old walk.new) }
-    ensures finds { OnOk result (FindsRows rows.entry.items walk.old walk.new) }
+fn keyed_codes(alloc: Global, walk: &mut Walk<'_>, rows: Vec<Coded<'_>>) -> Vec<Keyed>
+    ensures { Once walk.old.changed walk.new.changed (TakesAll rows.entry.items walk.old walk.new result.items) }
 {
     let mut keyed = Vec::new(alloc);
     for coded in rows {
-        let key = walk.take(alloc, &coded)?;
+        let key = walk.take(alloc, &coded);
         let Coded { code, .. } = coded;
-        keyed.push(Keyed { key, code })?;
+        walk.changed.keep(&mut keyed, Keyed { key, code });
     }
-    Ok(keyed)
+    keyed
 }
 
 // The codes of these rows, ascending, with their keys, and the groups that change from a base with these marks and
@@ -152,7 +132,10 @@ pub(crate) fn compared(
     let changed = Changed::new(alloc);
     let left = Left { marks, text };
     let mut walk = Walk { left, changed };
-    let keyed = keyed_codes(alloc, &mut walk, coded)?;
-    walk.pass_below(alloc, None)?;
+    let keyed = keyed_codes(alloc, &mut walk, coded);
+    walk.pass_below(alloc, None);
+    if walk.changed.has_failed() {
+        return Err(AllocError);
+    }
     Ok((keyed, walk.changed))
 }

@@ -1,8 +1,14 @@
--- What is so of each thing is so of each that is numbered.
-use Rattle.std.proofs.Common.{List, [], ◌∷◌, map as each}
+-- What is so of things at all numbers is so of each with its own, and what work came to.
+use Rattle.std.proofs.Common.{ℕ, List, [], ◌∷◌, map as each}
+use Rattle.std.specs.Prelude.{Result, Ok, Err, IfOk}
 use Rattle.std.specs.List.{All}
 use Rattle.std.proofs.lemmas.List.Elements.{All-nil, All-cons, All-head, All-tail}
 
-pub each-back : {A B : Type 0} (P : B → Type 0) (f : A → B) (xs : List A) → All P (each f xs) → All (λ x. P (f x)) xs
-each-back P f [] h = All-nil (λ x. P (f x))
-each-back P f (x ∷ xs) h = All-cons (λ x. P (f x)) x xs (All-head P (f x) (each f xs) h) (each-back P f xs (All-tail P (f x) (each f xs) h))
+pub each-numbered : {A : Type 0} (P : ℕ → A → Type 0) (js : List (ℕ × A)) → ((n : ℕ) → All (P n) (each (λ j. j.1) js)) → All (λ j. P j.0 j.1) js
+each-numbered P [] h = All-nil (λ j. P j.0 j.1)
+each-numbered P (j ∷ js) h = All-cons (λ j. P j.0 j.1) j js (All-head (P j.0) j.1 (each (λ j. j.1) js) (h j.0)) (each-numbered P js (λ n. All-tail (P n) j.1 (each (λ j. j.1) js) (h n)))
+
+-- two facts of a result at once
+pub both-ok : {A E : Type 0} (r : Result A E) (P Q : A → Type 0) → IfOk r P → IfOk r Q → IfOk r (λ x. P x × Q x)
+both-ok (Ok x) P Q h k = (h, k)
+both-ok (Err e) P Q h k = tt

@@ -1,8 +1,9 @@
-//! Who works side by side, and things with their numbers, for workers side by side.
+//! Who works side by side, and work that is done side by side.
 #![tactic(auto)]
 
 pub mod crew;
-pub mod numbering;
+mod numbering;
+pub mod threads;
 
 pub use crew::Crew;
-pub use numbering::numbered;
+pub use threads::side_by_side;

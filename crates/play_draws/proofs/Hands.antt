@@ -10,11 +10,11 @@ use Rattle.hub_rule.specs.Meaning.{Passes, AllFollow}
 use Rattle.hub_rule.specs.Rule.{Carries}
 use Rattle.found_rows.specs.declared.found.Found.{Found}
 use Rattle.found_rows.specs.AtHand.{MeetsAtHand}
-use Rattle.run_entries.specs.Entries.{Making, price_in, steps_in, steps_of}
-use Rattle.run_entries.specs.Allowed.{IdsTell, rows_at_hand, MeetsNothing}
+use Rattle.events.specs.Entries.{Making, price_in, steps_in, steps_of}
+use Rattle.events.specs.Allowed.{IdsTell, rows_at_hand, MeetsNothing}
 use Rattle.shard_tables.specs.Hands.{AreInHand, AreMade, GainsRow, LosesRows}
-use Rattle.play_scene.specs.Plays.{entries_of, most_price, IsPriced}
-use Rattle.play_scene.specs.Scene.{IsShownHere, MayBecome}
+use Rattle.hub_scenes.specs.Plays.{entries_of, most_price, IsPriced}
+use Rattle.hub_scenes.specs.PlayScene.{IsShownHere, MayBecome}
 use Rattle.play_hub.specs.declared.entry.PlayEntry.{PlayEntry}
 use Rattle.play_hub.specs.Values.{making_of, entry_of, has_bit, hub_meaning}
 use Rattle.play_hub.specs.Endings.{play_of}

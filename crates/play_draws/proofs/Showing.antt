@@ -14,8 +14,8 @@ use Rattle.events.specs.Found.{has_built_in_id, printed_by, step_of}
 use Rattle.found_rows.specs.declared.found.Found.{Found}
 use Rattle.found_rows.specs.AtHand.{MeetsAtHand}
 use Rattle.found_rows.specs.Making.{step_with, times_made, printed_line}
-use Rattle.run_entries.specs.Allowed.{MakesStep}
-use Rattle.play_scene.specs.Scene.{IsShownHere}
+use Rattle.events.specs.Allowed.{MakesStep}
+use Rattle.hub_scenes.specs.PlayScene.{IsShownHere}
 use Rattle.play_hub.specs.declared.entry.PlayEntry.{PlayEntry}
 use Rattle.play_hub.specs.Values.{making_of}
 use Rattle.play_draws.specs.declared.making.Ready.{Ready}

@@ -11,8 +11,8 @@ use Rattle.event_log.specs.View.{step_of}
 use Rattle.hub_rule.specs.Counts.{things_of}
 use Rattle.found_rows.specs.declared.found.Found.{Found}
 use Rattle.found_rows.specs.Making.{step_with, times_made, printed_line}
-use Rattle.run_entries.specs.Entries.{Making, steps_of}
-use Rattle.play_scene.specs.Plays.{entries_of, most_price}
+use Rattle.events.specs.Entries.{Making, steps_of}
+use Rattle.hub_scenes.specs.Plays.{entries_of, most_price}
 use Rattle.play_hub.specs.declared.entry.PlayEntry.{PlayEntry}
 use Rattle.play_hub.specs.Values.{entry_of}
 use Rattle.play_hub.specs.Endings.{play_of}

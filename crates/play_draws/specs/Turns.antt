@@ -9,10 +9,10 @@ use Rattle.hub_rule.specs.Rule.{Carries, kept_if}
 use Rattle.group_locks.specs.Seats.{home_of, drawn_by, tally_of, pile_of, taken_by, offered_by, took_by, due_of, empty_of, over_of, stops_of, SameRoom}
 use Rattle.found_rows.specs.declared.found.Found.{Found}
 use Rattle.found_rows.specs.AtHand.{MeetsAtHand}
-use Rattle.run_entries.specs.Allowed.{IdsTell, MeetsNothing, rows_at_hand}
-use Rattle.shard_rows.specs.Hands.{shows}
+use Rattle.events.specs.Allowed.{IdsTell, MeetsNothing, rows_at_hand}
+use Rattle.events.specs.Hands.{shows}
 use Rattle.shard_tables.specs.Hands.{AreInHand}
-use Rattle.play_scene.specs.Plays.{capped_price, has_fault}
+use Rattle.hub_scenes.specs.Plays.{capped_price, has_fault}
 use Rattle.play_hub.specs.declared.entry.PlayEntry.{PlayEntry}
 use Rattle.play_hub.specs.Values.{entry_of, has_bit, hub_meaning}
 use Rattle.play_draws.specs.Making.{IsAgain, IsReady}

@@ -9,16 +9,16 @@ use Rattle.calculus.specs.Runs.{Deploy, Work}
 use Rattle.events.specs.Found.{Among}
 use Rattle.events.proofs.Making.{among, member}
 use Rattle.hub_rule.specs.Counts.{one_if, count, Each}
-use Rattle.run_entries.specs.Entries.{Making, steps_of}
-use Rattle.run_entries.specs.Allowed.{AreAmong, MakesStep}
-use Rattle.shard_rows.specs.Shards.{stands_in}
-use Rattle.shard_rows.specs.Hands.{hears, shows, rows_of_all, is_in_hand}
-use Rattle.shard_rows.proofs.Standing.{any-true, any-one}
-use Rattle.play_scene.specs.Plays.{entries_of}
-use Rattle.play_scene.specs.Scene.{IsShownHere}
-use Rattle.play_scene.specs.Pulled.{seen_at}
-use Rattle.play_scene.proofs.Apart.{hand-more, tell-fewer}
-use Rattle.scene_laws.proofs.Carrying.{Now, now_of, carried}
+use Rattle.events.specs.Entries.{Making, steps_of}
+use Rattle.events.specs.Allowed.{AreAmong, MakesStep}
+use Rattle.events.specs.Shards.{stands_in}
+use Rattle.events.specs.Hands.{hears, shows, rows_of_all, is_in_hand}
+use Rattle.events.proofs.ShardStanding.{any-true, any-one}
+use Rattle.hub_scenes.specs.Plays.{entries_of}
+use Rattle.hub_scenes.specs.PlayScene.{IsShownHere}
+use Rattle.hub_scenes.specs.PlayPulled.{seen_at}
+use Rattle.hub_scenes.proofs.Apart.{hand-more, tell-fewer}
+use Rattle.hub_scenes.proofs.Carrying.{Now, now_of, carried}
 use Rattle.play_hub.specs.Values.{entry_of, hub_meaning}
 use Rattle.play_hub.specs.Endings.{play_of}
 use Rattle.hub_rule.specs.Rule.{Carries}

@@ -6,17 +6,17 @@ use Rattle.std.proofs.Math.Nat.{min-eq_left}
 use Rattle.calculus.specs.Rows.{Row}
 use Rattle.calculus.specs.Steps.{is_one_of, differ}
 use Rattle.calculus.specs.Runs.{Deploy, Work}
-use Rattle.fresh_digests.specs.Premises.{Collides}
-use Rattle.events.specs.Laws.{Begins}
+use Rattle.events.specs.Premises.{Collides}
+use Rattle.events.specs.EventLaws.{Begins}
 use Rattle.hub_rule.specs.Counts.{total}
 use Rattle.hub_rule.specs.Meaning.{Ran}
-use Rattle.run_entries.specs.Entries.{price_in, prices_of, steps_of}
-use Rattle.run_entries.specs.Allowed.{ShowsAnId}
-use Rattle.play_scene.specs.Plays.{entries_of, most_price, IsPriced, IsPlay}
-use Rattle.play_scene.specs.Scene.{play_meaning}
-use Rattle.play_scene.specs.Laws.{RanPlay, by_fault, by_limit, PlaysRun}
-use Rattle.play_scene.proofs.Ending.{hubs_draw_plays, hubs_play_or_show_an_id}
-use Rattle.play_scene.proofs.Pulled.{ran-known, ran-seen, fault-seen, total-seen}
+use Rattle.events.specs.Entries.{price_in, prices_of, steps_of}
+use Rattle.events.specs.Allowed.{ShowsAnId}
+use Rattle.hub_scenes.specs.Plays.{entries_of, most_price, IsPriced, IsPlay}
+use Rattle.hub_scenes.specs.PlayScene.{play_meaning}
+use Rattle.hub_scenes.specs.PlayLaws.{RanPlay, by_fault, by_limit, PlaysRun}
+use Rattle.hub_scenes.proofs.Ending.{hubs_draw_plays, hubs_play_or_show_an_id}
+use Rattle.hub_scenes.proofs.PlayPulled.{ran-known, ran-seen, fault-seen, total-seen}
 use Rattle.play_hub.specs.declared.entry.PlayEntry.{PlayEntry}
 use Rattle.play_hub.specs.Values.{entry_of, hub_meaning}
 use Rattle.play_hub.specs.Endings.{play_of, ComesToAPlay, ComesToAPlayFromNothing, ArePriced, HubsComeToPlays, CausesEndHubs}

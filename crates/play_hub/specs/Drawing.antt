@@ -4,12 +4,12 @@ use Rattle.calculus.specs.Rows.{Row}
 use Rattle.calculus.specs.Runs.{Deploy, Work}
 use Rattle.hub_rule.specs.Meaning.{Passes, AllFollow}
 use Rattle.hub_rule.specs.Rule.{Carries}
-use Rattle.run_entries.specs.Entries.{steps_of}
-use Rattle.run_entries.specs.Allowed.{IdsTell, rows_at_hand}
-use Rattle.shard_rows.specs.Hands.{shows}
+use Rattle.events.specs.Entries.{steps_of}
+use Rattle.events.specs.Allowed.{IdsTell, rows_at_hand}
+use Rattle.events.specs.Hands.{shows}
 use Rattle.shard_tables.specs.Hands.{AreInHand}
-use Rattle.play_scene.specs.Plays.{entries_of, IsPriced}
-use Rattle.play_scene.specs.Scene.{IsShownHere}
+use Rattle.hub_scenes.specs.Plays.{entries_of, IsPriced}
+use Rattle.hub_scenes.specs.PlayScene.{IsShownHere}
 use Rattle.play_hub.specs.declared.entry.PlayEntry.{PlayEntry}
 use Rattle.play_hub.specs.Values.{entry_of, hub_meaning}
 use Rattle.play_hub.specs.Endings.{play_of}

@@ -3,15 +3,15 @@ use Rattle.std.specs.Prelude.{◌≡◌, ◌<◌, ◌⊎◌, ℕ, ◌+◌, true,
 use Rattle.calculus.specs.Rows.{Row}
 use Rattle.calculus.specs.Steps.{differ}
 use Rattle.calculus.specs.Runs.{Deploy, Work, work_price}
-use Rattle.fresh_digests.specs.Premises.{FitsInTexts, Collides}
+use Rattle.events.specs.Premises.{FitsInTexts, Collides}
 use Rattle.hub_rule.specs.Counts.{total}
 use Rattle.hub_rule.specs.Meaning.{Ran}
 use Rattle.hub_rule.specs.Stops.{FaultOf}
-use Rattle.run_entries.specs.Entries.{prices_of, steps_of}
-use Rattle.run_entries.specs.Allowed.{ShowsAnId}
-use Rattle.events.specs.Laws.{Begins}
-use Rattle.play_scene.specs.Plays.{TouchingEntry, entries_of, IsPriced, IsPlay}
-use Rattle.play_scene.specs.Laws.{HasEnded, PlaysRun}
+use Rattle.events.specs.Entries.{prices_of, steps_of}
+use Rattle.events.specs.Allowed.{ShowsAnId}
+use Rattle.events.specs.EventLaws.{Begins}
+use Rattle.hub_scenes.specs.Plays.{TouchingEntry, entries_of, IsPriced, IsPlay}
+use Rattle.hub_scenes.specs.PlayLaws.{HasEnded, PlaysRun}
 use Rattle.play_hub.specs.declared.entry.PlayEntry.{PlayEntry}
 use Rattle.play_hub.specs.Values.{entry_of, hub_meaning}
 

@@ -8,14 +8,14 @@ use Rattle.calculus.specs.Rows.{Row}
 use Rattle.calculus.specs.Outcome.{over}
 use Rattle.calculus.specs.Runs.{Deploy, Work, deploy_of}
 use Rattle.hub_rule.specs.Meaning.{Meaning, Lawful}
-use Rattle.run_entries.specs.Entries.{Making}
+use Rattle.events.specs.Entries.{Making}
 use Rattle.event_log.specs.View.{step_of}
-use Rattle.events.specs.Laws.{Begins}
-use Rattle.play_scene.specs.Plays.{TouchingEntry, IsPriced}
-use Rattle.play_scene.specs.Scene.{play_meaning}
-use Rattle.play_scene.specs.Pulled.{pulled}
-use Rattle.play_scene.proofs.Telling.{play_is_lawful}
-use Rattle.play_scene.proofs.Pulled.{lawful-seen}
+use Rattle.events.specs.EventLaws.{Begins}
+use Rattle.hub_scenes.specs.Plays.{TouchingEntry, IsPriced}
+use Rattle.hub_scenes.specs.PlayScene.{play_meaning}
+use Rattle.hub_scenes.specs.PlayPulled.{pulled}
+use Rattle.hub_scenes.proofs.PlayTelling.{play_is_lawful}
+use Rattle.hub_scenes.proofs.PlayPulled.{lawful-seen}
 use Rattle.play_hub.specs.declared.entry.MadeStep.{MadeStep}
 use Rattle.play_hub.specs.declared.entry.PlayEntry.{PlayEntry}
 

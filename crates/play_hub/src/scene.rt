@@ -1,6 +1,6 @@
 //! The scene.
 ghost use Rattle.std.specs.Prelude.{List};
-ghost use Rattle.play_scene.specs.Plays.{TouchingEntry};
+ghost use Rattle.hub_scenes.specs.Plays.{TouchingEntry};
 ghost use Rattle.play_hub.specs.Values.{hub_meaning, hub_lawful};
 
 use crate::entry::PlayEntry;

@@ -11,11 +11,11 @@ use Rattle.calculus.specs.Runs.{Deploy, Work, work_fault, IsRun, Verdict, done, 
 use Rattle.event_log.specs.View.{step_of}
 use Rattle.events.specs.Events.{AreFresh}
 use Rattle.events.specs.Found.{Among}
-use Rattle.run_entries.specs.Entries.{Space, faults_of, first_fault, total_of, verdict_of as entries_verdict, cost_of}
-use Rattle.run_entries.specs.Allowed.{ComesTo}
-use Rattle.run_verdict.specs.View.{verdict_of}
+use Rattle.events.specs.Entries.{Space, faults_of, first_fault, total_of, verdict_of as entries_verdict, cost_of}
+use Rattle.events.specs.Allowed.{ComesTo}
+use Rattle.replays.specs.View.{verdict_of}
 use Rattle.shard_tables.specs.Hands.{AreShardsOf, IdsDiffer}
-use Rattle.play_scene.specs.Plays.{entries_of, space_after_all}
+use Rattle.hub_scenes.specs.Plays.{entries_of, space_after_all}
 use Rattle.play_hub.specs.declared.entry.PlayEntry.{PlayEntry}
 use Rattle.play_hub.specs.Endings.{play_of}
 use Rattle.play_outcome.specs.declared.tally.Tally.{Tally}

@@ -6,10 +6,10 @@ use Rattle.calculus.specs.declared.fault.FaultKind.{FaultKind}
 use Rattle.calculus.specs.Rows.{Row}
 use Rattle.calculus.specs.Runs.{Deploy, Work, work_price, work_fault, done, exhausted}
 use Rattle.hub_rule.specs.Stops.{FaultOf}
-use Rattle.run_entries.specs.Entries.{Making, price_in, prices_of, faults_in, faults_of, first_fault, total_of, verdict_of}
-use Rattle.play_scene.specs.Plays.{TouchingEntry, entries_of, capped_price, has_fault, space_after_all}
-use Rattle.play_scene.specs.Scene.{play_meaning}
-use Rattle.play_scene.specs.Laws.{charges_of, HasEnded, all_done, by_fault, by_limit}
+use Rattle.events.specs.Entries.{Making, price_in, prices_of, faults_in, faults_of, first_fault, total_of, verdict_of}
+use Rattle.hub_scenes.specs.Plays.{TouchingEntry, entries_of, capped_price, has_fault, space_after_all}
+use Rattle.hub_scenes.specs.PlayScene.{play_meaning}
+use Rattle.hub_scenes.specs.PlayLaws.{charges_of, HasEnded, all_done, by_fault, by_limit}
 use Rattle.play_outcome.specs.Runs.{EndedPlay}
 
 -- before the first fault, no step's body faults

@@ -13,15 +13,15 @@ use Rattle.calculus.specs.Steps.{differ, stored_rows}
 use Rattle.calculus.specs.Runs.{Deploy, Work}
 use Rattle.events.specs.Found.{Among}
 use Rattle.events.proofs.Counts.{ids, AreDistinct, distinct-differ}
-use Rattle.events.proofs.Following.{store-distinct}
+use Rattle.events.proofs.EventFollowing.{store-distinct}
 use Rattle.events.proofs.Orders.{member-moved}
-use Rattle.events.proofs.Standing.{ids-times}
-use Rattle.run_entries.specs.Entries.{Space}
-use Rattle.run_entries.specs.Allowed.{ComesTo, core_of}
-use Rattle.run_entries.proofs.Holding.{Held, held as held-after}
+use Rattle.events.proofs.EventStanding.{ids-times}
+use Rattle.events.specs.Entries.{Space}
+use Rattle.events.specs.Allowed.{ComesTo, core_of}
+use Rattle.events.proofs.EntryHolding.{Held, held as held-after}
 use Rattle.process_laws.proofs.StorableStaying.{storable_rows_stay}
-use Rattle.play_scene.specs.Plays.{TouchingEntry, entries_of, space_after_all}
-use Rattle.play_scene.proofs.Drawing.{plays_are_allowed}
+use Rattle.hub_scenes.specs.Plays.{TouchingEntry, entries_of, space_after_all}
+use Rattle.hub_scenes.proofs.Drawing.{plays_are_allowed}
 use Rattle.play_outcome.specs.Runs.{EndedPlay}
 
 -- a list of as many is not empty either

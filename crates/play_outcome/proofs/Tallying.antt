@@ -6,11 +6,11 @@ use Rattle.std.proofs.lemmas.List.Elements.{All-nil, All-cons, All-append}
 use Rattle.calculus.specs.declared.fault.FaultKind.{FaultKind}
 use Rattle.calculus.specs.Runs.{Verdict, done, exhausted, faulted, at_fault, step_of_work}
 use Rattle.event_log.specs.View.{step_of, TakesInRange}
-use Rattle.run_entries.specs.Entries.{Making, Entry, steps_in, steps_of, faults_in, faults_of, line_in, lines_of, first_fault}
-use Rattle.run_entries.specs.Laws.{AddsUp}
-use Rattle.run_entries.proofs.Growing.{one_more_entry_adds_up}
-use Rattle.run_verdict.specs.View.{verdict_of}
-use Rattle.play_scene.specs.Plays.{entries_of}
+use Rattle.events.specs.Entries.{Making, Entry, steps_in, steps_of, faults_in, faults_of, line_in, lines_of, first_fault}
+use Rattle.events.specs.EntryLaws.{AddsUp}
+use Rattle.events.proofs.Growing.{one_more_entry_adds_up}
+use Rattle.replays.specs.View.{verdict_of}
+use Rattle.hub_scenes.specs.Plays.{entries_of}
 use Rattle.play_hub.specs.declared.entry.MadeStep.{MadeStep}
 use Rattle.play_hub.specs.declared.entry.PlayEntry.{PlayEntry}
 use Rattle.play_hub.specs.Values.{making_of, entry_of}

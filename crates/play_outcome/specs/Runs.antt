@@ -5,8 +5,8 @@ use Rattle.calculus.specs.Log.{Step}
 use Rattle.calculus.specs.Steps.{stored_rows}
 use Rattle.calculus.specs.Runs.{Deploy, Work, State, IsRun, Verdict, done, exhausted, verdict, cost}
 use Rattle.events.specs.Events.{AreFresh}
-use Rattle.play_scene.specs.Plays.{TouchingEntry, IsPlay}
-use Rattle.play_scene.specs.Laws.{HasEnded, PlaysRun}
+use Rattle.hub_scenes.specs.Plays.{TouchingEntry, IsPlay}
+use Rattle.hub_scenes.specs.PlayLaws.{HasEnded, PlaysRun}
 
 -- Entries that might be drawn one after another, of a hub that has ended, and its closed shards: with what was left on desks and in hands they come to a run.
 pub record EndedPlay (deploy : Deploy) (source : Work) (es : List TouchingEntry) (closed : List (List Row)) : Type 0 where

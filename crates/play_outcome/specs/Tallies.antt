@@ -2,9 +2,9 @@
 use Rattle.std.specs.Prelude.{◌≡◌, [], ◌∷◌, ◌++◌, List, map as each, Option, All, IfOk, Result}
 use Rattle.calculus.specs.declared.fault.FaultKind.{FaultKind}
 use Rattle.event_log.specs.View.{step_of, TakesInRange}
-use Rattle.run_entries.specs.Entries.{steps_of, faults_of, lines_of, first_fault}
-use Rattle.run_verdict.specs.View.{verdict_of}
-use Rattle.play_scene.specs.Plays.{entries_of}
+use Rattle.events.specs.Entries.{steps_of, faults_of, lines_of, first_fault}
+use Rattle.replays.specs.View.{verdict_of}
+use Rattle.hub_scenes.specs.Plays.{entries_of}
 use Rattle.play_hub.specs.declared.entry.PlayEntry.{PlayEntry}
 use Rattle.play_hub.specs.Endings.{play_of}
 use Rattle.play_outcome.specs.declared.tally.Tally.{Tally}

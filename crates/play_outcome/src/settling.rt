@@ -2,11 +2,11 @@
 ghost use Rattle.std.specs.Prelude.{◌≡◌, ◌≢◌, [], List, length, IfOk, IsPermutation};
 ghost use Rattle.calculus.specs.Rows.{channels, Row as Stored};
 ghost use Rattle.events.specs.Found.{Among};
-ghost use Rattle.run_verdict.specs.View.{verdict_of};
+ghost use Rattle.replays.specs.View.{verdict_of};
 ghost use Rattle.shard_tables.specs.Hands.{AreShardsOf, IdsDiffer};
 ghost use Rattle.play_outcome.specs.Runs.{charge_at, verdict_at};
 
-use run_verdict::Verdict;
+use replays::Verdict;
 use shard_tables::ShardTables;
 use space_row::Row;
 use std::alloc::{AllocError, Global};

@@ -1,16 +1,16 @@
 //! What the entries of a play tell, added up in their order.
 ghost use Rattle.std.specs.Prelude.{◌≡◌, ◌<◌, ◌^◌, ℕ, Option, Some, length, IfOk};
 ghost use Rattle.calculus.specs.Runs.{at_fault, done, step_of_work};
-ghost use Rattle.run_entries.specs.Entries.{steps_of};
-ghost use Rattle.run_verdict.specs.View.{verdict_of};
-ghost use Rattle.play_scene.specs.Plays.{entries_of};
+ghost use Rattle.events.specs.Entries.{steps_of};
+ghost use Rattle.replays.specs.View.{verdict_of};
+ghost use Rattle.hub_scenes.specs.Plays.{entries_of};
 ghost use Rattle.play_hub.specs.Endings.{play_of};
 ghost use Rattle.play_outcome.specs.Tallies.{IsTally, Tallies};
 
 use calculus::FaultKind;
 use event_log::LogStep;
 use play_hub::{MadeStep, PlayEntry};
-use run_verdict::Verdict;
+use replays::Verdict;
 use std::alloc::{AllocError, Global};
 
 /// What entries tell, in their order.

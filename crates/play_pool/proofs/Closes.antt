@@ -7,8 +7,8 @@ use Rattle.std.proofs.lemmas.Nat.{le-div}
 use Rattle.calculus.specs.Rows.{Row}
 use Rattle.calculus.specs.Steps.{differ}
 use Rattle.calculus.specs.Runs.{Deploy, Work, work_price}
-use Rattle.events.specs.Laws.{Begins}
-use Rattle.fresh_digests.specs.Premises.{FitsInTexts, Collides}
+use Rattle.events.specs.EventLaws.{Begins}
+use Rattle.events.specs.Premises.{FitsInTexts, Collides}
 use Rattle.group_locks.specs.declared.state.SeatState.{SeatState}
 use Rattle.hub_rule.specs.declared.terms.StopCause.{StopCause}
 use Rattle.hub_rule.specs.declared.terms.StopCause.TheVariants.{Fault, NoMemory}
@@ -17,10 +17,10 @@ use Rattle.hub_rule.specs.Meaning.{Ran}
 use Rattle.hub_rule.specs.Rule.{cost}
 use Rattle.group_locks.specs.Seats.{drawn_by, settled_by, fresh_by, charged_by, due_of, hand_of, empty_of, over_of, stops_of}
 use Rattle.hub_rule.specs.Stops.{FaultOf}
-use Rattle.run_entries.specs.Entries.{Making, steps_in, steps_of, price_in, total_of}
-use Rattle.run_entries.specs.Allowed.{ShowsAnId}
-use Rattle.play_scene.specs.Plays.{entries_of, most_price, IsPriced, IsPlay}
-use Rattle.play_scene.specs.Laws.{HasEnded, all_done, PlaysRun}
+use Rattle.events.specs.Entries.{Making, steps_in, steps_of, price_in, total_of}
+use Rattle.events.specs.Allowed.{ShowsAnId}
+use Rattle.hub_scenes.specs.Plays.{entries_of, most_price, IsPriced, IsPlay}
+use Rattle.hub_scenes.specs.PlayLaws.{HasEnded, all_done, PlaysRun}
 use Rattle.play_hub.specs.declared.entry.PlayEntry.{PlayEntry}
 use Rattle.play_hub.specs.Values.{entry_of, hub_meaning}
 use Rattle.play_hub.specs.Endings.{play_of, ArePriced}

@@ -7,10 +7,10 @@ use Rattle.calculus.specs.Runs.{Deploy, Work, work_products, source_seed, begun,
 use Rattle.events.specs.Events.{AreFresh, first_ids}
 use Rattle.events.proofs.Counts.{ids, AreDistinct, differ-distinct, distinct-differ, times-append}
 use Rattle.events.proofs.Legal.{leads-none}
-use Rattle.events.proofs.Standing.{ids-times}
+use Rattle.events.proofs.EventStanding.{ids-times}
 use Rattle.hub_rule.specs.Counts.{Projected}
 use Rattle.shard_tables.specs.Hands.{AreShardsOf, IdsDiffer}
-use Rattle.play_scene.specs.Plays.{TouchingEntry}
+use Rattle.hub_scenes.specs.Plays.{TouchingEntry}
 use Rattle.play_hub.specs.Values.{hub_meaning}
 
 module _ (deploy : Deploy) (source : Work) where

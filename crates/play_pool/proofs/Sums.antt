@@ -6,7 +6,7 @@ use Rattle.std.proofs.lemmas.List.Elements.{All-head, All-tail, All-weaker}
 use Rattle.hub_rule.specs.Counts.{count, once_below, total, all_of, Each}
 use Rattle.hub_rule.specs.Rule.{cost}
 use Rattle.hub_rule.proofs.Sums.{each_cut}
-use Rattle.scene_laws.proofs.Sums.{seats-sum}
+use Rattle.hub_scenes.proofs.Sums.{seats-sum}
 
 at-place : {E : Type 0} (P : E → Type 0) (es : List E) → All P es → (n : ℕ) (e : E) → slice_get es n ≡ Some e → P e
 at-place P [] h n e g = cc g

@@ -4,13 +4,13 @@ use Rattle.atomic_table.specs.Seated.{TableId}
 use Rattle.calculus.specs.Rows.{Row}
 use Rattle.calculus.specs.Steps.{differ}
 use Rattle.calculus.specs.Runs.{Deploy, Work}
-use Rattle.events.specs.Laws.{Begins}
+use Rattle.events.specs.EventLaws.{Begins}
 use Rattle.group_locks.specs.declared.state.SeatState.{SeatState}
 use Rattle.group_locks.specs.Seats.{due_of, AtRest}
-use Rattle.fresh_digests.specs.Premises.{FitsInTexts, Collides}
-use Rattle.run_entries.specs.Entries.{steps_of, total_of}
-use Rattle.run_entries.specs.Allowed.{ShowsAnId}
-use Rattle.play_scene.specs.Plays.{entries_of}
+use Rattle.events.specs.Premises.{FitsInTexts, Collides}
+use Rattle.events.specs.Entries.{steps_of, total_of}
+use Rattle.events.specs.Allowed.{ShowsAnId}
+use Rattle.hub_scenes.specs.Plays.{entries_of}
 use Rattle.play_hub.specs.declared.entry.PlayEntry.{PlayEntry}
 use Rattle.play_hub.specs.Endings.{play_of}
 use Rattle.play_outcome.specs.Runs.{EndedPlay}

@@ -4,6 +4,6 @@
 mod closing;
 mod opening;
 mod pool;
-mod side_by_side;
+mod workers;
 
 pub use crate::pool::play_side_by_side;

@@ -7,7 +7,7 @@ ghost use Rattle.play_pool.specs.Closing.{ClosesPlay};
 
 use crate::closing::close_play;
 use crate::opening::open_play;
-use crate::side_by_side::side_by_side;
+use crate::workers::work_all;
 use group_locks::{Closed, Pool};
 use numbered_jobs::Crew;
 use play_draws::making::StepMaker;
@@ -53,6 +53,6 @@ pub fn play_side_by_side<
         price,
         limit,
     )?;
-    let seats = side_by_side(crew.rt, crew.alloc, crew.gate, maker, &hub, seats)?;
+    let seats = work_all(crew.rt, crew.alloc, crew.gate, maker, &hub, seats)?;
     close_play(hub, seats, crew.workers)
 }

@@ -16,14 +16,14 @@ use Rattle.event_log.specs.View.{step_of}
 use Rattle.events.specs.Events.{AreFresh, first_ids, built_in_ids}
 use Rattle.events.proofs.Counts.{ids, AreDistinct, differ-distinct, distinct-differ, times-append}
 use Rattle.events.proofs.Legal.{leads-none}
-use Rattle.fresh_digests.specs.Numbers.{IsNumberable}
-use Rattle.fresh_digests.specs.Premises.{FitsInTexts, Shares, Collides}
-use Rattle.fresh_digests.proofs.Concluding.{legal_lists_are_fresh_or_show_an_id}
-use Rattle.fresh_digests.proofs.Happening.{more-collides}
-use Rattle.run_entries.specs.Entries.{steps_of}
-use Rattle.run_entries.specs.Allowed.{ShowsAnId}
-use Rattle.run_verdict.specs.View.{verdict_of}
-use Rattle.play_scene.specs.Plays.{entries_of}
+use Rattle.events.specs.Numbers.{IsNumberable}
+use Rattle.events.specs.Premises.{FitsInTexts, Shares, Collides}
+use Rattle.events.proofs.Concluding.{legal_lists_are_fresh_or_show_an_id}
+use Rattle.events.proofs.Happening.{more-collides}
+use Rattle.events.specs.Entries.{steps_of}
+use Rattle.events.specs.Allowed.{ShowsAnId}
+use Rattle.replays.specs.View.{verdict_of}
+use Rattle.hub_scenes.specs.Plays.{entries_of}
 use Rattle.play_hub.specs.declared.entry.PlayEntry.{PlayEntry}
 use Rattle.play_hub.specs.Endings.{play_of}
 use Rattle.play_outcome.specs.declared.played.Played.{Played}

@@ -11,7 +11,7 @@ use Rattle.calculus.specs.Steps.{same_meeting, same_ids}
 use Rattle.events.proofs.Counts.{same_bytes, bytes_same}
 use Rattle.found_rows.specs.declared.found.Found.{Found}
 use Rattle.found_rows.specs.Making.{step_with, times_made}
-use Rattle.run_entries.specs.Entries.{Making, steps_in}
+use Rattle.events.specs.Entries.{Making, steps_in}
 use Rattle.play_hub.specs.declared.entry.MadeStep.{MadeStep}
 use Rattle.play_hub.specs.declared.entry.PlayEntry.{PlayEntry}
 use Rattle.play_hub.specs.Values.{making_of, entry_of}

@@ -6,9 +6,9 @@ use Rattle.std.specs.List.{list_any}
 use Rattle.std.proofs.lemmas.Nat.Bits.{bit_at_or}
 use Rattle.std.proofs.Math.Nat.{le-max_right}
 use Rattle.calculus.specs.Rows.{Row}
-use Rattle.shard_rows.specs.Shards.{stands_in}
-use Rattle.shard_rows.specs.Hands.{hears, shows}
-use Rattle.shard_rows.proofs.Standing.{any-one, rows_stand_in_shards}
+use Rattle.events.specs.Shards.{stands_in}
+use Rattle.events.specs.Hands.{hears, shows}
+use Rattle.events.proofs.ShardStanding.{any-one, rows_stand_in_shards}
 use Rattle.shard_tables.specs.Hands.{AreShown}
 use Rattle.play_hub.specs.Values.{has_bit}
 use Rattle.play_hub.proofs.Bits.{set-is}

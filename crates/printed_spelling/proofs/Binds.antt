@@ -13,11 +13,11 @@ use Rattle.grammar.specs.Rules.{ampersand, Par, Left, FirstTail, BindsTail, Body
 use Rattle.grammar.specs.Spells.{of_done, of_sign, of_opens, of_next, of_text, of_last}
 use Rattle.grammar.specs.Terminals.{Terminal, text, mark, a_word}
 use Rattle.grammar.specs.Values.{Spelt, spelt, with_first, processes, patterns, case_of, match_of, receive_of, new_of}
-use Rattle.printed_terms.specs.Spelled.{fixed_uri, declared_names}
+use Rattle.printed_spelling.specs.Spelled.{fixed_uri, declared_names}
 use Rattle.printed_spelling.proofs.Pieces.{Piece, nothing, marked, grouped, braced, followed, parted, bind_pieces, uri_piece, declared_pieces}
 use Rattle.printed_spelling.proofs.Both.{Both, both_none, both_also}
 use Rattle.printed_spelling.proofs.Climbing.{ReadsAs, under_sort, Says, atom_says, patom_says, pre_says, says_pre, says_braced, says_grouped, pattern_grouped}
-use Rattle.printed_spelling.proofs.Names.{Channel, says_name}
+use Rattle.printed_spelling.proofs.TextNames.{Channel, says_name}
 use Rattle.printed_spelling.proofs.Sequences.{Goes, Turns, says_rest}
 
 -- a bind, and the pieces of its left side and its channel

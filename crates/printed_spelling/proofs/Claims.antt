@@ -9,12 +9,12 @@ use Rattle.calculus.specs.Written.{Written}
 use Rattle.calculus.specs.Printed.{is_atom, is_drop, is_bare_name}
 use Rattle.grammar.specs.Rules.{Par, One, Atom, POne, PAtom}
 use Rattle.grammar.specs.Values.{processes, patterns}
-use Rattle.printed_terms.specs.Spelled.{dropped, named}
+use Rattle.printed_spelling.specs.Spelled.{dropped, named}
 use Rattle.printed_spelling.proofs.Pieces.{Piece, operand_piece, name_piece}
 use Rattle.printed_spelling.proofs.Both.{Both, Single, Beside, InTurn}
 use Rattle.printed_spelling.proofs.Climbing.{Says}
 use Rattle.printed_spelling.proofs.Pairs.{PairSays, RestSays}
-use Rattle.printed_spelling.proofs.Names.{Channel, PatternChannel}
+use Rattle.printed_spelling.proofs.TextNames.{Channel, PatternChannel}
 use Rattle.printed_spelling.proofs.Binds.{Bound, Binds, CaseSays}
 
 -- a process of these parts: by itself, as an operand, and as a name

@@ -10,7 +10,7 @@ use Rattle.std.proofs.lemmas.Str.{IsUtf8-from_ascii}
 use Rattle.calculus.specs.Examples.{zeros}
 use Rattle.calculus.specs.Form.{IsBytes, IsClosed, keys}
 use Rattle.calculus.proofs.Opened.{computing}
-use Rattle.printed_spelling.specs.Examples.{SpellingExamples, operators, values, patterns, cases}
+use Rattle.printed_spelling.specs.TextExamples.{SpellingExamples, operators, values, patterns, cases}
 
 -- three bytes of ASCII
 ascii : (a b c : ℕ) → a < 128 → b < 128 → c < 128 → IsAscii (a ∷ b ∷ c ∷ [])

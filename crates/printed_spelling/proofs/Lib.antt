@@ -1,9 +1,17 @@
+pub mod Numbered
+pub mod Arranged
+pub mod Congruent
+pub mod Silent
+pub mod TermNames
+pub mod Bared
+pub mod TermSpelling
+pub mod ExamplesSpelled
 pub mod Pieces
 pub mod Both
 pub mod Climbing
 pub mod Sequences
 pub mod Pairs
-pub mod Names
+pub mod TextNames
 pub mod Binds
 pub mod Ground
 pub mod Claims
@@ -25,5 +33,5 @@ pub mod Methods
 pub mod Texts
 pub mod TextParts
 pub mod Lexing
-pub mod Spelling
+pub mod TextSpelling
 pub mod ExamplesSpelling

@@ -12,12 +12,12 @@ use Rattle.grammar.specs.Rules.{Par, One, Two, New, For, Match, Atom, POne}
 use Rattle.grammar.specs.Spells.{of_done, of_text, of_last}
 use Rattle.grammar.specs.Terminals.{text, a_word}
 use Rattle.grammar.specs.Values.{processes, patterns, variable_of}
-use Rattle.printed_terms.specs.Spelled.{part_of, in_order_of as written_in_order}
+use Rattle.printed_spelling.specs.Spelled.{part_of, in_order_of as written_in_order}
 use Rattle.printed_spelling.proofs.Pieces.{Piece, first_piece, in_order_of, part_piece}
 use Rattle.printed_spelling.proofs.Both.{Both, Single, single, Beside, beside_none, beside_also, without_trees, both_arranged, both_first, turned_none, turned_also}
 use Rattle.printed_spelling.proofs.Climbing.{at_sort, Says, two_says}
 use Rattle.printed_spelling.proofs.Pairs.{PairSays, says_map}
-use Rattle.printed_spelling.proofs.Names.{by_word, by_fresh, says_send}
+use Rattle.printed_spelling.proofs.TextNames.{by_word, by_fresh, says_send}
 use Rattle.printed_spelling.proofs.Binds.{says_receive, says_match, says_new}
 use Rattle.printed_spelling.proofs.Ground.{ground_bool, ground_int, ground_str, ground_uri, ground_bytes, ground_atom}
 use Rattle.printed_spelling.proofs.Claims.{DropSays, row_says, Claim, KidsClaim}

@@ -12,12 +12,12 @@ use Rattle.grammar.specs.Grammar.{type_mark}
 use Rattle.grammar.specs.Terminals.{text, mark, a_word}
 use Rattle.grammar.specs.declared.mark.Mark.TheVariants as marks
 use Rattle.grammar.specs.Values.{patterns, bound_of, any_of, type_of}
-use Rattle.printed_terms.specs.Spelled.{part_of}
+use Rattle.printed_spelling.specs.Spelled.{part_of}
 use Rattle.printed_spelling.proofs.Pieces.{Piece, part_piece}
 use Rattle.printed_spelling.proofs.Both.{single, turned_none, turned_also}
 use Rattle.printed_spelling.proofs.Climbing.{Says}
 use Rattle.printed_spelling.proofs.Pairs.{says_map_pattern}
-use Rattle.printed_spelling.proofs.Names.{as_word, as_any, says_pattern_send}
+use Rattle.printed_spelling.proofs.TextNames.{as_word, as_any, says_pattern_send}
 use Rattle.printed_spelling.proofs.Binds.{says_receive, says_match, says_new}
 use Rattle.printed_spelling.proofs.Ground.{ground_bool, ground_int, ground_str, ground_uri, ground_bytes, ground_patom}
 use Rattle.printed_spelling.proofs.Claims.{PatPartSays, NamePartSays, row_says, KidsClaim}

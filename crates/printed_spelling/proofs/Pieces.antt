@@ -18,7 +18,7 @@ use Rattle.grammar.specs.declared.mark.Mark.{Mark}
 use Rattle.grammar.specs.declared.mark.Mark.TheVariants as marks
 use Rattle.grammar.specs.Grammar.{bang, bundle_mark, arrow_mark, type_mark}
 use Rattle.grammar.specs.Terminals.{Terminal, text, number, mark, a_word, a_string, a_uri, a_fresh_name, a_byte_array}
-use Rattle.printed_terms.specs.Spelled.{fixed_uri}
+use Rattle.printed_spelling.specs.Spelled.{fixed_uri}
 
 -- the terminals of a piece of text, with those that follow it behind them
 abbrev pub Piece : Type 0

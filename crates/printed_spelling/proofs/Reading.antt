@@ -15,12 +15,12 @@ use Rattle.grammar.specs.Rules.{Par, Remainder, last}
 use Rattle.grammar.specs.Spells.{Reads, of_done, of_sign, of_text, of_last}
 use Rattle.grammar.specs.Terminals.{text, mark, a_word}
 use Rattle.grammar.specs.Values.{spelt, processes, patterns, rest_of, any_rest}
-use Rattle.printed_terms.specs.Spelled.{form_written, written, written_as, all_written}
+use Rattle.printed_spelling.specs.Spelled.{form_written, written, written_as, all_written}
 use Rattle.printed_spelling.proofs.Pieces.{Piece, first_piece, form_pieces, pieces, all_pieces, printed_terminals}
 use Rattle.printed_spelling.proofs.Both.{Single, single, Beside, beside_none, beside_also, without_trees, both_flat, turned_none, turned_also}
 use Rattle.printed_spelling.proofs.Climbing.{Says}
 use Rattle.printed_spelling.proofs.Pairs.{PairSays, pair_says, rest_none, rest_some}
-use Rattle.printed_spelling.proofs.Names.{PatternChannel, says_left}
+use Rattle.printed_spelling.proofs.TextNames.{PatternChannel, says_left}
 use Rattle.printed_spelling.proofs.Binds.{bound, Binds, no_bind, one_bind, CaseSays, case_says}
 use Rattle.printed_spelling.proofs.Claims.{Members, row_says, Claim, KidsClaim}
 use Rattle.printed_spelling.proofs.Terms.{says_term, says_pattern, says_name_form}

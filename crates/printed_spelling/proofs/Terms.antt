@@ -15,12 +15,12 @@ use Rattle.grammar.specs.Rules.{Par, One, Atom, POne, PAtom}
 use Rattle.grammar.specs.Spells.{of_done, of_sign, of_last}
 use Rattle.grammar.specs.Terminals.{mark}
 use Rattle.grammar.specs.Values.{processes, patterns, par_of, quote_of, quoted_of}
-use Rattle.printed_terms.specs.Spelled.{dropped, name_pattern, in_order_of as written_in_order}
+use Rattle.printed_spelling.specs.Spelled.{dropped, name_pattern, in_order_of as written_in_order}
 use Rattle.printed_spelling.proofs.Pieces.{Piece, braced, first_piece, parallel_piece, in_order_of, name_pattern_piece}
 use Rattle.printed_spelling.proofs.Both.{Both, both_none, both_also, Single, single, Beside, beside_none, beside_also, without_trees, both_arranged, both_first}
 use Rattle.printed_spelling.proofs.Climbing.{Says, atom_says, says_par, says_braced, patom_says, says_ppar, pattern_braced}
 use Rattle.printed_spelling.proofs.Sequences.{says_parts}
-use Rattle.printed_spelling.proofs.Names.{Channel, by_quote, PatternChannel, as_quote}
+use Rattle.printed_spelling.proofs.TextNames.{Channel, by_quote, PatternChannel, as_quote}
 use Rattle.printed_spelling.proofs.Claims.{TermSays, PatSays, DropSays, NamePartSays, Claim, KidsClaim}
 
 -- parts that are atoms are parts

@@ -24,7 +24,7 @@ use Rattle.printed_spelling.proofs.Signs.{lex_space, lex_open, lex_close, lex_op
 use Rattle.printed_spelling.proofs.Words.{lex_nil}
 use Rattle.printed_spelling.proofs.Numbers.{lex_variable}
 use Rattle.printed_spelling.proofs.Quoted.{lex_uri_of}
-use Rattle.printed_spelling.proofs.Names.{hung}
+use Rattle.printed_spelling.proofs.TextNames.{hung}
 
 -- texts with one between each two
 pub lex_parted : (s : List ℕ) (q : Piece) → Lexed false s q → Shut s → {xs : List (List ℕ)} {ps : List Piece} → Both (Lexed true) xs ps → Lexed true (separated s xs) (parted q ps)

@@ -1,2 +1,6 @@
-pub mod Examples
-pub mod Laws
+pub mod Spelled
+pub mod Ordered
+pub mod TermExamples
+pub mod TermLaws
+pub mod TextExamples
+pub mod TextLaws

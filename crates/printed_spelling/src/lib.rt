@@ -4,5 +4,7 @@
 //! The definitions stand in `specs/` and in those of the crates below; the functions here do nothing and carry laws.
 #![tactic(auto)]
 
-pub mod examples;
-pub mod laws;
+pub mod term_examples;
+pub mod term_laws;
+pub mod text_examples;
+pub mod text_laws;

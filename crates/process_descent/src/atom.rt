@@ -8,8 +8,7 @@ ghost use Rattle.std.specs.Prelude.{◌<◌};
 use crate::process;
 use calculus::{Name, Proc};
 use form_ends::{
-    close_block, close_group, close_map, first_pair, plain_process, quoted_name, skip_after,
-    then_one_more, tuple,
+    close, close_map, first_pair, plain_process, quoted_name, skip_after, then_one_more, tuple,
 };
 use form_parts::part::{Bracket, Part};
 use form_parts::parts;
@@ -35,7 +34,7 @@ pub(crate) fn drop_form(cursor: &mut Cursor<'_>, free: u32) -> Result<Part<Proc>
             let below = free - 1;
             let inner = process::par(cursor, below);
             if !skip_after(cursor, &inner, Mark::Comma) {
-                return close_group(cursor, inner);
+                return close(cursor, inner, Mark::Close);
             }
             let row = row(cursor, Bracket::Round, below);
             tuple(inner, row)
@@ -70,7 +69,7 @@ pub(crate) fn block(cursor: &mut Cursor<'_>, free: u32) -> Result<Part<Proc>, Fa
     let below = free - 1;
     let first = process::par(cursor, below);
     if !skip_after(cursor, &first, Mark::Colon) {
-        return close_block(cursor, first);
+        return close(cursor, first, Mark::CloseBrace);
     }
     let value = process::par(cursor, below);
     let mut pairs = first_pair(cursor.alloc, first, value);

@@ -8,8 +8,8 @@ ghost use Rattle.token_cursor.specs.Reading.{of_name_pat, of_pat};
 use crate::{form, pattern_atom, process};
 use calculus::{NamePat, Pat};
 use form_ends::{
-    Chain, Joint, close_pattern_group, closed_form, composed_pattern, join, next_joint,
-    plain_pattern, quoted_pattern, sent_pattern, skip_after, then_one_more, tuple_pattern,
+    Chain, Joint, close, closed_form, composed_pattern, join, next_joint, plain_pattern,
+    quoted_pattern, sent_pattern, skip_after, then_one_more, tuple_pattern,
 };
 use form_parts::part::{Bracket, Part};
 use form_steps::step::{PartStep, PatternStep};
@@ -110,7 +110,7 @@ pub(crate) fn pattern_not(cursor: &mut Cursor<'_>, free: u32) -> Result<Part<Pat
             let below = free - 1;
             let inner = pattern_par(cursor, below);
             if !skip_after(cursor, &inner, Mark::Comma) {
-                return close_pattern_group(cursor, inner);
+                return close(cursor, inner, Mark::Close);
             }
             let row = pattern_atom::pattern_row(cursor, Bracket::Round, below);
             tuple_pattern(inner, row)

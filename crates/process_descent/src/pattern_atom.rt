@@ -8,8 +8,7 @@ ghost use Rattle.std.specs.Prelude.{◌<◌};
 use crate::pattern;
 use calculus::Pat;
 use form_ends::{
-    close_pairs, close_pattern_block, close_sequence, first_pair, skip_after, skip_comma_after,
-    then_one_more,
+    close, close_pairs, close_sequence, first_pair, skip_after, skip_comma_after, then_one_more,
 };
 use form_parts::part::{Bracket, Part, Sequence};
 use form_parts::parts;
@@ -74,7 +73,7 @@ pub(crate) fn pattern_block(cursor: &mut Cursor<'_>, free: u32) -> Result<Part<P
     let below = free - 1;
     let first = pattern::pattern_par(cursor, below);
     if !skip_after(cursor, &first, Mark::Colon) {
-        return close_pattern_block(cursor, first);
+        return close(cursor, first, Mark::CloseBrace);
     }
     let value = pattern::pattern_par(cursor, below);
     let mut pairs = first_pair(cursor.alloc, first, value);

@@ -11,7 +11,7 @@ use Rattle.events.specs.Found.{without}
 use Rattle.events.specs.Events.{first_ids, digests}
 use Rattle.events.proofs.Orders.{member-moved, without-moved}
 use Rattle.events.proofs.Counts.{ids, times, AreDistinct, differ-distinct, times-append}
-use Rattle.events.proofs.Standing.{built_ins, ids-times, standing-times, rows-times, no-more}
+use Rattle.events.proofs.EventStanding.{built_ins, ids-times, standing-times, rows-times, no-more}
 use Rattle.events.proofs.Meetings.{meeting_at, MadeBy, made_by, makes}
 use Rattle.racing_replays.specs.Replaying.{DoneStep, Replay, done_steps, rows_by}
 use Rattle.racing_replays.specs.Laws.{first_bag, IsFresh, FreshWalk, FullReplay, Agree, Confluence}

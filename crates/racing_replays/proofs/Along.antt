@@ -7,9 +7,9 @@ use Rattle.calculus.specs.Runs.{Deploy, Work, body_work, Leads}
 use Rattle.events.specs.Events.{stored, AreFresh}
 use Rattle.events.proofs.Counts.{ids, AreDistinct}
 use Rattle.events.proofs.Meetings.{meeting_at}
-use Rattle.events.proofs.Following.{append_nothing}
-use Rattle.fresh_digests.specs.Premises.{FitsInTexts}
-use Rattle.fresh_digests.proofs.Concluding.{legal_lists_are_fresh_or_show_an_id}
+use Rattle.events.proofs.EventFollowing.{append_nothing}
+use Rattle.events.specs.Premises.{FitsInTexts}
+use Rattle.events.proofs.Concluding.{legal_lists_are_fresh_or_show_an_id}
 use Rattle.racing_replays.specs.Replaying.{DoneStep, Replay, first_replay, done_steps, is_due, after_step, Replays, none_yet, one_more}
 use Rattle.racing_replays.specs.Racing.{RacingState, Finishes, Races, no_event, arrival, done_index, idle_try}
 use Rattle.racing_replays.specs.Laws.{first_bag, state_of, IsFresh}

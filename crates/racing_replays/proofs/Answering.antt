@@ -7,8 +7,8 @@ use Rattle.calculus.specs.Candidates.{IsLeastAllowed}
 use Rattle.calculus.specs.Runs.{verdict, done, Leads, IsEnd}
 use Rattle.calculus.proofs.Permutations.{join, moved_so}
 use Rattle.events.specs.Events.{AreFresh}
-use Rattle.events.proofs.Following.{append_nothing}
-use Rattle.fresh_digests.proofs.Concluding.{legal_lists_are_fresh_or_show_an_id}
+use Rattle.events.proofs.EventFollowing.{append_nothing}
+use Rattle.events.proofs.Concluding.{legal_lists_are_fresh_or_show_an_id}
 use Rattle.replays.specs.Replays.{StopsAt, Outcome, refused, reducible, outcome_of, replayed, deploy_under, Answers, by_step, by_rest, by_end}
 use Rattle.racing_replays.specs.Replaying.{Replay, done_steps}
 use Rattle.racing_replays.specs.Laws.{state_of, logged_state, FreshWalk, Agree, AreAllDone, IsFirstLeft, LeadsTo, AreAlikeOutcomes}

@@ -4,7 +4,7 @@ use Rattle.std.specs.Prelude.{Some, IsPermutation}
 use Rattle.calculus.specs.Runs.{State, Leads, begun, steps_from}
 use Rattle.events.proofs.Counts.{ids, AreDistinct}
 use Rattle.events.proofs.Orders.{member-moved}
-use Rattle.events.proofs.Following.{append_nothing}
+use Rattle.events.proofs.EventFollowing.{append_nothing}
 use Rattle.replays.specs.Replays.{StopsAt}
 use Rattle.racing_replays.specs.Replaying.{DoneStep, Replay, is_done}
 use Rattle.racing_replays.specs.Laws.{first_bag, state_of, Agree, ComesTo, AreAllDone, IsFirstLeft, ReplayMany}

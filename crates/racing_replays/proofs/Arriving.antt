@@ -8,8 +8,8 @@ use Rattle.calculus.specs.Steps.{Bag, Meeting, standing, stored_rows, is_one_of,
 use Rattle.calculus.proofs.Members.{Member, member-split, member-left, member-right}
 use Rattle.events.specs.Events.{stored}
 use Rattle.events.proofs.Counts.{ids, times, AreDistinct}
-use Rattle.events.proofs.Standing.{ids-times, standing-times, no-more}
-use Rattle.events.proofs.Following.{append_nothing}
+use Rattle.events.proofs.EventStanding.{ids-times, standing-times, no-more}
+use Rattle.events.proofs.EventFollowing.{append_nothing}
 use Rattle.racing_replays.specs.Replaying.{DoneStep, Replay, first_replay, done_steps, is_done, names, is_due, all_done, none_yet}
 use Rattle.racing_replays.specs.Racing.{next_use}
 use Rattle.racing_replays.proofs.Lists.{but-one, with-one, middle}

@@ -3,7 +3,7 @@ use Rattle.std.specs.Prelude.{[], ◌∷◌, refl}
 use Rattle.calculus.proofs.Opened.{hashing}
 use Rattle.calculus.specs.Rows.{stdout, stdout_ack}
 use Rattle.calculus.specs.Examples.{step, datum}
-use Rattle.events.specs.Examples.{no_work}
+use Rattle.events.specs.EventExamples.{no_work}
 use Rattle.racing_replays.specs.Replaying.{none_yet, one_more}
 use Rattle.racing_replays.specs.Racing.{no_event, arrival, done_index}
 use Rattle.racing_replays.specs.Examples.{ReplayExamples}

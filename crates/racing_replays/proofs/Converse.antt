@@ -7,7 +7,7 @@ use Rattle.calculus.specs.Steps.{Meeting, meeting, printed_line}
 use Rattle.calculus.specs.Runs.{Deploy, Work, Leads}
 use Rattle.calculus.proofs.Members.{Member, member-split, member-left, member-right}
 use Rattle.events.proofs.Counts.{ids, AreDistinct}
-use Rattle.events.proofs.Following.{append_nothing}
+use Rattle.events.proofs.EventFollowing.{append_nothing}
 use Rattle.replays.specs.Replays.{StopsAt}
 use Rattle.racing_replays.specs.Replaying.{DoneStep, Replay, first_replay, done_steps, is_done, after_try, walk_from, walk}
 use Rattle.racing_replays.specs.Laws.{first_bag, state_of, Agree, AreAllDone, IsFirstLeft, LeadsTo, ReplaysDecide}

@@ -13,8 +13,8 @@ use Rattle.events.proofs.Lookups.{rows_with, rows_with-there}
 use Rattle.events.proofs.Meetings.{MadeBy, made_by}
 use Rattle.events.proofs.Leaving.{without-append}
 use Rattle.events.proofs.Changed.{all-leaving-times, among-times}
-use Rattle.events.proofs.Standing.{ids-times, standing-times, left-times, none-leaves}
-use Rattle.events.proofs.Following.{append_nothing, bag-left}
+use Rattle.events.proofs.EventStanding.{ids-times, standing-times, left-times, none-leaves}
+use Rattle.events.proofs.EventFollowing.{append_nothing, bag-left}
 use Rattle.racing_replays.specs.Replaying.{DoneStep, Replay, done_steps, rows_by, is_done, names, any_among, all_done, after_step}
 use Rattle.racing_replays.proofs.Lists.{AreSingle, single-more}
 use Rattle.racing_replays.proofs.Ledger.{entry-done, one-split}

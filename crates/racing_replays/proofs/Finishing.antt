@@ -15,8 +15,8 @@ use Rattle.events.proofs.Counts.{ids, times, AreDistinct, member-times, times-on
 use Rattle.events.proofs.Meetings.{meeting_at, MadeBy, made_by}
 use Rattle.events.proofs.Leaving.{without-append}
 use Rattle.events.proofs.Changed.{all-leaving-times, among-times}
-use Rattle.events.proofs.Standing.{ids-times, standing-times, no-more, left-there, left-times, none-leaves}
-use Rattle.events.proofs.Following.{append_nothing, bag-left}
+use Rattle.events.proofs.EventStanding.{ids-times, standing-times, no-more, left-there, left-times, none-leaves}
+use Rattle.events.proofs.EventFollowing.{append_nothing, bag-left}
 use Rattle.events.proofs.Spent.{row-of-id}
 use Rattle.racing_replays.specs.Replaying.{DoneStep, Replay, done_steps, rows_by, is_done, names, ids_before, any_among, all_done, is_due, after_step, Replays, one_more}
 use Rattle.racing_replays.specs.Racing.{next_use, rest_after, later_uses}

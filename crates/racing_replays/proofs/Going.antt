@@ -10,8 +10,8 @@ use Rattle.events.specs.Events.{stored}
 use Rattle.events.proofs.Orders.{member-moved, times-moved}
 use Rattle.events.proofs.Counts.{ids, times, AreDistinct, member-times}
 use Rattle.events.proofs.Meetings.{MadeBy, made_by}
-use Rattle.events.proofs.Standing.{built_ins, ids-times, standing-times, no-more}
-use Rattle.events.proofs.Following.{append_nothing}
+use Rattle.events.proofs.EventStanding.{built_ins, ids-times, standing-times, no-more}
+use Rattle.events.proofs.EventFollowing.{append_nothing}
 use Rattle.events.proofs.Spent.{row-of-id}
 use Rattle.racing_replays.specs.Replaying.{DoneStep, Replay, done_steps, rows_by, names, is_due, Replays, none_yet, one_more, Does}
 use Rattle.racing_replays.proofs.Keeping.{offers, universe, Kept}

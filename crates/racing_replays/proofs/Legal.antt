@@ -13,7 +13,7 @@ use Rattle.calculus.proofs.Members.{Member, member-split, member-left, member-ri
 use Rattle.events.proofs.Counts.{ids, AreDistinct, member-times, times-one_of}
 use Rattle.events.proofs.Meetings.{MadeBy, made_by}
 use Rattle.events.proofs.Spent.{row-of-id}
-use Rattle.events.proofs.Following.{append_nothing}
+use Rattle.events.proofs.EventFollowing.{append_nothing}
 use Rattle.events.proofs.Legal.{leads-none, leads-more}
 use Rattle.racing_replays.specs.Replaying.{DoneStep, Replay, first_replay, done_steps, rows_by, is_done, names, ids_before, after_step, none_yet, one_more, after_try, walk_from, walk}
 use Rattle.racing_replays.specs.Laws.{first_bag, state_of, ReplaysAreLegal}

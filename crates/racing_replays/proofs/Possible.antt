@@ -13,7 +13,7 @@ use Rattle.events.specs.Found.{met, leaving_rows, without, has_built_in_id, prin
 use Rattle.events.proofs.Counts.{ids, AreDistinct}
 use Rattle.events.proofs.Meetings.{Joined, join, meeting_with, meeting_at, meet_rows-of, MadeBy, made_by, makes}
 use Rattle.events.proofs.Printing.{line_by, line-of}
-use Rattle.events.proofs.Following.{bag-left}
+use Rattle.events.proofs.EventFollowing.{bag-left}
 use Rattle.events.proofs.Making.{among, member, Met, met-joins}
 use Rattle.racing_replays.specs.Replaying.{DoneStep, done_steps, names, is_due}
 use Rattle.racing_replays.specs.Laws.{first_bag, IsFresh}

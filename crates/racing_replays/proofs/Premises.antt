@@ -10,7 +10,7 @@ use Rattle.calculus.specs.Runs.{Work, work_products}
 use Rattle.calculus.proofs.Members.{Member}
 use Rattle.events.specs.Events.{first_ids, digests}
 use Rattle.events.proofs.Counts.{ids, times, AreDistinct, differ-distinct, distinct-differ, times-append}
-use Rattle.events.proofs.Following.{append_nothing}
+use Rattle.events.proofs.EventFollowing.{append_nothing}
 use Rattle.racing_replays.specs.Replaying.{DoneStep, Replay, first_replay, done_steps, Replays, none_yet, one_more, after_try, walk_from}
 use Rattle.racing_replays.specs.Laws.{first_bag, state_of, IsFresh, FreshReplaysHaveWalks, ReplaysOfFreshWalksAreFresh, FreshStepsSuffice}
 use Rattle.racing_replays.proofs.Lists.{AreSingle, tally, tally-in}

@@ -9,7 +9,7 @@ use Rattle.calculus.specs.Runs.{Deploy, Work, work_products}
 use Rattle.calculus.proofs.Members.{Member, member-left, member-right}
 use Rattle.events.specs.Events.{stored}
 use Rattle.events.proofs.Counts.{ids, AreDistinct}
-use Rattle.events.proofs.Following.{append_nothing}
+use Rattle.events.proofs.EventFollowing.{append_nothing}
 use Rattle.racing_replays.specs.Replaying.{DoneStep, Replay, first_replay, done_steps, is_due}
 use Rattle.racing_replays.specs.Racing.{RacingState, Arrives, Finishes, Idles, Races, no_event, arrival, done_index, idle_try}
 use Rattle.racing_replays.specs.Laws.{first_bag, IsFresh, FullReplay}

@@ -9,7 +9,7 @@ use Rattle.calculus.proofs.Members.{Member, Every, member-split, member-left, me
 use Rattle.events.proofs.Counts.{ids, times, AreDistinct, bytes_same, member-times, times-one_of}
 use Rattle.events.proofs.Meetings.{Joined, join, meeting_at, MadeBy, made_by, makes}
 use Rattle.events.proofs.Printing.{line-of}
-use Rattle.events.proofs.Standing.{built_ins, ids-times, standing-times, from-standing, in-standing, left-there, left-times}
+use Rattle.events.proofs.EventStanding.{built_ins, ids-times, standing-times, from-standing, in-standing, left-there, left-times}
 use Rattle.events.proofs.Spent.{row-of-id}
 use Rattle.racing_replays.specs.Replaying.{DoneStep, Replay, done_steps, rows_by, is_done, names, any_among, all_done}
 use Rattle.racing_replays.proofs.Lists.{AreSingle, tally, tally-in, count-same}

@@ -6,7 +6,7 @@ use Rattle.calculus.specs.Log.{Step}
 use Rattle.calculus.specs.Steps.{Bag, printed_line}
 use Rattle.calculus.proofs.Members.{Member, member-split, member-left, member-right}
 use Rattle.events.proofs.Counts.{ids, AreDistinct}
-use Rattle.events.proofs.Following.{append_nothing}
+use Rattle.events.proofs.EventFollowing.{append_nothing}
 use Rattle.racing_replays.specs.Replaying.{DoneStep, Replay, first_replay, is_done, done_at, in_order, Replays, none_yet, one_more, after_try, walk_from, walk}
 use Rattle.racing_replays.proofs.Ledger.{done-entry}
 use Rattle.racing_replays.proofs.InOrder.{none-at, one-at-end}

@@ -8,7 +8,7 @@ use Rattle.calculus.specs.Steps.{Bag, Meeting, meeting, printed_line, stored_row
 use Rattle.calculus.specs.Runs.{Work, body_work}
 use Rattle.calculus.proofs.Members.{Member}
 use Rattle.events.specs.Found.{without}
-use Rattle.events.proofs.Following.{append_nothing}
+use Rattle.events.proofs.EventFollowing.{append_nothing}
 use Rattle.racing_replays.specs.Replaying.{DoneStep, Replay, first_replay, done_steps, is_due, after_step, after_meeting, after_try, walk_from}
 use Rattle.racing_replays.proofs.Keeping.{Kept}
 use Rattle.racing_replays.proofs.Doing.{entry}

@@ -6,7 +6,7 @@ use Rattle.calculus.specs.Steps.{differ, meeting}
 use Rattle.calculus.specs.Candidates.{IsLeastAllowed}
 use Rattle.calculus.specs.Runs.{Deploy, source_seed, Work, verdict, done, made_digests}
 use Rattle.events.specs.Events.{built_in_ids}
-use Rattle.fresh_digests.specs.Premises.{FitsInTexts, Shares, Collides}
+use Rattle.events.specs.Premises.{FitsInTexts, Shares, Collides}
 use Rattle.replays.specs.Replays.{Given, no_run, reducible, Outcome, refused, replayed, header_refusal, outcome_of, deploy_under, Answers}
 use Rattle.racing_replays.specs.Replaying.{Replay, done_steps, Replays}
 use Rattle.racing_replays.specs.Laws.{first_bag, state_of, logged_state, FreshWalk, FullReplay, Agree, AreAllDone, IsFirstLeft, AreAlikeOutcomes}

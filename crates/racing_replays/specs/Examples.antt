@@ -8,7 +8,7 @@ use Rattle.calculus.specs.Examples.{nil, num, sent, step, row_of, datum, receive
 use Rattle.calculus.specs.Outcome.{within, pure}
 use Rattle.calculus.specs.Unfolding.{a_row}
 use Rattle.calculus.specs.Runs.{Deploy, deploy_of, Work}
-use Rattle.events.specs.Examples.{no_prices, no_work}
+use Rattle.events.specs.EventExamples.{no_prices, no_work}
 use Rattle.racing_replays.specs.Replaying.{Replay, ids_of, Replays, is_due, walk}
 use Rattle.racing_replays.specs.Laws.{state_of, logged_state, FreshWalk}
 use Rattle.racing_replays.specs.Counted.{uses}

@@ -5,7 +5,7 @@ use Rattle.calculus.specs.Unfolding.{Unfolds}
 use Rattle.calculus.specs.Steps.{differ, stored_rows, meeting}
 use Rattle.calculus.specs.Runs.{Deploy, source_seed, Work}
 use Rattle.events.specs.Events.{stored}
-use Rattle.fresh_digests.specs.Premises.{FitsInTexts}
+use Rattle.events.specs.Premises.{FitsInTexts}
 use Rattle.replays.specs.Replays.{Given, header_refusal, deploy_under}
 use Rattle.racing_replays.specs.Replaying.{Replay, done_steps, Replays}
 use Rattle.racing_replays.specs.Racing.{RacingState, Races}

@@ -1,5 +1,5 @@
 -- How many steps it takes to give groups to nodes.
-use Rattle.std.proofs.Common.{◌≡◌, ℕ, zero, suc, ◌+◌, ◌-◌, ◌*◌, ◌≤◌, ◌∙◌, ap, subst, arith}
+use Rattle.std.proofs.Common.{◌≡◌, ℕ, zero, suc, ◌+◌, ◌-◌, ◌*◌, ◌<◌, ◌≤◌, ◌∙◌, ap, sym, subst, arith}
 use Rattle.std.proofs.Math.Nat.{mul-zero, mul-suc}
 
 shared : (k a b : ℕ) → k * (a + b) ≡ k * a + k * b
@@ -28,3 +28,21 @@ pub one-deeper : (depth deep count first last : ℕ) → deep ≡ depth + 1 → 
 one-deeper depth deep count first last e h =
     let same : 64 - deep ≡ 63 - depth = omega (arith, e) in
     subst (λ n. last ≤ first + n * count) same h
+
+over : (k n : ℕ) → suc k * n ≡ k * n + n
+over k zero = omega (arith, mul-zero k, mul-zero (suc k))
+over k (suc n) = omega (arith, mul-suc (suc k) n, mul-suc k n, over k n)
+
+-- one step more than those of the nodes at the next depth
+pub whole-more : (d n first now last : ℕ) → d < 64 → 1 ≤ n → now ≤ first + (63 - d) * n → last ≤ now + 1 → last ≤ first + (64 - d) * n
+whole-more d n first now last l s a b =
+    let e : suc (63 - d) ≡ 64 - d = omega (arith, l) in
+    let f : suc (63 - d) * n ≡ (64 - d) * n = ap (λ m. m * n) e in
+    omega (arith, s, a, b, f, over (63 - d) n)
+
+-- those of the first groups are no more than those of all
+pub within-all : (k i n first last : ℕ) → i ≤ n → last ≤ first + k * i → last ≤ first + k * n
+within-all k i n first last l a =
+    let e : i + (n - i) ≡ n = omega (arith, l) in
+    let f : k * n ≡ k * i + k * (n - i) = sym (ap (λ m. k * m) e) ∙ shared k i (n - i) in
+    omega (arith, a, f)

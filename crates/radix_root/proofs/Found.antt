@@ -1,7 +1,10 @@
 -- The digest of a key among groups.
 use Rattle.std.proofs.Common.{◌≡◌, ℕ, ◌≤◌, Bool, true, false, cond, List, [], ◌∷◌, ◌++◌, length, refl, ap, sym, ◌∙◌, subst, arith}
+use Rattle.std.specs.Prelude.{Option, Some, None, IfNone, is_some, not}
 use Rattle.std.specs.Str.{bytes_eq}
 use Rattle.std.proofs.lemmas.Slice.Eq.{bytes_eq-Decides}
+use Rattle.calculus.specs.declared.ids.Digest.{Digest}
+use Rattle.radix_root.specs.Groups.{given}
 use Rattle.radix_root.specs.Leaves.{Leaves, digest_at}
 use Rattle.radix_root.specs.Nodes.{AllKeys, AreLeaves}
 
@@ -31,6 +34,32 @@ absent P k n (l ∷ ls) a = go (bytes_eq k l.0) refl (absent P k n ls a.1)
     go : (b : Bool) → bytes_eq k l.0 ≡ b → digest_at ls k ≡ [] → cond b l.1 (digest_at ls k) ≡ []
     go true e h = absurd (n (subst P (sym (same k l.0 e)) a.0))
     go false e h = h
+
+-- a group without a digest
+pub given-none : (o : Option Digest) → is_some o ≡ not true → given o ≡ []
+given-none None e = refl
+given-none (Some d) e = cc
+
+-- what holds where there is none
+pub none-so : {A : Type 0} (o : Option A) (P : Type 0) → is_some o ≡ not true → IfNone o P → P
+none-so None P e p = p
+none-so (Some x) P e p = cc
+
+-- a key that is not there is taken out
+pub absent-out : (ls : Leaves) (key v : List ℕ) → v ≡ [] → digest_at ls key ≡ [] → (k : List ℕ) → digest_at ls k ≡ cond (bytes_eq k key) v (digest_at ls k)
+absent-out ls key v n e k = go (bytes_eq k key) refl
+  where
+    go : (b : Bool) → bytes_eq k key ≡ b → digest_at ls k ≡ cond b v (digest_at ls k)
+    go true q = ap (digest_at ls) (same k key q) ∙ e ∙ sym n
+    go false q = refl
+
+-- a key is not there where the one group has another
+pub other-absent : (ls : Leaves) (own kept key : List ℕ) → ls ≡ (own, kept) ∷ [] → bytes_eq own key ≡ false → digest_at ls key ≡ []
+other-absent ls own kept key e b =
+    ap (λ (ms : Leaves). digest_at ms key) e ∙ ap (λ z. cond z kept []) (differ key own (λ q. truth (sym (equal own key (sym q)) ∙ b)))
+  where
+    truth : true ≡ false → ⊥
+    truth y = cc
 
 -- groups before others, where a key is not among the first
 pub found-later : (P : List ℕ → Type 0) (k : List ℕ) → (P k → ⊥) → (ls ms : Leaves) → AllKeys P ls → digest_at (ls ++ ms) k ≡ digest_at ms k
@@ -62,10 +91,6 @@ all-found P (l ∷ ls) a f = (f l.0 (λ e. some-bytes l.1 a.0.1 (sym (ap (λ b. 
 pub leaves-join : (P : List ℕ → Type 0) (ls ms : Leaves) → AreLeaves ls → AreLeaves ms → AllKeys P ls → ((k : List ℕ) → P k → digest_at ms k ≡ []) → AreLeaves (ls ++ ms)
 leaves-join P [] ms a b h f = b
 leaves-join P (l ∷ ls) ms a b h f = ((a.0.0, a.0.1, found-first l.0 ls ms (f l.0 h.0) ∙ a.0.2), leaves-join P ls ms a.1 b h.1 f)
-
-pub keys-join : (P : List ℕ → Type 0) (ls ms : Leaves) → AllKeys P ls → AllKeys P ms → AllKeys P (ls ++ ms)
-keys-join P [] ms a b = b
-keys-join P (l ∷ ls) ms a b = (a.0, keys-join P ls ms a.1 b)
 
 pub keys-first : (P : List ℕ → Type 0) (ls ms : Leaves) → AllKeys P (ls ++ ms) → AllKeys P ls
 keys-first P [] ms a = tt

@@ -1,5 +1,6 @@
 -- Texts that are appended one after another, and nodes one after another.
 use Rattle.std.proofs.Common.{◌≡◌, ℕ, zero, suc, ◌+◌, ◌<◌, List, [], ◌∷◌, ◌++◌, map, take, length, get_or, refl, sym, ◌∙◌, ap, arith, append_assoc, append-nil}
+use Rattle.std.proofs.lemmas.List.{map-append, take_more}
 use Rattle.calculus.specs.Bytes.{joined}
 use Rattle.calculus.specs.Root.{sixteen}
 use Rattle.calculus.proofs.BytesLemmas.{joined-take}
@@ -46,3 +47,10 @@ sixteen-from = refl
 -- the half byte at a place is that number
 pub sixteen-at : (h : ℕ) → h < 16 → get_or sixteen h 0 ≡ h
 sixteen-at h l = ap (λ hs. get_or hs h 0) sixteen-from ∙ from-at 0 16 h l ∙ omega arith
+
+-- one more member behind those that are made of the first i
+pub mapped-more : {A B C : Type 0} (f : A → C) (g : B → C) (xs ys : List A) (zs : List B) (i : ℕ) (x : A) (z : B) → ys ≡ xs ++ x ∷ [] → i < length zs → z ≡ get_or zs i z → f x ≡ g z
+    → map f xs ≡ map g (take i zs) → map f ys ≡ map g (take (i + 1) zs)
+mapped-more f g xs ys zs i x z e l h s m =
+    ap (map f) e ∙ map-append f xs (x ∷ []) ∙ ap (λ cs. cs ++ f x ∷ []) m ∙ ap (λ c. map g (take i zs) ++ c ∷ []) (s ∙ ap g h)
+    ∙ sym (ap (map g) (take_more zs i z l) ∙ map-append g (take i zs) (get_or zs i z ∷ []))

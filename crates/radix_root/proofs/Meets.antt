@@ -204,17 +204,3 @@ keeps-changed ls ms f k v cs is e h j = is j ∙ go (bytes_eq j k) refl
     go : (b : Bool) → bytes_eq j k ≡ b → cond b v (digest_at ls j) ≡ group_digest j (cond b cs (f j))
     go true p = e ∙ ap (λ x. group_digest x cs) (sym (same j k p))
     go false p = h j
-
-pub length-each : {A : Type 0} (f : A → List ℕ) (xs : List A) → length (each f xs) ≡ length xs
-length-each f [] = refl
-length-each f (x ∷ xs) = ap suc (length-each f xs)
-
--- the digest of a group with rows
-pub some-rows : {A : Type 0} (f : A → List ℕ) (k : List ℕ) (rows : List A) → 0 < length rows → sha256 (0x10 ∷ (k ++ (be32 (length rows) ++ joined (each f rows)))) ≡ group_digest k (each f rows)
-some-rows f k [] h = absurd (omega arith)
-some-rows f k (r ∷ rows) h = ap (λ n. sha256 (0x10 ∷ (k ++ (be32 n ++ joined (each f (r ∷ rows)))))) (sym (length-each f (r ∷ rows)))
-
--- no rows have no digest
-pub no-rows : {A : Type 0} (f : A → List ℕ) (k : List ℕ) (rows : List A) → length rows ≡ 0 → [] ≡ group_digest k (each f rows)
-no-rows f k [] e = refl
-no-rows f k (r ∷ rows) e = absurd (omega (arith, e))

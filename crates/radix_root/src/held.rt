@@ -1,6 +1,6 @@
 // How many groups nodes hold, as far as none, one and several go.
 
-ghost use Rattle.std.specs.Prelude.{◌++◌, ℕ, List};
+ghost use Rattle.std.specs.Prelude.{◌++◌};
 ghost use Rattle.radix_root.specs.Leaves.{Leaves};
 ghost use Rattle.radix_root.specs.Nodes.{leaves_of};
 ghost use Rattle.radix_root.specs.Holding.{IsHeld};
@@ -9,7 +9,7 @@ use crate::node::Node;
 use calculus::Digest;
 
 /// What nodes hold.
-#[derive(Clone, Copy, Debug)]
+#[derive(Clone, Copy)]
 pub(crate) enum Held {
     Nothing,
     /// The key of the one group, and its digest.

@@ -1,13 +1,13 @@
 // Many groups given to a node at once: the digest of each node above them is made once, where those with one half
 // byte stand side by side.
-ghost use Rattle.std.specs.Prelude.{◌≡◌, ◌<◌, ◌≤◌, ◌+◌, ◌-◌, ◌*◌, ℕ, List, length, take, IfOk, OnOk};
+ghost use Rattle.std.specs.Prelude.{◌≡◌, ◌<◌, ◌≤◌, ◌+◌, ◌-◌, ◌*◌, ℕ, List, length, take, OnOk};
 ghost use Rattle.radix_root.specs.Leaves.{digest_at, half_of};
-ghost use Rattle.radix_root.specs.Nodes.{IsFork, IsNode, IsPlace, leaves_of};
+ghost use Rattle.radix_root.specs.Nodes.{IsFork, IsNode, leaves_of};
 ghost use Rattle.radix_root.specs.Groups.{AllGroups, ShareAll, digest_after};
 
 use crate::digests::half_at;
 use crate::group::Group;
-use crate::node::{Node, place_of};
+use crate::node::{Node, place_for};
 use calculus::Steps;
 use std::alloc::{AllocError, Global};
 use std::sync::ledger::Ledger;
@@ -104,29 +104,6 @@ fn give_run<L: Ledger>(
 {
     let place = place_for(alloc, children, depth, half)?;
     give_all(&mut children[place], alloc, run, steps)
-}
-
-// Where the node of a half byte stands, which is put there without groups where there was none.
-fn place_for(
-    alloc: Global,
-    children: &mut Vec<Node>,
-    depth: u32,
-    half: u8,
-) -> Result<usize, AllocError>
-    requires fork { IsFork depth children.old.items }
-    ensures fork { OnOk result (IsFork depth children.new.items) }
-    ensures leaves { OnOk result (leaves_of children.new.items ≡ leaves_of children.old.items) }
-    ensures within { IfOk result (λ i. i < length children.new.items) }
-    ensures place { IfOk result (IsPlace half children.new.items) }
-{
-    match place_of(children.as_slice(), half) {
-        Some(place) => Ok(place),
-        None => {
-            let place = children.len();
-            children.push(Node::empty(alloc, half, depth + 1))?;
-            Ok(place)
-        }
-    }
 }
 
 // The half byte at this place of the first key, and how many keys from the first on have it.

@@ -1,6 +1,6 @@
 // A node of the tree: no group, one group, or the nodes of half bytes that hold several.
 
-ghost use Rattle.std.specs.Prelude.{◌≡◌, ◌<◌, ◌≤◌, ◌+◌, ℕ, List, [], ◌∷◌, cond, false, length, IfOk, IfSome, IfNone, OnOk, OnErr};
+ghost use Rattle.std.specs.Prelude.{◌≡◌, ◌<◌, ◌≤◌, ◌+◌, ℕ, List, [], ◌∷◌, cond, true, false, length, IfOk, IfSome, IfNone, OnOk, OnErr};
 ghost use Rattle.std.specs.Str.{bytes_eq};
 ghost use Rattle.radix_root.specs.Leaves.{digest_at};
 ghost use Rattle.radix_root.specs.Nodes.{AllShare, IsFork, IsNode, IsPlace, NoneHas, leaves_of};
@@ -17,7 +17,6 @@ use std::mem;
 use std::sync::ledger::Ledger;
 
 /// The groups whose keys share their first half bytes.
-#[derive(Drop)]
 pub(crate) struct Node {
     /// The digest of the groups.
     digest: Digest,
@@ -29,6 +28,18 @@ pub(crate) struct Node {
     depth: u32,
     /// The nodes of the half bytes that follow, where there are several groups.
     children: Vec<Node>,
+}
+
+impl Drop for Node {
+    fn drop(self) {
+        let Node {
+            digest: _,
+            key: _,
+            half: _,
+            depth: _,
+            children: _children,
+        } = self;
+    }
 }
 
 impl Model for Node {
@@ -118,143 +129,77 @@ impl Node {
         }
     }
 
-    /// Gives the group of this key this digest. Each digest of a node is one more step.
-    #[cycle(set)]
-    pub(crate) fn set<L: Ledger>(
-        &mut self,
-        alloc: Global,
-        key: &Digest,
-        digest: &Digest,
-        steps: &mut Steps<L>,
-    ) -> Result<(), AllocError>
-        requires shared { AllShare self.old.depth key.now.0 self.old.leaves }
-        requires sizes { (length key.now.0 ≡ 32) × (length digest.now.0 ≡ 32) }
-        ensures node { OnOk result (IsNode self.old.depth self.new) }
-        ensures half { self.new.half ≡ self.old.half }
-        ensures groups { OnOk result ((k : List ℕ) → digest_at self.new.leaves k ≡
-            cond (bytes_eq k key.now.0) digest.now.0 (digest_at self.old.leaves k)) }
-        ensures err { OnErr result (self.new ≡ self.old) }
-        ensures counted { steps.new + self.old.depth ≤ steps.old + 64 }
-    {
-        if !self.children.is_empty() {
-            set_below(alloc, &mut self.children, self.depth, key, digest, steps)?;
-            let whole = fork_digest(self.children.as_slice(), steps);
-            self.digest = whole;
-            return Ok(());
-        }
-        let current = self.key;
-        match current {
-            Some(own) if own != *key => self.split(alloc, &own, key, digest, steps),
-            _ => {
-                self.key = Some(*key);
-                self.digest = *digest;
-                Ok(())
-            }
-        }
-    }
-
-    /// Makes a node of one group one of two groups, the other with this key and this digest.
-    #[cycle(set)]
-    fn split<L: Ledger>(
-        &mut self,
-        alloc: Global,
-        own: &Digest,
-        key: &Digest,
-        digest: &Digest,
-        steps: &mut Steps<L>,
-    ) -> Result<(), AllocError>
-        requires one { self.old.leaves ≡ (own.now.0, self.old.digest) ∷ [] }
-        requires other { bytes_eq own.now.0 key.now.0 ≡ false }
-        requires shared { AllShare self.old.depth key.now.0 self.old.leaves }
-        requires sizes { (length key.now.0 ≡ 32) × (length digest.now.0 ≡ 32) }
-        ensures node { OnOk result (IsNode self.old.depth self.new) }
-        ensures half { self.new.half ≡ self.old.half }
-        ensures groups { OnOk result ((k : List ℕ) → digest_at self.new.leaves k ≡
-            cond (bytes_eq k key.now.0) digest.now.0 (digest_at self.old.leaves k)) }
-        ensures err { OnErr result (self.new ≡ self.old) }
-        ensures counted { steps.new + self.old.depth ≤ steps.old + 64 }
-    {
-        let mut children = forked(alloc, 2, self.depth, own, &self.digest)?;
-        set_below(alloc, &mut children, self.depth, key, digest, steps)?;
-        self.digest = fork_digest(children.as_slice(), steps);
-        self.key = None;
-        self.children = children;
-        Ok(())
-    }
-
-    /// Takes the group of this key out. Each digest of a node is one more step.
-    pub(crate) fn remove<L: Ledger>(&mut self, key: &Digest, steps: &mut Steps<L>)
+    /// Gives a group its digest, or takes it out where it has none, if no node below has to know. Tells whether that is
+    /// done.
+    fn hold(&mut self, group: &Group) -> bool
+        requires { AllShare self.old.depth group.now.key.0 self.old.leaves }
         ensures node { IsNode self.old.depth self.new }
         ensures half { self.new.half ≡ self.old.half }
-        ensures groups { (k : List ℕ) → digest_at self.new.leaves k ≡ cond (bytes_eq k key.now.0) [] (digest_at self.old.leaves k) }
-        ensures counted { steps.new + self.old.depth ≤ steps.old + 64 }
+        ensures groups { result ≡ true → (k : List ℕ) → digest_at self.new.leaves k ≡
+            cond (bytes_eq k group.now.key.0) (given group.now.digest) (digest_at self.old.leaves k) }
+        ensures other { result ≡ false → (self.new ≡ self.old) × (self.old.depth < 64) }
+        ensures within { self.old.depth ≤ 64 }
     {
-        if self.children.is_empty() {
-            let current = self.key;
-            match current {
-                Some(own) if own == *key => {
+        if !self.children.is_empty() {
+            return false;
+        }
+        known_length(&group.key.0);
+        let current = self.key;
+        let found = group.digest;
+        match current {
+            Some(own) if own != group.key => found.is_none(),
+            _ => match found {
+                Some(digest) => {
+                    known_length(&digest.0);
+                    self.key = Some(group.key);
+                    self.digest = digest;
+                    true
+                }
+                None => {
                     self.key = None;
                     self.digest = NO_GROUP;
+                    true
                 }
-                _ => {}
-            }
-            return;
-        }
-        let half = half_at(key, self.depth);
-        let place = match place_of(self.children.as_slice(), half) {
-            Some(place) => place,
-            None => return,
-        };
-        self.children[place].remove(key, steps);
-        match held_by(self.children.as_slice()) {
-            Held::One(last, digest) => {
-                self.children.clear();
-                self.key = Some(last);
-                self.digest = digest;
-            }
-            Held::Several => {
-                self.digest = fork_digest(self.children.as_slice(), steps);
-            }
-            Held::Nothing => unreachable!(),
+            },
         }
     }
 
-    /// Gives a group its digest, or takes it out where it has none. Each digest of a node is one more step.
+    /// Gives a group its digest, or takes it out where it has none. Each digest of a node is one more step. After an
+    /// error the groups are as they were.
+    #[cycle(put)]
     pub(crate) fn put<L: Ledger>(
         &mut self,
         alloc: Global,
         group: &Group,
         steps: &mut Steps<L>,
     ) -> Result<(), AllocError>
-        requires shared { AllShare self.old.depth group.now.key.0 self.old.leaves }
-        ensures node { OnOk result (IsNode self.old.depth self.new) }
+        requires { AllShare self.old.depth group.now.key.0 self.old.leaves }
+        ensures node { IsNode self.old.depth self.new }
         ensures half { self.new.half ≡ self.old.half }
         ensures groups { OnOk result ((k : List ℕ) → digest_at self.new.leaves k ≡
             cond (bytes_eq k group.now.key.0) (given group.now.digest) (digest_at self.old.leaves k)) }
+        ensures err { OnErr result (self.new.leaves ≡ self.old.leaves) }
         ensures counted { steps.new + self.old.depth ≤ steps.old + 64 }
     {
-        let found = group.digest;
-        match found {
-            Some(digest) => {
-                known_length(&group.key.0);
-                known_length(&digest.0);
-                self.set(alloc, &group.key, &digest, steps)
-            }
-            None => {
-                self.remove(&group.key, steps);
-                Ok(())
-            }
+        if self.hold(group) {
+            return Ok(());
         }
+        let mut children = self.open(alloc, 2)?;
+        let depth = self.depth();
+        let done = put_below(alloc, &mut children, depth, group, steps);
+        self.settle(children, steps);
+        done
     }
 
     /// The nodes that are to be under it, with room for so many: those that were, or that of its one group. The node is
     /// without groups then.
     pub(crate) fn open(&mut self, alloc: Global, room: usize) -> Result<Vec<Node>, AllocError>
-        requires depth { self.old.depth < 64 }
+        requires { self.old.depth < 64 }
         ensures fork { IfOk result (λ v. IsFork self.old.depth v.items) }
         ensures leaves { IfOk result (λ v. leaves_of v.items ≡ self.old.leaves) }
-        ensures depth { OnOk result (self.new.depth ≡ self.old.depth) }
-        ensures half { OnOk result (self.new.half ≡ self.old.half) }
+        ensures depth { self.new.depth ≡ self.old.depth }
+        ensures half { self.new.half ≡ self.old.half }
+        ensures err { OnErr result (self.new ≡ self.old) }
     {
         let current = self.key;
         let children = match current {
@@ -272,7 +217,7 @@ impl Node {
         requires { IsFork self.old.depth children.items }
         ensures node { IsNode self.old.depth self.new }
         ensures half { self.new.half ≡ self.old.half }
-        ensures groups { (k : List ℕ) → digest_at self.new.leaves k ≡ digest_at (leaves_of children.items) k }
+        ensures leaves { self.new.leaves ≡ leaves_of children.items }
         ensures counted { steps.new ≤ steps.old + 1 }
     {
         match held_by(children.as_slice()) {
@@ -345,31 +290,63 @@ fn forked(
     Ok(children)
 }
 
-/// Gives the group of this key this digest, under a node at this depth.
-#[cycle(set)]
-fn set_below<L: Ledger>(
+/// Where the node of a half byte stands, which is put there without groups where there was none.
+pub(crate) fn place_for(
     alloc: Global,
     children: &mut Vec<Node>,
     depth: u32,
-    key: &Digest,
-    digest: &Digest,
+    half: u8,
+) -> Result<usize, AllocError>
+    requires { IsFork depth children.old.items }
+    ensures fork { IsFork depth children.new.items }
+    ensures leaves { leaves_of children.new.items ≡ leaves_of children.old.items }
+    ensures within { IfOk result (λ i. i < length children.new.items) }
+    ensures place { IfOk result (IsPlace half children.new.items) }
+{
+    match place_of(children.as_slice(), half) {
+        Some(place) => Ok(place),
+        None => {
+            let place = children.len();
+            children.push(Node::empty(alloc, half, depth + 1))?;
+            Ok(place)
+        }
+    }
+}
+
+/// Whether a group has no digest and a key of which these nodes, under one at this depth, have none either.
+fn is_gone(children: &[Node], depth: u32, group: &Group) -> bool
+    requires { IsFork depth children.now }
+    ensures { result ≡ true → (k : List ℕ) → digest_at (leaves_of children.now) k ≡
+        cond (bytes_eq k group.now.key.0) (given group.now.digest) (digest_at (leaves_of children.now) k) }
+{
+    let found = group.digest;
+    match found {
+        Some(_) => false,
+        None => place_of(children, half_at(&group.key, depth)).is_none(),
+    }
+}
+
+/// Gives a group its digest, or takes it out where it has none, under a node at this depth.
+#[cycle(put)]
+fn put_below<L: Ledger>(
+    alloc: Global,
+    children: &mut Vec<Node>,
+    depth: u32,
+    group: &Group,
     steps: &mut Steps<L>,
 ) -> Result<(), AllocError>
     requires fork { IsFork depth children.old.items }
-    requires shared { AllShare depth key.now.0 (leaves_of children.old.items) }
-    requires sizes { (length key.now.0 ≡ 32) × (length digest.now.0 ≡ 32) }
-    ensures fork { OnOk result (IsFork depth children.new.items) }
+    requires shared { AllShare depth group.now.key.0 (leaves_of children.old.items) }
+    ensures fork { IsFork depth children.new.items }
     ensures groups { OnOk result ((k : List ℕ) → digest_at (leaves_of children.new.items) k ≡
-        cond (bytes_eq k key.now.0) digest.now.0 (digest_at (leaves_of children.old.items) k)) }
-    ensures err { OnErr result (children.new.items ≡ children.old.items) }
+        cond (bytes_eq k group.now.key.0) (given group.now.digest) (digest_at (leaves_of children.old.items) k)) }
+    ensures err { OnErr result (leaves_of children.new.items ≡ leaves_of children.old.items) }
     ensures counted { steps.new + (depth + 1) ≤ steps.old + 64 }
 {
-    let half = half_at(key, depth);
-    match place_of(children.as_slice(), half) {
-        Some(place) => children[place].set(alloc, key, digest, steps),
-        None => {
-            children.push(Node::leaf(alloc, half, depth + 1, key, digest))?;
-            Ok(())
-        }
+    if is_gone(children.as_slice(), depth, group) {
+        return Ok(());
     }
+    let half = half_at(&group.key, depth);
+    let place = place_for(alloc, children, depth, half)?;
+    children[place].put(alloc, group, steps)
 }

@@ -4,7 +4,7 @@ ghost use Rattle.calculus.specs.Root.{root};
 ghost use Rattle.radix_root.specs.Leaves.{Keeps, changed, digest_at, groups_of};
 ghost use Rattle.radix_root.specs.Groups.{digest_after};
 
-use crate::digests::{known_length, leaf_digest, slices_of};
+use crate::digests::slices_of;
 use crate::group::Group;
 use crate::many::give_all;
 use crate::node::Node;
@@ -16,9 +16,14 @@ use std::sync::ledger::Ledger;
 /// The groups of the rows of a state, by their keys, with the root of these rows.
 ///
 /// The tree keeps the digest of each group, and not its rows.
-#[derive(Drop)]
 pub struct RadixTree {
     root: Node,
+}
+
+impl Drop for RadixTree {
+    fn drop(self) {
+        let RadixTree { root: _root } = self;
+    }
 }
 
 impl Model for RadixTree {
@@ -74,15 +79,9 @@ impl RadixTree {
         ensures err { OnErr result (self.new ≡ self.old) }
         ensures counted { steps.new ≤ steps.old + 65 }
     {
-        if rows.is_empty() {
-            self.root.remove(key, steps);
-            return Ok(());
-        }
-        known_length(&key.0);
         let codes = slices_of(alloc, rows)?;
-        let digest = leaf_digest(key, codes.as_slice(), steps);
-        self.root.set(alloc, key, &digest, steps)?;
-        Ok(())
+        let group = Group::of(key, codes.as_slice(), steps);
+        self.root.put(alloc, &group, steps)
     }
 
     /// The tree after these groups are given, one after another: each key has the digest that was given last, and none
@@ -99,7 +98,7 @@ impl RadixTree {
         ensures groups { IfOk result (λ t. (k : List ℕ) → digest_at t k ≡ digest_after groups.now (digest_at self k) k) }
         ensures counted { steps.new ≤ steps.old + 64 * length groups.now }
     {
-        let mut root = self.root;
+        let RadixTree { mut root } = self;
         give_all(&mut root, alloc, groups, steps)?;
         Ok(RadixTree { root })
     }

@@ -7,9 +7,9 @@ use Rattle.calculus.specs.Runs.{Verdict, done, exhausted, faulted}
 use Rattle.event_log.specs.Reading.{log_of}
 use Rattle.replays.specs.declared.fault.ReplayFault.{ReplayFault}
 use Rattle.replays.specs.Replays.{Answers, Outcome, replayed, deploy_under}
-use Rattle.run_verdict.specs.View.{verdict_of}
-use Rattle.run_verdict.specs.declared.verdict.Verdict.{Verdict as Ending}
-use Rattle.run_verdict.specs.declared.verdict.Verdict.TheVariants as ending
+use Rattle.replays.specs.View.{verdict_of}
+use Rattle.replays.specs.declared.verdict.Verdict.{Verdict as Ending}
+use Rattle.replays.specs.declared.verdict.Verdict.TheVariants as ending
 use Rattle.replay_answers.specs.Answers.{Clashes}
 use Rattle.recorded_runs.specs.Runs.{IsLeftBySource, Left, ShowsAClash}
 use Rattle.recorded_runs.specs.Laws.{IsAnsweredAlike}

@@ -13,9 +13,9 @@ use Rattle.event_log.specs.Reading.{log_of}
 use Rattle.event_log.specs.declared.fault.LogFault.{LogFault}
 use Rattle.replay_answers.specs.Answers.{Clashes}
 use Rattle.replays.specs.declared.fault.ReplayFault.{ReplayFault}
-use Rattle.run_verdict.specs.View.{verdict_of}
-use Rattle.run_verdict.specs.declared.verdict.Verdict.{Verdict as Ending}
-use Rattle.run_verdict.specs.declared.verdict.Verdict.TheVariants as ending
+use Rattle.replays.specs.View.{verdict_of}
+use Rattle.replays.specs.declared.verdict.Verdict.{Verdict as Ending}
+use Rattle.replays.specs.declared.verdict.Verdict.TheVariants as ending
 use Rattle.run_inputs.specs.Inputs.{Task}
 use Rattle.run_inputs.specs.Given.{IsGiven}
 use Rattle.run_inputs.specs.Bases.{IsStateOf}

@@ -6,13 +6,13 @@ use Rattle.calculus.specs.Rows.{Row}
 use Rattle.calculus.specs.Root.{root}
 use Rattle.calculus.specs.Steps.{Bag, stored_rows}
 use Rattle.calculus.specs.Runs.{Deploy, State, IsLegal, IsRun, Verdict, done, verdict, next_rows}
-use Rattle.states.specs.States.{state_text}
-use Rattle.states.proofs.Groups.{root_ignores_order, text_ignores_order}
+use Rattle.events.specs.States.{state_text}
+use Rattle.events.proofs.Groups.{root_ignores_order, text_ignores_order}
 use Rattle.events.specs.Events.{AreFresh}
 use Rattle.events.proofs.Spending.{ids_are_spent_once}
-use Rattle.run_verdict.specs.View.{verdict_of}
-use Rattle.run_verdict.specs.declared.verdict.Verdict.{Verdict as Ending}
-use Rattle.run_verdict.specs.declared.verdict.Verdict.TheVariants as ending
+use Rattle.replays.specs.View.{verdict_of}
+use Rattle.replays.specs.declared.verdict.Verdict.{Verdict as Ending}
+use Rattle.replays.specs.declared.verdict.Verdict.TheVariants as ending
 use Rattle.play_outcome.specs.Runs.{IsRunOf}
 use Rattle.recorded_runs.specs.Runs.{printed, SpendsOnce, ShowsAClash, IsLeftByRun}
 

@@ -5,8 +5,8 @@ use Rattle.run_reports.specs.World.{World, world}
 use Rattle.run_status.specs.Endings.{OnRefusal, OnHalt, OnVerdict, status_of}
 use Rattle.run_status.specs.declared.status.Status.{Status}
 use Rattle.run_status.specs.declared.status.Status.TheVariants.{Done, Usage, ReadFault, WriteFault, State, Source, Prices, Limit, Log, Replay, Exhausted, Faulted, NoMemory, TooLarge}
-use Rattle.run_verdict.specs.declared.verdict.Verdict.{Verdict}
-use Rattle.run_verdict.specs.declared.verdict.Verdict.TheVariants as ending
+use Rattle.replays.specs.declared.verdict.Verdict.{Verdict}
+use Rattle.replays.specs.declared.verdict.Verdict.TheVariants as ending
 use Rattle.recorded_runs.specs.Accepted.{HasDeployed, HasReplayed}
 use Rattle.recorded_runs.specs.Fetched.{HasFetched}
 

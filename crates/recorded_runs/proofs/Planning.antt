@@ -10,7 +10,7 @@ use Rattle.event_log.specs.View as logged
 use Rattle.event_log.specs.View.{step_of}
 use Rattle.event_log.specs.declared.log.LogHeader.{LogHeader}
 use Rattle.sources.specs.Sources.{IsSourceOf}
-use Rattle.run_verdict.specs.View.{verdict_of}
+use Rattle.replays.specs.View.{verdict_of}
 use Rattle.play_outcome.specs.Bases.{IsQuietBase}
 use Rattle.play_outcome.specs.Runs.{IsRunOf}
 use Rattle.play_outcome.specs.declared.played.Played.{Played}

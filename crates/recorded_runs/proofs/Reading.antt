@@ -4,7 +4,7 @@ use Rattle.calculus.specs.Bare.{bare}
 use Rattle.calculus.specs.Tree.{Tree}
 use Rattle.input_faults.specs.Refusals.{Refusal}
 use Rattle.made_input.specs.MadeInput.{made_text}
-use Rattle.made_sources.proofs.Sources.{made_inputs_are_sound}
+use Rattle.source_laws.proofs.MadeSources.{made_inputs_are_sound}
 use Rattle.scope.specs.NormalForm.{normal_form}
 use Rattle.sources.specs.Sources.{IsRefused, IsSourceOf}
 use Rattle.sources.proofs.Answering.{not_both}

@@ -10,8 +10,8 @@ use Rattle.run_inputs.proofs.Exact.{if_ok}
 use Rattle.run_inputs.proofs.ReplayExact.{replay_exact, replay_state_exact, replay_source_exact, replay_log_exact, replay_known}
 use Rattle.run_reports.specs.World.{World, world}
 use Rattle.run_status.specs.Endings.{OnRefusal, OnHalt, OnVerdict, status_of}
-use Rattle.run_verdict.specs.declared.verdict.Verdict.{Verdict}
-use Rattle.run_verdict.specs.declared.verdict.Verdict.TheVariants as ending
+use Rattle.replays.specs.declared.verdict.Verdict.{Verdict}
+use Rattle.replays.specs.declared.verdict.Verdict.TheVariants as ending
 use Rattle.run_status.specs.declared.status.Status.{Status}
 use Rattle.run_status.specs.declared.status.Status.TheVariants as status
 use Rattle.recorded_runs.specs.Fetched.{HasFetched}

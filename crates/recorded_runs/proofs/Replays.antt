@@ -8,11 +8,11 @@ use Rattle.calculus.specs.Rows.{Row}
 use Rattle.calculus.specs.Runs.{Verdict, done, exhausted, faulted, verdict}
 use Rattle.event_log.specs.View.{step_of}
 use Rattle.replays.specs.Replays.{Given, Refusal, Outcome, Answer, refused, replayed, header_refusal, deploy_under, output_of, Answers, by_header, by_step, by_rest, by_end}
-use Rattle.states.specs.States.{state_text}
-use Rattle.states.proofs.Groups.{root_ignores_order, text_ignores_order}
-use Rattle.run_verdict.specs.View.{verdict_of}
-use Rattle.run_verdict.specs.declared.verdict.Verdict.{Verdict as Ending}
-use Rattle.run_verdict.specs.declared.verdict.Verdict.TheVariants as ending
+use Rattle.events.specs.States.{state_text}
+use Rattle.events.proofs.Groups.{root_ignores_order, text_ignores_order}
+use Rattle.replays.specs.View.{verdict_of}
+use Rattle.replays.specs.declared.verdict.Verdict.{Verdict as Ending}
+use Rattle.replays.specs.declared.verdict.Verdict.TheVariants as ending
 use Rattle.replays.specs.Refusals.{is_of_header, refusal_of}
 use Rattle.replays.specs.declared.fault.ReplayFault.{ReplayFault}
 use Rattle.replays.specs.declared.fault.ReplayFault.TheVariants.{WrongBase, WrongSource, WrongPrices, WrongLimit, NoRun, Reducible, NoMemory}

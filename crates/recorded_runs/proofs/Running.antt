@@ -2,11 +2,11 @@
 use Rattle.std.proofs.Common.{◌≡◌, ◌≢◌, ◌≤◌, ℕ, List, [], length, refl, sym, subst}
 use Rattle.calculus.specs.Tree.{Tree}
 use Rattle.sources.specs.Sources.{IsSourceOf}
-use Rattle.fresh_digests.specs.Numbers.{IsNumberable}
-use Rattle.fresh_sources.proofs.Sources.{source_texts_are_numberable}
-use Rattle.run_verdict.specs.View.{verdict_of}
-use Rattle.run_verdict.specs.declared.verdict.Verdict.{Verdict as Ending}
-use Rattle.run_verdict.specs.declared.verdict.Verdict.TheVariants as ending
+use Rattle.events.specs.Numbers.{IsNumberable}
+use Rattle.source_laws.proofs.NumberedSources.{source_texts_are_numberable}
+use Rattle.replays.specs.View.{verdict_of}
+use Rattle.replays.specs.declared.verdict.Verdict.{Verdict as Ending}
+use Rattle.replays.specs.declared.verdict.Verdict.TheVariants as ending
 use Rattle.recorded_runs.specs.Runs.{printed}
 
 -- with another verdict than done nothing is printed

@@ -11,8 +11,8 @@ use Rattle.run_reports.specs.declared.finish.Halt.{Halt}
 use Rattle.run_reports.specs.declared.finish.Halt.TheVariants as halt
 use Rattle.run_status.specs.declared.status.Status.{Status}
 use Rattle.run_status.specs.declared.status.Status.TheVariants as status
-use Rattle.run_verdict.specs.declared.verdict.Verdict.{Verdict}
-use Rattle.run_verdict.specs.declared.verdict.Verdict.TheVariants as ending
+use Rattle.replays.specs.declared.verdict.Verdict.{Verdict}
+use Rattle.replays.specs.declared.verdict.Verdict.TheVariants as ending
 use Rattle.recorded_runs.specs.Left.{LeavesAll, LeavesInPart}
 use Rattle.recorded_runs.specs.WorkloadPlan.{IsWork}
 use Rattle.recorded_runs.specs.Workloads.{IsWorkload, RefusedFor, WorkloadEnds}

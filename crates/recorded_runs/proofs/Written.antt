@@ -16,7 +16,7 @@ use Rattle.run_reports.specs.declared.finish.Halt.{Halt}
 use Rattle.run_reports.specs.declared.finish.Halt.TheVariants as halt
 use Rattle.run_status.specs.declared.status.Status.{Status}
 use Rattle.run_status.specs.declared.status.Status.TheVariants as status
-use Rattle.run_verdict.specs.declared.verdict.Verdict.{Verdict}
+use Rattle.replays.specs.declared.verdict.Verdict.{Verdict}
 use Rattle.recorded_runs.specs.Accepted.{HasDeployed, HasReplayed}
 use Rattle.recorded_runs.specs.Deploys.{IsDeploy}
 use Rattle.recorded_runs.specs.Ends.{LeavesAll, LeavesInPart, LeavesSome}

@@ -7,7 +7,7 @@ use Rattle.calculus.specs.Tree.{Tree}
 use Rattle.made_input.specs.MadeInput.{made_text}
 use Rattle.recorded_runs.specs.Runs.{deploy_in, header_of}
 use Rattle.run_inputs.specs.Inputs.{Task}
-use Rattle.states.specs.States.{state_text}
+use Rattle.events.specs.States.{state_text}
 
 -- the prices of a workload
 abbrev pub made_prices : Prices

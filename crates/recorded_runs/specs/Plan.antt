@@ -3,12 +3,12 @@ use Rattle.std.specs.Prelude.{◌≡◌, ◌≢◌, ◌++◌, ℕ, List, [], ◌
 use Rattle.calculus.specs.Log.{log_text}
 use Rattle.calculus.specs.Root.{root}
 use Rattle.calculus.specs.Rows.{Row}
-use Rattle.states.specs.States.{state_text}
+use Rattle.events.specs.States.{state_text}
 use Rattle.event_log.specs.Laws.{AreSteps}
 use Rattle.event_log.specs.View.{header_of as header_in, steps_of}
 use Rattle.event_log.specs.declared.log.LogHeader.{LogHeader}
-use Rattle.run_verdict.specs.View.{verdict_of}
-use Rattle.run_verdict.specs.declared.verdict.Verdict.TheVariants.{Done}
+use Rattle.replays.specs.View.{verdict_of}
+use Rattle.replays.specs.declared.verdict.Verdict.TheVariants.{Done}
 use Rattle.play_outcome.specs.declared.played.Played.{Played}
 use Rattle.run_reports.specs.Report.{report_line}
 use Rattle.command_words.specs.Commands.{RunRequest}

@@ -3,15 +3,15 @@ use Rattle.std.specs.Prelude.{◌≡◌, ◌≢◌, ◌⊎◌, ◌++◌, ℕ, Li
 use Rattle.calculus.specs.Log.{Step, Header}
 use Rattle.calculus.specs.Root.{root}
 use Rattle.calculus.specs.Rows.{Row}
-use Rattle.states.specs.States.{state_text}
+use Rattle.events.specs.States.{state_text}
 use Rattle.replays.specs.Replays.{Given, Refusal, refused, header_refusal, deploy_under, Answers}
 use Rattle.event_log.specs.View.{header_of, step_of}
 use Rattle.replays.specs.Refusals.{refusal_of}
 use Rattle.replays.specs.declared.fault.ReplayFault.{ReplayFault}
 use Rattle.replay_answers.specs.Answers.{Clashes}
 use Rattle.replay_answers.specs.declared.replayed.Replayed.{Replayed}
-use Rattle.run_verdict.specs.View.{verdict_of}
-use Rattle.run_verdict.specs.declared.verdict.Verdict.TheVariants.{Done}
+use Rattle.replays.specs.View.{verdict_of}
+use Rattle.replays.specs.declared.verdict.Verdict.TheVariants.{Done}
 use Rattle.command_words.specs.Commands.{RunRequest}
 use Rattle.run_inputs.specs.Given.{task_of}
 use Rattle.run_inputs.specs.declared.acceptance.ReplayInputs.{ReplayInputs}

@@ -6,12 +6,12 @@ use Rattle.calculus.specs.Log.{Header, Step}
 use Rattle.calculus.specs.Root.{root}
 use Rattle.calculus.specs.Rows.{Row}
 use Rattle.calculus.specs.Runs.{Verdict, done, exhausted, faulted}
-use Rattle.states.specs.States.{state_text}
+use Rattle.events.specs.States.{state_text}
 use Rattle.replays.specs.Replays.{Given, Outcome, Answer, refused, replayed, header_refusal, deploy_under, Answers}
 use Rattle.event_log.specs.Reading.{log_of}
 use Rattle.sources.specs.Sources.{IsSourceOf}
-use Rattle.run_verdict.specs.View.{verdict_of}
-use Rattle.run_verdict.specs.declared.verdict.Verdict.TheVariants as ending
+use Rattle.replays.specs.View.{verdict_of}
+use Rattle.replays.specs.declared.verdict.Verdict.TheVariants as ending
 use Rattle.replays.specs.Refusals.{refusal_of}
 use Rattle.replays.specs.declared.fault.ReplayFault.{ReplayFault}
 use Rattle.replays.specs.declared.fault.ReplayFault.TheVariants.{NoRun, Reducible}

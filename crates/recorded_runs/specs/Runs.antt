@@ -7,14 +7,14 @@ use Rattle.calculus.specs.Log.{Step, Header}
 use Rattle.calculus.specs.Rows.{Row}
 use Rattle.calculus.specs.Root.{root}
 use Rattle.calculus.specs.Runs.{Deploy, deploy_of, State, IsRun, Verdict, done, verdict, cost, next_rows}
-use Rattle.states.specs.States.{state_text}
+use Rattle.events.specs.States.{state_text}
 use Rattle.event_log.specs.Laws.{AreSteps}
 use Rattle.sources.specs.Sources.{IsSourceOf}
 use Rattle.events.specs.Spending.{IsSpentBy}
-use Rattle.fresh_digests.specs.Premises.{Collides}
-use Rattle.run_entries.specs.Allowed.{ShowsAnId}
-use Rattle.run_verdict.specs.View.{verdict_of}
-use Rattle.run_verdict.specs.declared.verdict.Verdict.TheVariants as ending
+use Rattle.events.specs.Premises.{Collides}
+use Rattle.events.specs.Allowed.{ShowsAnId}
+use Rattle.replays.specs.View.{verdict_of}
+use Rattle.replays.specs.declared.verdict.Verdict.TheVariants as ending
 use Rattle.run_inputs.specs.Inputs.{Task}
 use Rattle.run_inputs.specs.Bases.{IsStateOf}
 use Rattle.run_reports.specs.Report.{Report, report_line}

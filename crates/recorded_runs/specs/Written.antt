@@ -4,7 +4,7 @@ use Rattle.run_status.specs.Endings.{status_of}
 use Rattle.run_status.specs.Statuses.{status_of_halt}
 use Rattle.run_reports.specs.declared.finish.Halt.{Halt}
 use Rattle.run_status.specs.declared.status.Status.{Status}
-use Rattle.run_verdict.specs.declared.verdict.Verdict.{Verdict}
+use Rattle.replays.specs.declared.verdict.Verdict.{Verdict}
 
 -- the status of a run with this verdict: all of it was written, or the writing stopped for this
 abbrev pub status_after : Verdict → Result (Unit {0}) Halt → Status

@@ -5,7 +5,7 @@ ghost use Rattle.made_input.specs.MadeInput.{made_text};
 ghost use Rattle.input_faults.specs.Refusals.{refusal_of};
 ghost use Rattle.run_inputs.specs.Given.{task_of, IsBase};
 ghost use Rattle.sources.specs.Sources.{IsSourceOf};
-ghost use Rattle.states.specs.States.{state_text};
+ghost use Rattle.events.specs.States.{state_text};
 ghost use Rattle.recorded_runs.specs.Made.{made_task};
 
 use checkpoint::{Checkpoint, write_state};

@@ -2,12 +2,12 @@
 ghost use Rattle.std.specs.Prelude.{◌≡◌, ◌≢◌, IfOk};
 ghost use Rattle.calculus.specs.Root.{root};
 ghost use Rattle.recorded_runs.specs.Runs.{printed};
-ghost use Rattle.run_verdict.specs.View.{verdict_of};
-ghost use Rattle.states.specs.States.{state_text};
+ghost use Rattle.replays.specs.View.{verdict_of};
+ghost use Rattle.events.specs.States.{state_text};
 
 use calculus::Digest;
 use next_states::{KnownState, MadeState};
-use run_verdict::Verdict;
+use replays::Verdict;
 use space_row::Row;
 use std::alloc::{AllocError, Global};
 

@@ -2,9 +2,9 @@
 ghost use Rattle.std.specs.Prelude.{◌≡◌};
 ghost use Rattle.recorded_runs.specs.Written.{status_after};
 
+use replays::Verdict;
 use run_reports::Halt;
 use run_status::{Status, status_of};
-use run_verdict::Verdict;
 
 /// The status of a run with this verdict, where the writing of what it leaves came to this.
 pub(crate) fn status_after(verdict: Verdict, written: Result<(), Halt>) -> Status

@@ -11,8 +11,8 @@ use Rattle.calculus.specs.Steps.{Meeting, differ, meeting, printed_line}
 use Rattle.calculus.specs.Unfolding.{unfold_in, Unfolds}
 use Rattle.events.specs.Events.{AreFresh}
 use Rattle.events.proofs.Counts.{ids, AreDistinct}
-use Rattle.fresh_digests.specs.Premises.{FitsInTexts}
-use Rattle.fresh_digests.proofs.Concluding.{legal_lists_are_fresh_or_show_an_id}
+use Rattle.events.specs.Premises.{FitsInTexts}
+use Rattle.events.proofs.Concluding.{legal_lists_are_fresh_or_show_an_id}
 use Rattle.racing_replays.specs.Answering as racing
 use Rattle.racing_replays.specs.Answering.{SomeClash}
 use Rattle.racing_replays.specs.Laws.{first_bag, state_of, IsFresh}

@@ -8,7 +8,7 @@ use Rattle.calculus.specs.Rows.{Row}
 use Rattle.calculus.specs.Runs.{Verdict, done, exhausted, faulted}
 use Rattle.process_laws.specs.ClosedRowLaws.{AreClosedRows}
 use Rattle.replays.specs.Replays.{Given, Answer, Answers, Outcome, Refusal, refused, replayed}
-use Rattle.run_laws.proofs.Logs.{each_log_is_answered}
+use Rattle.replays.proofs.Logs.{each_log_is_answered}
 use Rattle.replay_answers.specs.Answers.{IsAnswered, IsReplayed}
 use Rattle.replay_answers.specs.Laws.{AnswersSaySame, IsTold, SaySame}
 use Rattle.replays.specs.Refusals.{refusal_of}

@@ -5,7 +5,7 @@ use Rattle.calculus.specs.Runs.{Deploy, Work, source_seed, done}
 use Rattle.calculus.specs.Unfolding.{Unfolds}
 use Rattle.racing_replays.specs.Answering.{SomeClash}
 use Rattle.replays.specs.Replays.{Given, Outcome, refused, replayed, Answers}
-use Rattle.run_verdict.specs.View.{verdict_of}
+use Rattle.replays.specs.View.{verdict_of}
 use Rattle.replays.specs.Refusals.{refusal_of}
 use Rattle.replays.specs.declared.fault.ReplayFault.{ReplayFault}
 use Rattle.replay_answers.specs.declared.replayed.Replayed.{Replayed}

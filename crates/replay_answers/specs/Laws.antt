@@ -4,7 +4,7 @@ use Rattle.calculus.specs.Form.{IsClosed}
 use Rattle.calculus.specs.Log.{Header, Step}
 use Rattle.process_laws.specs.ClosedRowLaws.{AreClosedRows}
 use Rattle.replays.specs.Replays.{Given}
-use Rattle.run_verdict.specs.View.{verdict_of}
+use Rattle.replays.specs.View.{verdict_of}
 use Rattle.replay_answers.specs.Answers.{IsAnswered}
 use Rattle.replays.specs.Refusals.{refusal_of}
 use Rattle.replays.specs.declared.fault.ReplayFault.{ReplayFault}

@@ -1,4 +1,4 @@
-use run_verdict::Verdict;
+use replays::Verdict;
 use space_row::Row;
 
 /// What a replayed run came to.

@@ -8,11 +8,11 @@ use Rattle.calculus.specs.Rows.{Row}
 use Rattle.calculus.specs.Runs.{Deploy}
 use Rattle.calculus.specs.Storing.{shard}
 use Rattle.hub_rule.specs.Counts.{one_if, count, Each}
-use Rattle.replay_scene.specs.Spaces.{SeenRow, Part, IsIn}
-use Rattle.replay_scene.specs.Showing.{HasShard, TellsDeed, shown}
-use Rattle.replay_scene.specs.Pulled.{seen_at}
-use Rattle.replay_scene.proofs.Basics.{has, hold}
-use Rattle.scene_laws.proofs.Carrying.{Now, now_of, carried}
+use Rattle.hub_scenes.specs.Spaces.{SeenRow, Part, IsIn}
+use Rattle.hub_scenes.specs.Showing.{HasShard, TellsDeed, shown}
+use Rattle.hub_scenes.specs.ReplayPulled.{seen_at}
+use Rattle.hub_scenes.proofs.Basics.{has, hold}
+use Rattle.hub_scenes.proofs.Carrying.{Now, now_of, carried}
 use Rattle.replay_hub.specs.declared.deed.Did.{Did}
 use Rattle.replay_hub.specs.declared.deed.Did.TheVariants.{Arrived, Done, Idle}
 use Rattle.replay_hub.specs.Values.{has_bit, deed_of, values}

@@ -7,16 +7,16 @@ use Rattle.calculus.specs.Rows.{Row}
 use Rattle.calculus.specs.Unfolding.{Unfolds}
 use Rattle.calculus.specs.Steps.{differ}
 use Rattle.calculus.specs.Runs.{Deploy, source_seed, Work}
-use Rattle.fresh_digests.specs.Premises.{FitsInTexts}
+use Rattle.events.specs.Premises.{FitsInTexts}
 use Rattle.hub_rule.specs.Meaning.{Ran}
 use Rattle.racing_replays.specs.Answering.{SomeClash}
-use Rattle.replay_scene.specs.Spaces.{Part}
-use Rattle.replay_scene.specs.Entries.{did_by}
-use Rattle.replay_scene.specs.Scene.{replay}
-use Rattle.replay_scene.specs.Closing.{DecideLog}
-use Rattle.replay_scene.specs.Pulled.{seen_at}
-use Rattle.replay_scene.proofs.Deciding.{hubs_decide_or_clash}
-use Rattle.replay_scene.proofs.Pulled.{ran-seen}
+use Rattle.hub_scenes.specs.Spaces.{Part}
+use Rattle.hub_scenes.specs.Entries.{did_by}
+use Rattle.hub_scenes.specs.ReplayScene.{replay}
+use Rattle.hub_scenes.specs.Closing.{DecideLog}
+use Rattle.hub_scenes.specs.ReplayPulled.{seen_at}
+use Rattle.hub_scenes.proofs.Deciding.{hubs_decide_or_clash}
+use Rattle.hub_scenes.proofs.ReplayPulled.{ran-seen}
 use Rattle.replay_hub.specs.declared.deed.Entry.{Entry}
 use Rattle.replay_hub.specs.declared.deed.Task.{Task}
 use Rattle.replay_hub.specs.Values.{job_of, takes_of, offers_of, entry_of, values, agrees}

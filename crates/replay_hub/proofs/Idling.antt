@@ -9,10 +9,10 @@ use Rattle.calculus.specs.Rows.{Row}
 use Rattle.calculus.specs.Runs.{Deploy}
 use Rattle.hub_rule.specs.Meaning.{Passes, AllFollow}
 use Rattle.hub_rule.specs.Rule.{Carries}
-use Rattle.replay_scene.specs.Spaces.{Part}
-use Rattle.replay_scene.specs.Showing.{IsIdle}
-use Rattle.replay_scene.specs.Pulled.{seen_at}
-use Rattle.scene_laws.proofs.Carrying.{now_of, carried}
+use Rattle.hub_scenes.specs.Spaces.{Part}
+use Rattle.hub_scenes.specs.Showing.{IsIdle}
+use Rattle.hub_scenes.specs.ReplayPulled.{seen_at}
+use Rattle.hub_scenes.proofs.Carrying.{now_of, carried}
 use Rattle.replay_hub.specs.declared.deed.Entry.{Entry}
 use Rattle.replay_hub.specs.declared.deed.Try.{Try}
 use Rattle.replay_hub.specs.declared.deed.Did.{Did}

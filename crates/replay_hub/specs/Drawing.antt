@@ -8,10 +8,10 @@ use Rattle.calculus.specs.Storing.{shard}
 use Rattle.calculus.specs.Runs.{Deploy}
 use Rattle.hub_rule.specs.Meaning.{Passes, AllFollow}
 use Rattle.hub_rule.specs.Rule.{Carries}
-use Rattle.shard_rows.specs.Shards.{stands_in, Covers}
-use Rattle.shard_rows.specs.Hands.{is_one_channel}
-use Rattle.replay_scene.specs.Spaces.{SeenRow, Part, IsIn}
-use Rattle.replay_scene.specs.Showing.{Fit, IsFirstUse, Makes}
+use Rattle.events.specs.Shards.{stands_in, Covers}
+use Rattle.events.specs.Hands.{is_one_channel}
+use Rattle.hub_scenes.specs.Spaces.{SeenRow, Part, IsIn}
+use Rattle.hub_scenes.specs.Showing.{Fit, IsFirstUse, Makes}
 use Rattle.replay_hub.specs.declared.deed.Try.{Try}
 use Rattle.replay_hub.specs.declared.deed.Made.{Made}
 use Rattle.replay_hub.specs.declared.deed.Did.{Did}

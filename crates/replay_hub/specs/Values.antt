@@ -13,14 +13,14 @@ use Rattle.calculus.specs.Runs.{Deploy}
 use Rattle.event_log.specs.View.{step_of}
 use Rattle.hub_rule.specs.Counts.{count, Each}
 use Rattle.hub_rule.specs.Meaning.{Meaning, Lawful}
-use Rattle.run_entries.specs.Entries.{Making}
-use Rattle.replay_scene.specs.Spaces.{NewRow, IndexTry, Job, arrive, try_index, Part, Space, new_row}
-use Rattle.replay_scene.specs.Entries.{Deed, arrives, does, idles, Entry as AnEntry, job_of as its_job, offers_of as its_offers}
-use Rattle.replay_scene.specs.Showing.{IsIdle}
-use Rattle.replay_scene.specs.Scene.{replay}
-use Rattle.replay_scene.specs.Pulled.{seen_at, pulled, Agrees}
-use Rattle.replay_scene.proofs.Lawful.{lawful}
-use Rattle.replay_scene.proofs.Pulled.{lawful-seen}
+use Rattle.events.specs.Entries.{Making}
+use Rattle.hub_scenes.specs.Spaces.{NewRow, IndexTry, Job, arrive, try_index, Part, Space, new_row}
+use Rattle.hub_scenes.specs.Entries.{Deed, arrives, does, idles, Entry as AnEntry, job_of as its_job, offers_of as its_offers}
+use Rattle.hub_scenes.specs.Showing.{IsIdle}
+use Rattle.hub_scenes.specs.ReplayScene.{replay}
+use Rattle.hub_scenes.specs.ReplayPulled.{seen_at, pulled, Agrees}
+use Rattle.hub_scenes.proofs.Lawful.{lawful}
+use Rattle.hub_scenes.proofs.ReplayPulled.{lawful-seen}
 use Rattle.replay_hub.specs.declared.deed.Coming.{Coming}
 use Rattle.replay_hub.specs.declared.deed.Try.{Try}
 use Rattle.replay_hub.specs.declared.deed.Task.{Task}

@@ -4,12 +4,12 @@ ghost use Rattle.std.specs.List.{All};
 ghost use Rattle.calculus.specs.Unfolding.{Unfolds};
 ghost use Rattle.calculus.specs.Steps.{differ};
 ghost use Rattle.calculus.specs.Runs.{source_seed, Work};
-ghost use Rattle.fresh_digests.specs.Premises.{FitsInTexts};
+ghost use Rattle.events.specs.Premises.{FitsInTexts};
 ghost use Rattle.hub_rule.specs.Counts.{all_of};
 ghost use Rattle.group_locks.specs.Seats.{AtRest, hand_of, seat_count, spent_of};
 ghost use Rattle.racing_replays.specs.Answering.{SomeClash};
-ghost use Rattle.replay_scene.specs.Entries.{did_by};
-ghost use Rattle.replay_scene.specs.Closing.{DecideLog};
+ghost use Rattle.hub_scenes.specs.Entries.{did_by};
+ghost use Rattle.hub_scenes.specs.Closing.{DecideLog};
 ghost use Rattle.replay_hub.specs.Values.{entry_of};
 ghost use Rattle.replay_hub.specs.Ends.{FoundAnEnd};
 

@@ -1,6 +1,6 @@
 //! The scene.
 ghost use Rattle.std.specs.Prelude.{◌≡◌, ℕ};
-ghost use Rattle.replay_scene.specs.Spaces.{Space};
+ghost use Rattle.hub_scenes.specs.Spaces.{Space};
 ghost use Rattle.replay_hub.specs.Values.{values, values_lawful};
 
 use crate::deed::{Entry, Task};

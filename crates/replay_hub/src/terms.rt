@@ -4,7 +4,7 @@ ghost use Rattle.calculus.specs.Runs.{Deploy};
 ghost use Rattle.calculus.specs.Log.{Step};
 ghost use Rattle.calculus.specs.Rows.{Row};
 ghost use Rattle.calculus.specs.Tree.{Tree};
-ghost use Rattle.replay_scene.specs.Spaces.{Part};
+ghost use Rattle.hub_scenes.specs.Spaces.{Part};
 
 /// What the proof of a replay names: its deploy and the steps of its log; and the types of its rows, channels and
 /// shards. A shard is seen as its number, its rows and the built-in receivers in it.

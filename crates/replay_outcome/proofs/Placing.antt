@@ -2,8 +2,8 @@
 use Rattle.std.proofs.Common.{◌≡◌, ◌≢◌, ℕ, zero, suc, ◌+◌, Bool, true, false, ◌||◌, cond, List, [], ◌∷◌, ◌++◌, length, refl, sym, ap, subst, ◌∙◌, arith, eqb, eqb-true, eq-eqb, Some, None, set, replicate}
 use Rattle.std.specs.Prelude.{Option, slice_get}
 use Rattle.std.specs.List.{list_any}
-use Rattle.replay_scene.specs.Spaces.{DidStep}
-use Rattle.replay_scene.specs.Closing.{is_did, did_at}
+use Rattle.hub_scenes.specs.Spaces.{DidStep}
+use Rattle.hub_scenes.specs.Closing.{is_did, did_at}
 use Rattle.replay_outcome.specs.declared.places.Came.{Came}
 use Rattle.replay_outcome.specs.Settling.{Keeps, KeptFrom}
 use Rattle.replay_hub.specs.Values.{line_items}

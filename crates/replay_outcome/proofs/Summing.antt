@@ -6,10 +6,10 @@ use Rattle.std.proofs.lemmas.List.{map-append}
 use Rattle.std.proofs.lemmas.List.Sums.{sum_by-append}
 use Rattle.calculus.specs.declared.fault.FaultKind.{FaultKind}
 use Rattle.calculus.specs.Runs.{Verdict, done, exhausted, faulted, at_fault, step_of_work}
-use Rattle.run_entries.specs.Entries.{first_fault}
-use Rattle.run_verdict.specs.View.{verdict_of}
-use Rattle.replay_scene.specs.Spaces.{DidStep}
-use Rattle.replay_scene.specs.Closing.{is_did, IsFirstUndone, did_at, in_log_order, did_lines}
+use Rattle.events.specs.Entries.{first_fault}
+use Rattle.replays.specs.View.{verdict_of}
+use Rattle.hub_scenes.specs.Spaces.{DidStep}
+use Rattle.hub_scenes.specs.Closing.{is_did, IsFirstUndone, did_at, in_log_order, did_lines}
 use Rattle.replay_outcome.specs.declared.places.Came.{Came}
 use Rattle.replay_outcome.specs.declared.sum.Sum.{Sum}
 use Rattle.replay_outcome.specs.Settling.{KeptFrom, AreDidBelow, IsSum}

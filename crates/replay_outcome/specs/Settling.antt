@@ -1,12 +1,12 @@
 -- What the done steps of a replay, drawn in any order, come to in the order of the log.
 use Rattle.std.specs.Prelude.{◌≡◌, ◌<◌, ⊤, ℕ, ◌+◌, ◌-◌, ◌^◌, min, true, List, [], ◌∷◌, map as each, sum_by, Option, Some, None}
 use Rattle.calculus.specs.Runs.{Deploy, Work}
-use Rattle.run_entries.specs.Entries.{first_fault}
+use Rattle.events.specs.Entries.{first_fault}
 use Rattle.calculus.specs.declared.fault.FaultKind.{FaultKind}
 use Rattle.replays.specs.Replays.{output_of}
-use Rattle.run_verdict.specs.View.{verdict_of}
-use Rattle.replay_scene.specs.Spaces.{DidStep}
-use Rattle.replay_scene.specs.Closing.{is_did, IsFirstUndone, did_at, in_log_order, did_verdict, did_cost, did_lines}
+use Rattle.replays.specs.View.{verdict_of}
+use Rattle.hub_scenes.specs.Spaces.{DidStep}
+use Rattle.hub_scenes.specs.Closing.{is_did, IsFirstUndone, did_at, in_log_order, did_verdict, did_cost, did_lines}
 use Rattle.replay_outcome.specs.declared.places.Came.{Came}
 use Rattle.replay_outcome.specs.declared.sum.Sum.{Sum}
 use Rattle.replay_outcome.specs.declared.sum.Summed.{Summed}

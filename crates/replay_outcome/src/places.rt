@@ -2,8 +2,8 @@
 ghost use Rattle.std.specs.Prelude.{◌≡◌, ◌++◌, ◌∷◌, [], List, None, Some, length, map, replicate, slice_get, IfOk, MatchBool};
 ghost use Rattle.calculus.specs.Rows.{Row};
 ghost use Rattle.calculus.specs.Tree.{Tree};
-ghost use Rattle.replay_scene.specs.Spaces.{DidStep};
-ghost use Rattle.replay_scene.specs.Entries.{did_by, did_in};
+ghost use Rattle.hub_scenes.specs.Spaces.{DidStep};
+ghost use Rattle.hub_scenes.specs.Entries.{did_by, did_in};
 ghost use Rattle.replay_hub.specs.Values.{deed_of, entry_of, line_items};
 ghost use Rattle.replay_outcome.specs.Settling.{KeptFrom};
 

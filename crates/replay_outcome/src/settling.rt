@@ -3,8 +3,8 @@ ghost use Rattle.std.specs.Prelude.{◌≡◌, ◌<◌, ◌-◌, ◌^◌, List, 
 ghost use Rattle.calculus.specs.Rows.{Row};
 ghost use Rattle.calculus.specs.Runs.{Deploy, Work, work_fault, work_price};
 ghost use Rattle.calculus.specs.Tree.{Tree};
-ghost use Rattle.replay_scene.specs.Spaces.{DidStep};
-ghost use Rattle.replay_scene.specs.Entries.{did_by};
+ghost use Rattle.hub_scenes.specs.Spaces.{DidStep};
+ghost use Rattle.hub_scenes.specs.Entries.{did_by};
 ghost use Rattle.replay_hub.specs.Values.{entry_of};
 ghost use Rattle.replay_outcome.specs.Settling.{EndsSo, IsSum, Settles};
 
@@ -12,7 +12,7 @@ use crate::places::place_all;
 use crate::sum::{Sum, Summed, sum_up};
 use calculus::FaultKind;
 use replay_hub::Entry;
-use run_verdict::Verdict;
+use replays::Verdict;
 use std::alloc::{AllocError, Global};
 
 /// How a replay ended whose steps are all done.

@@ -1,14 +1,14 @@
 //! The sum of done steps in the order of the log.
 ghost use Rattle.std.specs.Prelude.{◌≡◌, ◌<◌, ◌^◌, ◌++◌, ◌∷◌, [], ℕ, List, Option, length, IfOk};
 ghost use Rattle.calculus.specs.Runs.{at_fault, done, step_of_work};
-ghost use Rattle.run_verdict.specs.View.{verdict_of};
-ghost use Rattle.replay_scene.specs.Spaces.{DidStep};
+ghost use Rattle.replays.specs.View.{verdict_of};
+ghost use Rattle.hub_scenes.specs.Spaces.{DidStep};
 ghost use Rattle.replay_hub.specs.Values.{line_items};
 ghost use Rattle.replay_outcome.specs.Settling.{IsSum, KeptFrom, SumsUp};
 
 use crate::places::Came;
 use calculus::FaultKind;
-use run_verdict::Verdict;
+use replays::Verdict;
 use std::alloc::{AllocError, Global};
 
 /// What steps in order come to with the source before them.

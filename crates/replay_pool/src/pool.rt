@@ -4,28 +4,27 @@ ghost use Rattle.std.specs.List.{All};
 ghost use Rattle.calculus.specs.Runs.{source_seed, Work};
 ghost use Rattle.calculus.specs.Steps.{differ};
 ghost use Rattle.calculus.specs.Unfolding.{Unfolds};
-ghost use Rattle.fresh_digests.specs.Premises.{FitsInTexts};
+ghost use Rattle.events.specs.Premises.{FitsInTexts};
 ghost use Rattle.hub_rule.specs.Counts.{Projected};
 ghost use Rattle.group_locks.specs.Seats.{AtRest, IsIdle};
 ghost use Rattle.racing_replays.specs.Answering.{SomeClash};
-ghost use Rattle.replay_scene.specs.Closing.{DecideLog};
-ghost use Rattle.replay_scene.specs.Entries.{did_by};
-ghost use Rattle.replay_scene.specs.Spaces.{Space};
+ghost use Rattle.hub_scenes.specs.Closing.{DecideLog};
+ghost use Rattle.hub_scenes.specs.Entries.{did_by};
+ghost use Rattle.hub_scenes.specs.Spaces.{Space};
 ghost use Rattle.replay_hub.specs.Ends.{FoundAnEnd};
 ghost use Rattle.replay_hub.specs.Values.{entry_of, values};
 
 use group_locks::{Closed, Hub, Pool, Seat, Terms};
-use numbered_jobs::{Crew, numbered};
+use numbered_jobs::{Crew, side_by_side};
 use replay_hub::{ReplayScene, Task, close_replay};
 use replay_worker::{ReplayTables, Site, work_through};
 use rho_outside::Gate;
 use std::alloc::{AllocError, Global};
 use std::sync::Wait;
-use std::thread;
 use std::thread::Threads;
 
 // Does all jobs of a hub, each seat in a thread of its own. Want of memory is the one error.
-fn side_by_side<J: ReplayTables + Sync, R: Threads + Wait + Sync, G: Gate + Sync>(
+fn work_all<J: ReplayTables + Sync, R: Threads + Wait + Sync, G: Gate + Sync>(
     rt: &R,
     alloc: Global,
     gate: &G,
@@ -39,15 +38,14 @@ fn side_by_side<J: ReplayTables + Sync, R: Threads + Wait + Sync, G: Gate + Sync
     ensures count { IfOk result (λ v. length v.items ≡ length seats.items) }
     ensures each { IfOk result (λ v. All (λ s. AtRest hub.now.table.shared.table_id s.state × FoundAnEnd s.state) v.items) }
 {
-    let jobs = numbered(alloc, seats)?;
-    thread::map_vec(
+    side_by_side(
         rt,
-        jobs,
-        &|job: (u32, Seat<ReplayScene<J>>)| -> Seat<ReplayScene<J>>
-            requires { J.knows tables.now × IsIdle hub.now.table.shared.table_id job.1.state }
+        alloc,
+        seats,
+        &|worker: u32, seat: Seat<ReplayScene<J>>| -> Seat<ReplayScene<J>>
+            requires { J.knows tables.now × IsIdle hub.now.table.shared.table_id seat.state }
             ensures { AtRest hub.entry.now.table.shared.table_id result.state × FoundAnEnd result.state }
         {
-            let (worker, seat) = job;
             let site = Site {
                 rt,
                 alloc,
@@ -85,7 +83,7 @@ pub fn replay_side_by_side<J: ReplayTables + Sync + Drop, R: Threads + Wait + Sy
         limit: MOST_CHARGED,
     };
     let Pool { hub, seats } = Hub::start(crew.alloc, scene, shards, tasks, terms)?;
-    let seats = side_by_side(crew.rt, crew.alloc, crew.gate, &tables, &hub, seats)?;
+    let seats = work_all(crew.rt, crew.alloc, crew.gate, &tables, &hub, seats)?;
     drop(tables);
     let Ok(closed) = close_replay(hub, seats) else {
         return Err(AllocError);

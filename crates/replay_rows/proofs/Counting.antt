@@ -1,7 +1,7 @@
 -- Rows of a map, counted and taken out.
 use Rattle.std.proofs.Common.{◌≡◌, ◌<◌, ◌≤◌, ◌^◌, ◌-◌, ◌+◌, ℕ, zero, suc, Bool, true, false, cond, List, [], ◌∷◌, ◌++◌, map as each, length, refl, sym, ap, ◌∙◌, inl, inr, arith, get_or, Fits, w32}
 use Rattle.std.specs.Prelude.{flat_map, set}
-use Rattle.replay_scene.specs.Spaces.{SeenRow, IsIn}
+use Rattle.hub_scenes.specs.Spaces.{SeenRow, IsIn}
 use Rattle.calculus.specs.Rows.{Row}
 use Rattle.replay_space.specs.declared.seen.Seen.{Seen}
 use Rattle.replay_rows.specs.Filing.{AllHave}

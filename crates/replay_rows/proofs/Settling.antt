@@ -8,8 +8,8 @@ use Rattle.calculus.specs.declared.ids.Digest.{Digest}
 use Rattle.calculus.specs.Log.{Step}
 use Rattle.calculus.specs.Steps.{is_one_of}
 use Rattle.racing_replays.specs.Replaying.{names}
-use Rattle.replay_scene.specs.Spaces.{SeenRow}
-use Rattle.replay_scene.specs.Entries.{counted, left_of}
+use Rattle.hub_scenes.specs.Spaces.{SeenRow}
+use Rattle.hub_scenes.specs.Entries.{counted, left_of}
 use Rattle.replay_space.proofs.Filed.{mapped-more}
 use Rattle.replay_rows.specs.Rows.{id_of, once_more, settled, counted_in, stays_from}
 use Rattle.replay_rows.proofs.Filing.{is-same, same-id}

@@ -12,7 +12,7 @@ use Rattle.std.proofs.lemmas.Nat.Bits.{bit_at_or, bit_at-zero, bit_at-pow_same, 
 use Rattle.std.proofs.lemmas.Bool.Decides.{nat_tests}
 use Rattle.replay_rows.specs.Bits.{has_bit}
 use Rattle.row_shards.specs.Homes.{first_shard, home}
-use Rattle.shard_rows.specs.Shards.{stands_in}
+use Rattle.events.specs.Shards.{stands_in}
 
 binary : (n k : ℕ) → bit_at n k < 2
 binary n k = omega arith

@@ -7,8 +7,8 @@ use Rattle.calculus.specs.Steps.{is_one_of}
 use Rattle.calculus.specs.Log.{Step}
 use Rattle.racing_replays.specs.Replaying.{names}
 use Rattle.racing_replays.specs.Counted.{names_id}
-use Rattle.replay_scene.specs.Entries.{counted, left_of}
-use Rattle.replay_scene.specs.Spaces.{SeenRow, Part, standing_row, seen_in, IsIn}
+use Rattle.hub_scenes.specs.Entries.{counted, left_of}
+use Rattle.hub_scenes.specs.Spaces.{SeenRow, Part, standing_row, seen_in, IsIn}
 use Rattle.replay_space.specs.declared.seen.Seen.{Seen}
 use Rattle.replay_rows.specs.Filing.{Filed, seen_in_all, AreUnder, first_with}
 use Rattle.replay_rows.specs.declared.kept.Kept.{Kept}

@@ -2,7 +2,7 @@
 ghost use Rattle.std.specs.Prelude.{◌≡◌, ◌<◌, ℕ, ◌||◌, eqb, map as each, IfOk, IfSome};
 ghost use Rattle.std.specs.List.{list_any};
 ghost use Rattle.calculus.specs.Storing.{shard};
-ghost use Rattle.shard_rows.specs.Shards.{stands_in};
+ghost use Rattle.events.specs.Shards.{stands_in};
 ghost use Rattle.row_shards.specs.Homes.{home};
 ghost use Rattle.replay_rows.specs.Bits.{has_bit};
 

@@ -4,7 +4,7 @@ ghost use Rattle.calculus.specs.Steps.{is_one_of};
 ghost use Rattle.event_log.specs.View.{step_of};
 ghost use Rattle.racing_replays.specs.Replaying.{names};
 ghost use Rattle.racing_replays.specs.Counted.{names_id};
-ghost use Rattle.replay_scene.specs.Spaces.{SeenRow, IsIn};
+ghost use Rattle.hub_scenes.specs.Spaces.{SeenRow, IsIn};
 ghost use Rattle.replay_rows.specs.Rows.{counted_in, filed_rows, part_of, seen_row, settled, settled_part, stays_from, AreFiled, AreLow};
 
 use crate::rows::{Rows, settle};

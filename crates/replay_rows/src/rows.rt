@@ -1,6 +1,6 @@
 // Rows by their ids.
 ghost use Rattle.std.specs.Prelude.{◌≡◌, ◌<◌, ◌^◌, ◌-◌, false, [], ◌∷◌, ◌++◌, flat_map, map as each, IfOk, OnOk, IsPermutation, option_map, option_copied};
-ghost use Rattle.replay_scene.specs.Spaces.{SeenRow, IsIn};
+ghost use Rattle.hub_scenes.specs.Spaces.{SeenRow, IsIn};
 ghost use Rattle.replay_rows.specs.Rows.{filed_rows, find_seen, once_more, seen_row, settled, AreFiled};
 ghost use Rattle.replay_rows.specs.Filing.{HasRoom};
 

@@ -2,10 +2,10 @@
 ghost use Rattle.std.specs.Prelude.{◌≡◌, ℕ, IfOk};
 ghost use Rattle.calculus.specs.Rows.{channels};
 ghost use Rattle.calculus.specs.Storing.{shard};
-ghost use Rattle.replay_scene.specs.Spaces.{IsIn};
+ghost use Rattle.hub_scenes.specs.Spaces.{IsIn};
 ghost use Rattle.replay_rows.specs.Bits.{has_bit};
 ghost use Rattle.row_shards.specs.Homes.{home};
-ghost use Rattle.shard_rows.specs.Shards.{stands_in};
+ghost use Rattle.events.specs.Shards.{stands_in};
 
 use crate::bits::{first_of, row_shards};
 use calculus::Digest;
@@ -63,7 +63,7 @@ impl Model for ShardedRow {
     ghost coded = { row_value_code };
 
     ghost use Rattle.std.specs.Prelude.{◌≡◌, ℕ};
-    ghost use Rattle.shard_rows.specs.Shards.{stands_in};
+    ghost use Rattle.events.specs.Shards.{stands_in};
     ghost use Rattle.replay_rows.specs.Bits.{has_bit};
     ghost use Rattle.row_shards.specs.Homes.{home};
 

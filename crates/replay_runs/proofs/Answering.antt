@@ -13,9 +13,9 @@ use Rattle.replay_outcome.specs.declared.settling.Ending.{Ending}
 use Rattle.replay_outcome.specs.declared.settling.Settled.{Settled}
 use Rattle.replay_outcome.specs.declared.settling.Settled.TheVariants.{NoRun, Ended}
 use Rattle.replay_outcome.specs.Settling.{EndsSo, Settles}
-use Rattle.replay_scene.specs.Entries.{did_by}
-use Rattle.replay_scene.specs.Spaces.{DidStep}
-use Rattle.replay_scene.specs.Closing.{DecideLog, in_log_order, IsLegalLog}
+use Rattle.hub_scenes.specs.Entries.{did_by}
+use Rattle.hub_scenes.specs.Spaces.{DidStep}
+use Rattle.hub_scenes.specs.Closing.{DecideLog, in_log_order, IsLegalLog}
 use Rattle.replay_answers.specs.Answers.{Clashes, IsAnswered}
 use Rattle.replay_answers.specs.declared.replayed.Replayed.{Replayed}
 use Rattle.replay_store.specs.Stores.{AreShardsOf}

@@ -11,20 +11,20 @@ use Rattle.events.specs.Found.{Among}
 use Rattle.events.proofs.Accounts.{distinct}
 use Rattle.events.proofs.Counts.{ids, AreDistinct, differ-distinct, distinct-differ}
 use Rattle.events.proofs.Orders.{times-moved}
-use Rattle.events.proofs.Standing.{built_ins, ids-times, standing-times}
+use Rattle.events.proofs.EventStanding.{built_ins, ids-times, standing-times}
 use Rattle.replays.specs.Replays.{Given, by_rest, by_end, deploy_under, outcome_of, output_of}
 use Rattle.least_step.specs.Least.{HasRows, NothingIsUsedUp}
 use Rattle.least_step.proofs.Past.{legal_lists_use_nothing_up}
-use Rattle.run_verdict.specs.View.{verdict_of}
-use Rattle.run_verdict.specs.declared.verdict.Verdict.{Verdict as Ended}
-use Rattle.run_verdict.specs.declared.verdict.Verdict.TheVariants.{Done, Exhausted, Faulted}
+use Rattle.replays.specs.View.{verdict_of}
+use Rattle.replays.specs.declared.verdict.Verdict.{Verdict as Ended}
+use Rattle.replays.specs.declared.verdict.Verdict.TheVariants.{Done, Exhausted, Faulted}
 use Rattle.process_laws.proofs.StorableStaying.{storable_rows_stay}
 use Rattle.replays.specs.declared.fault.ReplayFault.{ReplayFault}
 use Rattle.replays.specs.declared.fault.ReplayFault.TheVariants.{Reducible, NoMemory}
 use Rattle.replay_outcome.specs.declared.settling.Ending.{Ending}
 use Rattle.replay_outcome.specs.Settling.{EndsSo}
-use Rattle.replay_scene.specs.Spaces.{DidStep}
-use Rattle.replay_scene.specs.Closing.{did_verdict, did_cost, did_lines, IsLegalLog}
+use Rattle.hub_scenes.specs.Spaces.{DidStep}
+use Rattle.hub_scenes.specs.Closing.{did_verdict, did_cost, did_lines, IsLegalLog}
 use Rattle.replay_answers.specs.Answers.{Clashes, IsAnswered, IsReplayed}
 use Rattle.replay_answers.specs.declared.replayed.Replayed.{Replayed}
 use Rattle.replay_answers.proofs.Clashing.{fresh-or-clash}

@@ -9,8 +9,8 @@ use Rattle.calculus.specs.Steps.{differ, is_one_of}
 use Rattle.calculus.proofs.Opened.{hashing}
 use Rattle.events.specs.Events.{first_ids, built_in_ids}
 use Rattle.events.proofs.Counts.{ids, one_if, times, bytes_same, same_bytes, differ-distinct, distinct-differ}
-use Rattle.events.proofs.Standing.{built_ins, ids-times}
-use Rattle.fresh_digests.specs.Premises.{Shares}
+use Rattle.events.proofs.EventStanding.{built_ins, ids-times}
+use Rattle.events.specs.Premises.{Shares}
 use Rattle.process_laws.proofs.Closed.{each_process_unfolds}
 use Rattle.racing_replays.specs.Laws.{first_bag, state_of}
 use Rattle.racing_replays.specs.Replaying.{first_replay, none_yet, Replay}

@@ -10,13 +10,13 @@ use Rattle.calculus.specs.Steps.{differ}
 use Rattle.calculus.specs.Storing.{IsStorable}
 use Rattle.calculus.specs.Tree.{Tree}
 use Rattle.replay_hub.specs.Values.{entry_of}
-use Rattle.fresh_digests.specs.Numbers.{IsNumberable}
+use Rattle.events.specs.Numbers.{IsNumberable}
 use Rattle.process_laws.specs.StorableLaws.{AreStorable}
 use Rattle.replays.specs.Replays.{Given, header_refusal, deploy_under}
 use Rattle.racing_replays.specs.Answering.{SomeClash}
-use Rattle.replay_scene.specs.Closing.{DecideLog}
-use Rattle.replay_scene.specs.Entries.{did_by}
-use Rattle.replay_scene.specs.Spaces.{DidStep, Part}
+use Rattle.hub_scenes.specs.Closing.{DecideLog}
+use Rattle.hub_scenes.specs.Entries.{did_by}
+use Rattle.hub_scenes.specs.Spaces.{DidStep, Part}
 use Rattle.replays.specs.declared.fault.ReplayFault.{ReplayFault}
 use Rattle.replays.specs.declared.fault.ReplayFault.TheVariants.{NoMemory}
 use Rattle.replay_answers.specs.Answers.{Clashes, IsAnswered}

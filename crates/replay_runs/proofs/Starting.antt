@@ -6,9 +6,9 @@ use Rattle.calculus.specs.Rows.{Row}
 use Rattle.calculus.specs.Runs.{Deploy, Work, work_products}
 use Rattle.calculus.specs.Tree.{Tree}
 use Rattle.calculus.specs.Unfolding.{rows_of}
-use Rattle.events.specs.Laws.{Begins}
+use Rattle.events.specs.EventLaws.{Begins}
 use Rattle.hub_rule.specs.Counts.{Projected}
-use Rattle.replay_scene.specs.Spaces.{arrive, Part, Space, first_space, new_row}
+use Rattle.hub_scenes.specs.Spaces.{arrive, Part, Space, first_space, new_row}
 use Rattle.replay_hub.specs.declared.deed.Task.{Task}
 use Rattle.replay_hub.specs.Values.{job_of, values}
 use Rattle.replay_store.specs.Stores.{AreOpenedShards}

@@ -3,10 +3,10 @@ use Rattle.std.specs.Prelude.{◌≡◌, true}
 use Rattle.calculus.specs.Form.{IsClosed}
 use Rattle.calculus.specs.Root.{root}
 use Rattle.calculus.specs.Steps.{differ}
-use Rattle.fresh_digests.specs.Numbers.{IsNumberable}
+use Rattle.events.specs.Numbers.{IsNumberable}
 use Rattle.replays.specs.Replays.{Given}
 use Rattle.replay_answers.specs.Bases.{asked, ids_of}
-use Rattle.states.specs.Quiet.{AreQuiet}
+use Rattle.events.specs.Quiet.{AreQuiet}
 use Rattle.replay_runs.specs.declared.basis.Basis.{Basis}
 
 -- what a basis gives to the replay of a log

@@ -5,15 +5,15 @@ use Rattle.calculus.specs.Log.{Step, Header}
 use Rattle.calculus.specs.Rows.{Row}
 use Rattle.calculus.specs.Runs.{Work, work_price, work_fault}
 use Rattle.calculus.specs.Steps.{Bag, differ}
-use Rattle.fresh_digests.specs.Premises.{FitsInTexts}
+use Rattle.events.specs.Premises.{FitsInTexts}
 use Rattle.least_step.specs.Least.{AllowsNone, IsLeast}
 use Rattle.process_laws.specs.StorableLaws.{AreStorable}
 use Rattle.replays.specs.Replays.{Given, header_refusal, deploy_under}
-use Rattle.run_verdict.specs.declared.verdict.Verdict.TheVariants.{Done}
+use Rattle.replays.specs.declared.verdict.Verdict.TheVariants.{Done}
 use Rattle.replays.specs.declared.fault.ReplayFault.{ReplayFault}
 use Rattle.replays.specs.declared.fault.ReplayFault.TheVariants.{Reducible, NoMemory}
-use Rattle.replay_scene.specs.Entries.{did_by}
-use Rattle.replay_scene.specs.Closing.{DecideLog}
+use Rattle.hub_scenes.specs.Entries.{did_by}
+use Rattle.hub_scenes.specs.Closing.{DecideLog}
 use Rattle.replay_hub.specs.Values.{entry_of}
 use Rattle.replay_answers.specs.Answers.{Clashes}
 use Rattle.replay_answers.specs.Bases.{ids_of}

@@ -7,8 +7,8 @@ use Rattle.calculus.specs.Rows.{Row, stdout, stdout_ack}
 use Rattle.calculus.specs.Runs.{Deploy, Work, source_seed, work_price, work_fault}
 use Rattle.calculus.specs.Unfolding.{Unfolds}
 use Rattle.racing_replays.specs.Answering.{SomeClash}
-use Rattle.replay_scene.specs.Closing.{DecideLog}
-use Rattle.replay_scene.specs.Entries.{did_by}
+use Rattle.hub_scenes.specs.Closing.{DecideLog}
+use Rattle.hub_scenes.specs.Entries.{did_by}
 use Rattle.replay_hub.specs.Values.{entry_of}
 use Rattle.replay_hub.specs.declared.deed.Task.{Task}
 use Rattle.replay_hub.specs.declared.deed.Task.TheVariants.{Arrive}

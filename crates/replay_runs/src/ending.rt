@@ -10,8 +10,8 @@ ghost use Rattle.least_step.specs.Least.{HasRows, NothingIsUsedUp};
 ghost use Rattle.replays.specs.Replays.{Given, deploy_under};
 ghost use Rattle.replays.specs.Refusals.{is_of_header};
 ghost use Rattle.replay_outcome.specs.Settling.{EndsSo};
-ghost use Rattle.replay_scene.specs.Spaces.{DidStep};
-ghost use Rattle.replay_scene.specs.Closing.{IsLegalLog};
+ghost use Rattle.hub_scenes.specs.Spaces.{DidStep};
+ghost use Rattle.hub_scenes.specs.Closing.{IsLegalLog};
 ghost use Rattle.replay_answers.specs.Answers.{Clashes, IsAnswered};
 ghost use Rattle.replay_store.specs.Stores.{AreShardsOf};
 ghost use Rattle.replay_runs.specs.Endings.{EndsDone, HasRaced, IsSound};
@@ -23,7 +23,7 @@ use replay_hub::Entry;
 use replay_outcome::{Ending, Settled, settle};
 use replay_shards::{ReplayShard, ShardedChannel, ShardedRow};
 use replay_store::rows_of;
-use run_verdict::Verdict;
+use replays::Verdict;
 use std::alloc::Global;
 
 /// What a replay by many workers left: the entries that they drew, and the 64 shards; with what its source came to.

@@ -3,11 +3,11 @@ ghost use Rattle.std.specs.Prelude.{◌≡◌, ◌≤◌, ◌^◌, true, length,
 ghost use Rattle.calculus.specs.Limits.{most_limit};
 ghost use Rattle.calculus.specs.Steps.{differ};
 ghost use Rattle.event_log.specs.View.{steps_of, IsWritable};
-ghost use Rattle.fresh_digests.specs.Premises.{FitsInTexts};
+ghost use Rattle.events.specs.Premises.{FitsInTexts};
 ghost use Rattle.process_laws.specs.StorableLaws.{AreStorable};
 ghost use Rattle.replays.specs.Replays.{deploy_under};
 ghost use Rattle.replay_answers.specs.Bases.{ids_of};
-ghost use Rattle.states.specs.Quiet.{AllowNoStep};
+ghost use Rattle.events.specs.Quiet.{AllowNoStep};
 ghost use Rattle.replay_runs.specs.Basis.{given_by, IsSoundBasis};
 ghost use Rattle.replay_runs.specs.Racing.{arrivals, IsRaced};
 

@@ -4,12 +4,12 @@ ghost use Rattle.calculus.specs.Limits.{most_limit};
 ghost use Rattle.calculus.specs.Root.{root};
 ghost use Rattle.calculus.specs.Steps.{differ};
 ghost use Rattle.event_log.specs.View.{header_of, steps_of, IsWritable};
-ghost use Rattle.fresh_digests.specs.Numbers.{IsNumberable};
+ghost use Rattle.events.specs.Numbers.{IsNumberable};
 ghost use Rattle.replays.specs.Replays.{deploy_under, header_refusal, Refusal};
 ghost use Rattle.replays.specs.Refusals.{is_of_header, refusal_of};
 ghost use Rattle.replay_answers.specs.Answers.{Clashes, IsAnswered};
 ghost use Rattle.replay_answers.specs.Bases.{asked, ids_of};
-ghost use Rattle.states.specs.Quiet.{AreQuiet};
+ghost use Rattle.events.specs.Quiet.{AreQuiet};
 ghost use Rattle.replay_runs.specs.Basis.{given_by, IsSoundBasis};
 ghost use Rattle.replay_runs.specs.Racing.{any_built_in_id, has_built_in_id};
 

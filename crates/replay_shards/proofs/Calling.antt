@@ -5,9 +5,9 @@ use Rattle.calculus.specs.Log.{Step}
 use Rattle.event_log.specs.declared.log.LogStep.{LogStep}
 use Rattle.event_log.specs.View.{step_of, steps_of}
 use Rattle.calculus.proofs.Permutations.{unmoved}
-use Rattle.run_entries.specs.Entries.{Making}
-use Rattle.replay_scene.specs.Spaces.{IndexTry}
-use Rattle.replay_scene.specs.Entries.{does, left_of, PartBecomes}
+use Rattle.events.specs.Entries.{Making}
+use Rattle.hub_scenes.specs.Spaces.{IndexTry}
+use Rattle.hub_scenes.specs.Entries.{does, left_of, PartBecomes}
 use Rattle.replay_rows.specs.Rows.{settled_part}
 use Rattle.replay_slots.specs.Hands.{InHand, shard_at, AllBecome}
 use Rattle.replay_slots.proofs.Placing.{mapped-at}

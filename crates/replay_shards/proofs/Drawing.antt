@@ -5,14 +5,14 @@ use Rattle.calculus.proofs.Members.{Member, member-split, member-left, member-ri
 use Rattle.calculus.specs.Log.{Step}
 use Rattle.calculus.specs.Storing.{shard}
 use Rattle.hub_rule.specs.Counts.{count, one_if, Each}
-use Rattle.shard_rows.specs.Shards.{stands_in, shards_of, Covers}
-use Rattle.shard_rows.proofs.Meeting.{IsMet, met-on, its-shard}
-use Rattle.shard_rows.proofs.Standing.{stands, its-one}
+use Rattle.events.specs.Shards.{stands_in, shards_of, Covers}
+use Rattle.events.proofs.Meeting.{IsMet, met-on, its-shard}
+use Rattle.events.proofs.ShardStanding.{stands, its-one}
 use Rattle.events.specs.Found.{Among}
 use Rattle.events.proofs.Making.{member}
-use Rattle.replay_scene.specs.Spaces.{SeenRow, Part, IndexTry, IsIn, bare}
-use Rattle.replay_scene.specs.Showing.{shown, HasShard, IdsTellSeen, IsIdle}
-use Rattle.replay_scene.proofs.Basics.{has, hold}
+use Rattle.hub_scenes.specs.Spaces.{SeenRow, Part, IndexTry, IsIn, bare}
+use Rattle.hub_scenes.specs.Showing.{shown, HasShard, IdsTellSeen, IsIdle}
+use Rattle.hub_scenes.proofs.Basics.{has, hold}
 use Rattle.replay_rows.specs.Rows.{find_seen}
 use Rattle.replay_shards.specs.declared.ready.Ready.{Ready}
 use Rattle.replay_shards.specs.Ready.{IsReady}

@@ -10,9 +10,9 @@ use Rattle.calculus.specs.Steps.{Meeting, differ, is_one_of, same_meeting}
 use Rattle.events.specs.Found.{met, is_lasting}
 use Rattle.racing_replays.specs.Replaying.{names, ids_of}
 use Rattle.racing_replays.specs.Counted.{names_id, uses}
-use Rattle.replay_scene.specs.Spaces.{SeenRow, bare, IsIn}
-use Rattle.replay_scene.specs.Showing.{Fit, IdsTellSeen, IsLower}
-use Rattle.replay_scene.proofs.Basics.{has, hold}
+use Rattle.hub_scenes.specs.Spaces.{SeenRow, bare, IsIn}
+use Rattle.hub_scenes.specs.Showing.{Fit, IdsTellSeen, IsLower}
+use Rattle.hub_scenes.proofs.Basics.{has, hold}
 use Rattle.replay_shards.specs.declared.ready.Ready.{Ready}
 use Rattle.replay_rows.specs.Rows.{find_seen, has_full}
 use Rattle.replay_shards.specs.Taken.{AreFound, AreTaken, IsNotTaken, IsTaken, OneIsNotTaken, FitsNothing}

@@ -7,8 +7,8 @@ use Rattle.calculus.specs.declared.ids.Digest.{Digest}
 use Rattle.calculus.specs.Log.{Step}
 use Rattle.event_log.specs.declared.log.LogStep.{LogStep}
 use Rattle.event_log.specs.View.{step_of, steps_of}
-use Rattle.replay_scene.specs.Spaces.{SeenRow, IsIn}
-use Rattle.replay_scene.specs.Entries.{indices}
+use Rattle.hub_scenes.specs.Spaces.{SeenRow, IsIn}
+use Rattle.hub_scenes.specs.Entries.{indices}
 use Rattle.replay_shards.specs.declared.ready.Try.{Try}
 use Rattle.replay_rows.specs.Rows.{find_seen}
 use Rattle.replay_shards.specs.Taken.{bytes_of}

@@ -6,9 +6,9 @@ use Rattle.calculus.specs.Rows.{Row}
 use Rattle.calculus.specs.Storing.{IsStorable}
 use Rattle.rho_term.specs.Rows.{row_of_op}
 use Rattle.rho_term.specs.declared.op.Op.{Op}
-use Rattle.replay_scene.specs.Spaces.{SeenRow, seen_in, standing_row}
+use Rattle.hub_scenes.specs.Spaces.{SeenRow, seen_in, standing_row}
 use Rattle.replay_space.proofs.Filed.{mapped-more}
-use Rattle.shard_rows.specs.Shards.{stands_in}
+use Rattle.events.specs.Shards.{stands_in}
 
 -- operations whose rows may be stored
 pub all-storable : (os : List Op) → All IsStorable (each row_of_op os) → All (λ o. IsStorable (row_of_op o)) os

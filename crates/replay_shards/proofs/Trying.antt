@@ -10,10 +10,10 @@ use Rattle.calculus.specs.Log.{Step}
 use Rattle.calculus.specs.Rows.{Row, channels}
 use Rattle.calculus.specs.Steps.{is_one_of}
 use Rattle.racing_replays.specs.Counted.{names_id, uses}
-use Rattle.replay_scene.specs.Spaces.{SeenRow, IndexTry, bare, IsIn}
-use Rattle.replay_scene.specs.Entries.{indices}
-use Rattle.replay_scene.specs.Showing.{later_use, use_at, one_or_none, IsUse}
-use Rattle.replay_scene.proofs.Basics.{has, hold}
+use Rattle.hub_scenes.specs.Spaces.{SeenRow, IndexTry, bare, IsIn}
+use Rattle.hub_scenes.specs.Entries.{indices}
+use Rattle.hub_scenes.specs.Showing.{later_use, use_at, one_or_none, IsUse}
+use Rattle.hub_scenes.proofs.Basics.{has, hold}
 use Rattle.replay_space.proofs.Filed.{mapped-more}
 use Rattle.replay_shards.specs.declared.ready.Try.{Try}
 use Rattle.replay_rows.specs.Rows.{find_seen}

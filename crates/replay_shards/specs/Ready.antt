@@ -4,9 +4,9 @@ use Rattle.calculus.specs.Log.{Step}
 use Rattle.calculus.specs.Rows.{Row}
 use Rattle.calculus.specs.Steps.{Meeting}
 use Rattle.events.specs.Found.{met, is_lasting}
-use Rattle.replay_scene.specs.Spaces.{SeenRow, IndexTry, bare, IsIn}
-use Rattle.replay_scene.specs.Entries.{indices}
-use Rattle.replay_scene.specs.Showing.{later_use, use_at, Fit, IsUse}
+use Rattle.hub_scenes.specs.Spaces.{SeenRow, IndexTry, bare, IsIn}
+use Rattle.hub_scenes.specs.Entries.{indices}
+use Rattle.hub_scenes.specs.Showing.{later_use, use_at, Fit, IsUse}
 use Rattle.row_meeting.specs.Meeting.{IsMeeting}
 use Rattle.replay_shards.specs.declared.ready.Ready.{Ready}
 use Rattle.replay_shards.specs.declared.ready.Try.{Try}

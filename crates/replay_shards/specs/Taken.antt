@@ -5,8 +5,8 @@ use Rattle.calculus.specs.Log.{Step}
 use Rattle.calculus.specs.Rows.{Row}
 use Rattle.calculus.specs.Steps.{Meeting}
 use Rattle.racing_replays.specs.Counted.{uses}
-use Rattle.replay_scene.specs.Spaces.{SeenRow, IsIn}
-use Rattle.replay_scene.specs.Showing.{Fit, IdsTellSeen, IsLower}
+use Rattle.hub_scenes.specs.Spaces.{SeenRow, IsIn}
+use Rattle.hub_scenes.specs.Showing.{Fit, IdsTellSeen, IsLower}
 use Rattle.replay_rows.specs.Rows.{find_seen}
 use Rattle.replay_shards.specs.declared.taking.TakenRows.{TakenRows}
 

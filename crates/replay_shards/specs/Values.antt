@@ -3,7 +3,7 @@ use Rattle.std.specs.Prelude.{ℕ, List, refl, Option}
 use Rattle.std.specs.Coded.{Coded, code_by, coded×, coded_list, coded_option, coded_ℕ}
 use Rattle.calculus.specs.Rows.{Row}
 use Rattle.space_row.specs.Values.{row_value_code}
-use Rattle.replay_scene.specs.Spaces.{SeenRow, Part}
+use Rattle.hub_scenes.specs.Spaces.{SeenRow, Part}
 
 -- what is kept of a row is stored as the row, where it comes from, and a count
 abbrev pub seen_code : Coded SeenRow

@@ -3,7 +3,7 @@ ghost use Rattle.std.specs.Prelude.{◌≡◌, ◌<◌, ◌^◌, ◌-◌, ◌∷
 ghost use Rattle.calculus.specs.Log.{Step};
 ghost use Rattle.calculus.specs.Steps.{differ, same_meeting};
 ghost use Rattle.event_log.specs.View.{step_of, steps_of};
-ghost use Rattle.replay_scene.specs.Spaces.{SeenRow, bare};
+ghost use Rattle.hub_scenes.specs.Spaces.{SeenRow, bare};
 ghost use Rattle.replay_space.specs.Rigs.{IsRigOf};
 ghost use Rattle.replay_slots.specs.Hands.{all_shown, parts_of, AreSlotsFiled};
 ghost use Rattle.replay_shards.specs.Ready.{IsReady, Meet, MeetNot};

@@ -2,11 +2,11 @@
 ghost use Rattle.std.specs.Prelude.{◌≡◌, ◌≢◌, ◌<◌, ◌∷◌, ◌++◌, ℕ, List, true, None, Some, IsSome, IfOk, MatchOption, OnOk, OnErr, length};
 ghost use Rattle.calculus.specs.Log.{Step};
 ghost use Rattle.event_log.specs.View.{steps_of, IsWritable};
-ghost use Rattle.run_entries.specs.Entries.{Making};
+ghost use Rattle.events.specs.Entries.{Making};
 ghost use Rattle.replay_space.specs.Rigs.{IsRigOf};
-ghost use Rattle.replay_scene.specs.Spaces.{IndexTry, SeenRow, new_row};
-ghost use Rattle.replay_scene.specs.Entries.{arrives, does};
-ghost use Rattle.shard_rows.specs.Shards.{stands_in};
+ghost use Rattle.hub_scenes.specs.Spaces.{IndexTry, SeenRow, new_row};
+ghost use Rattle.hub_scenes.specs.Entries.{arrives, does};
+ghost use Rattle.events.specs.Shards.{stands_in};
 ghost use Rattle.replay_rows.specs.Bits.{has_bit};
 ghost use Rattle.replay_slots.specs.Hands.{all_shown, parts_of, shard_at, AllBecome, AreSlotsFiled, TouchedBecome};
 ghost use Rattle.replay_shards.specs.Ready.{IsReady};

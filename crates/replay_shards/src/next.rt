@@ -2,8 +2,8 @@
 ghost use Rattle.std.specs.Prelude.{◌≡◌, [], ◌∷◌, ℕ, List, Some, slice_get, IfOk, OnOk};
 ghost use Rattle.calculus.specs.Log.{Step};
 ghost use Rattle.racing_replays.specs.Counted.{uses};
-ghost use Rattle.replay_scene.specs.Spaces.{SeenRow};
-ghost use Rattle.replay_scene.specs.Showing.{IsFirstUse};
+ghost use Rattle.hub_scenes.specs.Spaces.{SeenRow};
+ghost use Rattle.hub_scenes.specs.Showing.{IsFirstUse};
 ghost use Rattle.replay_space.specs.Rigs.{IsRigOf};
 ghost use Rattle.replay_slots.specs.Hands.{all_shown, parts_of, AreSlotsFiled};
 ghost use Rattle.replay_shards.specs.Ready.{if_any, index_tries, AreNext, Follow, IsUseTry};

@@ -2,7 +2,7 @@
 ghost use Rattle.std.specs.Prelude.{◌≡◌, ◌<◌, ◌++◌, ◌∷◌, [], filter, map as each, All, IfOk, OnOk};
 ghost use Rattle.calculus.specs.Storing.{IsStorable};
 ghost use Rattle.rho_term.specs.Rows.{row_of_op};
-ghost use Rattle.replay_scene.specs.Spaces.{bare, seen_in, standing_row};
+ghost use Rattle.hub_scenes.specs.Spaces.{bare, seen_in, standing_row};
 ghost use Rattle.replay_slots.specs.Hands.{IsOpened};
 ghost use Rattle.replay_rows.specs.Rows.{filed_rows, own_built, seen_row};
 
@@ -25,7 +25,7 @@ pub struct ReplayShard {
 }
 
 impl Model for ReplayShard {
-    ghost use Rattle.replay_scene.specs.Spaces.{Part};
+    ghost use Rattle.hub_scenes.specs.Spaces.{Part};
     ghost use Rattle.replay_shards.specs.Values.{part_code};
 
     ghost Value = { Part };

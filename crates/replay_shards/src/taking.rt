@@ -3,7 +3,7 @@ ghost use Rattle.std.specs.Prelude.{◌≡◌, ◌∷◌, [], List, Some, IfOk, 
 ghost use Rattle.std.specs.Bool.{Decides};
 ghost use Rattle.calculus.specs.Log.{Step};
 ghost use Rattle.racing_replays.specs.Counted.{uses};
-ghost use Rattle.replay_scene.specs.Showing.{IsLower};
+ghost use Rattle.hub_scenes.specs.Showing.{IsLower};
 ghost use Rattle.replay_space.specs.Rigs.{IsRigOf};
 ghost use Rattle.replay_slots.specs.Hands.{all_shown, parts_of, AreSlotsFiled};
 ghost use Rattle.replay_shards.specs.Taken.{bytes_of, taken_rows, AreTaken, IsNotTaken, IsTaken, IsTakenAlone, OneIsNotTaken};

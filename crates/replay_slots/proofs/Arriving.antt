@@ -4,9 +4,9 @@ use Rattle.std.specs.Prelude.{◌⊎◌, ◌&&◌, eqb, Option, Some, None, IsSo
 use Rattle.std.specs.Int.{bit_at}
 use Rattle.std.proofs.lemmas.Bool.Decides.{nat_tests}
 use Rattle.calculus.specs.Rows.{Row}
-use Rattle.shard_rows.specs.Shards.{stands_in}
-use Rattle.replay_scene.specs.Spaces.{SeenRow, Part, IndexTry, new_row, arrived}
-use Rattle.replay_scene.specs.Entries.{arrives, PartBecomes}
+use Rattle.events.specs.Shards.{stands_in}
+use Rattle.hub_scenes.specs.Spaces.{SeenRow, Part, IndexTry, new_row, arrived}
+use Rattle.hub_scenes.specs.Entries.{arrives, PartBecomes}
 use Rattle.replay_space.specs.declared.seen.Seen.{Seen}
 use Rattle.replay_rows.specs.declared.kept.Kept.{Kept}
 use Rattle.replay_rows.specs.Rows.{part_of, arrived_seen, filed_rows}

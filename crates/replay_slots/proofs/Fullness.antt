@@ -13,8 +13,8 @@ use Rattle.calculus.specs.Log.{Step}
 use Rattle.racing_replays.specs.Replaying.{names}
 use Rattle.racing_replays.specs.Counted.{names_id}
 use Rattle.calculus.specs.Steps.{is_one_of}
-use Rattle.replay_scene.specs.Spaces.{SeenRow}
-use Rattle.replay_scene.proofs.Basics.{has}
+use Rattle.hub_scenes.specs.Spaces.{SeenRow}
+use Rattle.hub_scenes.proofs.Basics.{has}
 use Rattle.calculus.specs.Rows.{Row}
 use Rattle.replay_space.specs.declared.seen.Seen.{Seen}
 use Rattle.replay_rows.specs.Filing.{is_key, Filed}

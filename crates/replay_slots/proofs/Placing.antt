@@ -3,7 +3,7 @@ use Rattle.std.proofs.Common.{◌≡◌, ◌<◌, ◌≤◌, ◌+◌, ℕ, zero,
 use Rattle.std.specs.Prelude.{◌⊎◌, set, Some, None, IsSome, option_map}
 use Rattle.std.specs.Str.{bytes_eq}
 use Rattle.calculus.proofs.Members.{Member, member-left, member-right}
-use Rattle.replay_scene.specs.Spaces.{SeenRow, Part}
+use Rattle.hub_scenes.specs.Spaces.{SeenRow, Part}
 use Rattle.replay_rows.specs.Rows.{part_of, find_seen}
 use Rattle.replay_slots.specs.Hands.{InHand, Slot, parts_of, shard_at, shown_at, all_shown, AreSlotsFiled, IsSlotFiled, HasRoomAt}
 use Rattle.replay_rows.proofs.Settling.{same-at}

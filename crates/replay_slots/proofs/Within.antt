@@ -1,7 +1,7 @@
 -- Shards in hand that lie within some places.
 use Rattle.std.proofs.Common.{◌≡◌, ◌<◌, ◌≤◌, ◌+◌, ◌-◌, ℕ, zero, suc, Bool, true, false, eqb, eqb-true, eq-eqb, List, [], ◌∷◌, ◌++◌, take, drop, length, refl, sym, ap, ◌∙◌, inl, inr, arith, get_or}
 use Rattle.std.specs.Prelude.{◌⊎◌, set, Option, Some, None, IsSome, option_map, slice_range}
-use Rattle.replay_scene.specs.Spaces.{Part}
+use Rattle.hub_scenes.specs.Spaces.{Part}
 use Rattle.replay_rows.specs.Rows.{part_of}
 use Rattle.replay_slots.specs.Hands.{Slot, parts_of, shard_at, shown_at, all_shown, AreSlotsFiled, LieWithin}
 use Rattle.replay_slots.proofs.Arriving.{no-kept}

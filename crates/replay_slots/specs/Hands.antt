@@ -1,8 +1,8 @@
 -- The shards that a worker has in hand.
 use Rattle.std.specs.Prelude.{◌≡◌, ◌≤◌, ◌<◌, ⊤, ℕ, Bool, true, false, List, [], ◌∷◌, ◌++◌, map as each, filter, Option, Some, None, option_map, slice_index_or, IsPermutation}
 use Rattle.calculus.specs.Rows.{Row}
-use Rattle.replay_scene.specs.Spaces.{SeenRow, Part, standing_row, seen_in}
-use Rattle.replay_scene.specs.Entries.{Deed, PartBecomes}
+use Rattle.hub_scenes.specs.Spaces.{SeenRow, Part, standing_row, seen_in}
+use Rattle.hub_scenes.specs.Entries.{Deed, PartBecomes}
 use Rattle.replay_rows.specs.Filing.{HasRoom}
 use Rattle.replay_rows.specs.declared.kept.Kept.{Kept}
 use Rattle.replay_space.specs.declared.seen.Seen.{Seen}

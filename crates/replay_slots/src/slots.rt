@@ -1,9 +1,9 @@
 // The shards in hand, in 64 places.
 ghost use Rattle.std.specs.Prelude.{◌≡◌, ◌≢◌, ◌<◌, ℕ, List, true, ◌++◌, length, map as each, Some, None, IsSome, IfOk, OnOk, OnErr, cond, option_map, option_copied, slice_index_or};
 ghost use Rattle.event_log.specs.View.{step_of};
-ghost use Rattle.replay_scene.specs.Spaces.{IndexTry, new_row};
-ghost use Rattle.replay_scene.specs.Entries.{arrives};
-ghost use Rattle.shard_rows.specs.Shards.{stands_in};
+ghost use Rattle.hub_scenes.specs.Spaces.{IndexTry, new_row};
+ghost use Rattle.hub_scenes.specs.Entries.{arrives};
+ghost use Rattle.events.specs.Shards.{stands_in};
 ghost use Rattle.replay_rows.specs.Bits.{has_bit};
 ghost use Rattle.replay_slots.specs.Hands.{all_shown, parts_of, shard_at, shown_at, AreSlotsFiled, GainsRow, GainsSeen, HasRoomAt, IsSlotFiled, TouchedBecome};
 ghost use Rattle.replay_rows.specs.Rows.{arrived_seen, part_of, settled_part, AreLow};

@@ -6,7 +6,7 @@ use Rattle.calculus.specs.Rows.{Row}
 use Rattle.calculus.specs.Steps.{Bag, standing, is_one_of}
 use Rattle.calculus.proofs.Members.{Member}
 use Rattle.events.proofs.Counts.{ids, times, AreDistinct, member-times, times-one_of, one_of-times}
-use Rattle.events.proofs.Standing.{ids-times}
+use Rattle.events.proofs.EventStanding.{ids-times}
 use Rattle.racing_replays.specs.Replaying.{DoneStep, done_steps, rows_by, is_done, names, ids_before, is_due, all_done, ids_of}
 use Rattle.racing_replays.specs.Laws.{first_bag}
 use Rattle.racing_replays.specs.Counted.{names_id}

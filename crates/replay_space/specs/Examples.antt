@@ -8,7 +8,7 @@ use Rattle.calculus.specs.Steps.{Bag}
 use Rattle.calculus.specs.Examples.{num, step, row_of, datum, receiver, bag}
 use Rattle.calculus.specs.Outcome.{within, pure}
 use Rattle.calculus.specs.Unfolding.{a_row}
-use Rattle.events.specs.Examples.{no_prices, no_work}
+use Rattle.events.specs.EventExamples.{no_prices, no_work}
 use Rattle.racing_replays.specs.Replaying.{DoneStep, walk}
 use Rattle.racing_replays.specs.Counted.{uses}
 use Rattle.racing_replays.specs.Examples.{outcome}

@@ -3,8 +3,8 @@ use Rattle.std.proofs.Common.{◌≡◌, ◌≢◌, ℕ, zero, suc, ◌+◌, Lis
 use Rattle.std.specs.Prelude.{slice_get, Some, IsPermutation}
 use Rattle.calculus.specs.Rows.{Row, channels}
 use Rattle.events.specs.Found.{Among}
-use Rattle.shard_rows.specs.Shards.{IsProjection}
-use Rattle.replay_scene.specs.Spaces.{bare, Part}
+use Rattle.events.specs.Shards.{IsProjection}
+use Rattle.hub_scenes.specs.Spaces.{bare, Part}
 use Rattle.replay_store.specs.Stores.{bare_shards, AreShardsOf}
 use Rattle.row_shards.specs.Homes.{gathered}
 use Rattle.row_shards.proofs.Gathered.{all-taken}

@@ -8,9 +8,9 @@ use Rattle.std.proofs.lemmas.List.Elements.{All-nil, All-cons, All-append}
 use Rattle.std.proofs.lemmas.List.{map-append}
 use Rattle.calculus.proofs.Permutations.{join, moved_before}
 use Rattle.calculus.specs.Rows.{Row}
-use Rattle.shard_rows.specs.Shards.{stands_in}
-use Rattle.replay_scene.specs.Spaces.{SeenRow, Part, IndexTry, new_row, seen_in, standing_row}
-use Rattle.replay_scene.specs.Entries.{arrives, PartBecomes}
+use Rattle.events.specs.Shards.{stands_in}
+use Rattle.hub_scenes.specs.Spaces.{SeenRow, Part, IndexTry, new_row, seen_in, standing_row}
+use Rattle.hub_scenes.specs.Entries.{arrives, PartBecomes}
 use Rattle.replay_rows.specs.Bits.{has_bit}
 use Rattle.replay_slots.specs.Hands.{InHand, shard_at, IsOpened, TouchedBecome}
 use Rattle.replay_store.specs.Stores.{AreAll, AreOpened, AreOpenedBelow, AreOpenedShards}

@@ -1,8 +1,8 @@
 -- The shards of a store.
 use Rattle.std.specs.Prelude.{◌≡◌, ◌<◌, ℕ, List, map as each, Some, slice_get, IsSome}
 use Rattle.calculus.specs.Rows.{Row}
-use Rattle.shard_rows.specs.Shards.{IsProjection}
-use Rattle.replay_scene.specs.Spaces.{bare, Part}
+use Rattle.events.specs.Shards.{IsProjection}
+use Rattle.hub_scenes.specs.Spaces.{bare, Part}
 use Rattle.replay_slots.specs.Hands.{InHand, shard_at, IsOpened}
 
 -- all 64 shards are in hand

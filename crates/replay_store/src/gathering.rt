@@ -2,7 +2,7 @@
 ghost use Rattle.std.specs.Prelude.{◌≡◌, ◌≢◌, ◌++◌, [], List, eqb, filter, length, map, IfOk, OnOk, IsPermutation};
 ghost use Rattle.calculus.specs.Rows.{channels, Row as StoredRow};
 ghost use Rattle.events.specs.Found.{Among};
-ghost use Rattle.replay_scene.specs.Spaces.{bare};
+ghost use Rattle.hub_scenes.specs.Spaces.{bare};
 ghost use Rattle.replay_store.specs.Stores.{bare_shards, AreShardsOf};
 ghost use Rattle.row_shards.specs.Homes.{gathered, home};
 

@@ -2,7 +2,7 @@
 ghost use Rattle.std.specs.Prelude.{◌≡◌, ◌<◌, ◌∷◌, ◌++◌, [], ℕ, List, Some, All, length, slice_get, IfOk, OnOk, IsSome};
 ghost use Rattle.calculus.specs.Rows.{Row as StoredRow};
 ghost use Rattle.calculus.specs.Storing.{IsStorable};
-ghost use Rattle.replay_scene.specs.Spaces.{Part};
+ghost use Rattle.hub_scenes.specs.Spaces.{Part};
 ghost use Rattle.replay_slots.specs.Hands.{shard_at};
 ghost use Rattle.replay_store.specs.Stores.{AreAll, AreOpened, AreOpenedShards};
 

@@ -11,11 +11,11 @@ use Rattle.calculus.specs.Runs.{Deploy}
 use Rattle.hub_rule.specs.Counts.{count, Each}
 use Rattle.hub_rule.specs.Meaning.{Meaning, Follows, Passes}
 use Rattle.hub_rule.specs.Rule.{Carries}
-use Rattle.shard_rows.specs.Shards.{stands_in, Covers}
-use Rattle.replay_scene.specs.Spaces.{IndexTry, Part}
-use Rattle.replay_scene.specs.Entries.{Deed, arrives}
-use Rattle.replay_scene.specs.Showing.{IsFirstUse}
-use Rattle.scene_laws.proofs.Carrying.{now_of}
+use Rattle.events.specs.Shards.{stands_in, Covers}
+use Rattle.hub_scenes.specs.Spaces.{IndexTry, Part}
+use Rattle.hub_scenes.specs.Entries.{Deed, arrives}
+use Rattle.hub_scenes.specs.Showing.{IsFirstUse}
+use Rattle.hub_scenes.proofs.Carrying.{now_of}
 use Rattle.replay_hub.specs.declared.deed.Arrived.{Arrived as Arrival}
 use Rattle.replay_hub.specs.declared.deed.Coming.{Coming}
 use Rattle.replay_hub.specs.declared.deed.Did.TheVariants.{Arrived}

@@ -6,10 +6,10 @@ use Rattle.calculus.specs.Rows.{Row}
 use Rattle.calculus.specs.Runs.{Deploy}
 use Rattle.event_log.specs.View.{step_of}
 use Rattle.racing_replays.specs.Counted.{names_id}
-use Rattle.shard_rows.specs.Shards.{stands_in}
-use Rattle.replay_scene.specs.Spaces.{SeenRow, Part}
-use Rattle.replay_scene.specs.Entries.{Deed, PartBecomes}
-use Rattle.replay_scene.specs.Showing.{IsFirstUse}
+use Rattle.events.specs.Shards.{stands_in}
+use Rattle.hub_scenes.specs.Spaces.{SeenRow, Part}
+use Rattle.hub_scenes.specs.Entries.{Deed, PartBecomes}
+use Rattle.hub_scenes.specs.Showing.{IsFirstUse}
 use Rattle.replay_hub.specs.declared.deed.Coming.{Coming}
 use Rattle.replay_hub.specs.declared.deed.Try.{Try}
 use Rattle.replay_hub.specs.declared.deed.Made.{Made}

@@ -2,9 +2,9 @@
 ghost use Rattle.std.specs.Prelude.{◌≡◌, ℕ, List, None, true, is_some, IfOk, OnOk, OnErr};
 ghost use Rattle.calculus.specs.Storing.{shard};
 ghost use Rattle.event_log.specs.View.{step_of};
-ghost use Rattle.shard_rows.specs.Shards.{stands_in};
-ghost use Rattle.replay_scene.specs.Spaces.{IndexTry};
-ghost use Rattle.replay_scene.specs.Entries.{arrives};
+ghost use Rattle.events.specs.Shards.{stands_in};
+ghost use Rattle.hub_scenes.specs.Spaces.{IndexTry};
+ghost use Rattle.hub_scenes.specs.Entries.{arrives};
 ghost use Rattle.replay_hub.specs.declared.deed.Did.TheVariants.{Done};
 ghost use Rattle.replay_hub.specs.Values.{deed_of, has_bit, new_row_of};
 ghost use Rattle.replay_worker.specs.Looking.{AllBecome, AreLow, IsArriving, IsAtItsPlace, Shows};

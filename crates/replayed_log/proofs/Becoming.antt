@@ -1,8 +1,8 @@
 -- What becomes of shards in hand.
 use Rattle.std.proofs.Common.{◌≡◌, ℕ, Bool, true, false, refl, ◌∙◌}
 use Rattle.std.specs.Prelude.{Some}
-use Rattle.replay_scene.specs.Spaces.{Part}
-use Rattle.replay_scene.specs.Entries.{Deed}
+use Rattle.hub_scenes.specs.Spaces.{Part}
+use Rattle.hub_scenes.specs.Entries.{Deed}
 use Rattle.replay_slots.specs.Hands.{InHand, shard_at, TouchedBecome}
 use Rattle.replay_slots.specs.Hands.{AllBecome as AllShardsBecome}
 use Rattle.replay_worker.specs.Looking.{Becomes, AllBecome}

@@ -17,10 +17,10 @@ use Rattle.event_log.specs.declared.log.LogStep.{LogStep}
 use Rattle.event_log.specs.View.{step_of}
 use Rattle.events.specs.Found.{has_built_in_id, printed_by}
 use Rattle.racing_replays.specs.Counted.{names_id}
-use Rattle.shard_rows.specs.Shards.{stands_in}
-use Rattle.replay_scene.specs.Spaces.{SeenRow, IndexTry, IsIn, bare}
-use Rattle.replay_scene.specs.Entries.{indices}
-use Rattle.replay_scene.specs.Showing.{later_use, Fit}
+use Rattle.events.specs.Shards.{stands_in}
+use Rattle.hub_scenes.specs.Spaces.{SeenRow, IndexTry, IsIn, bare}
+use Rattle.hub_scenes.specs.Entries.{indices}
+use Rattle.hub_scenes.specs.Showing.{later_use, Fit}
 use Rattle.replay_hub.specs.declared.deed.Try.{Try}
 use Rattle.replay_hub.specs.Values.{line_items}
 use Rattle.replay_worker.specs.declared.tables.Doing.{Doing}

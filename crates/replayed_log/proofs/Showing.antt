@@ -6,10 +6,10 @@ use Rattle.calculus.proofs.Members.{Member, member-split}
 use Rattle.calculus.specs.Log.{Step}
 use Rattle.calculus.specs.Storing.{shard}
 use Rattle.calculus.specs.Tree.{Tree}
-use Rattle.shard_rows.specs.Shards.{stands_in}
-use Rattle.replay_scene.specs.Spaces.{SeenRow, Part, IsIn}
-use Rattle.replay_scene.specs.Showing.{IdsTellSeen}
-use Rattle.replay_scene.proofs.Basics.{has, hold}
+use Rattle.events.specs.Shards.{stands_in}
+use Rattle.hub_scenes.specs.Spaces.{SeenRow, Part, IsIn}
+use Rattle.hub_scenes.specs.Showing.{IdsTellSeen}
+use Rattle.hub_scenes.proofs.Basics.{has, hold}
 use Rattle.replay_hub.specs.declared.deed.Try.{Try}
 use Rattle.replay_hub.specs.Drawing.{IsInHand, ShowsIdle}
 use Rattle.replay_slots.specs.Hands.{InHand, shard_at, shown_at, all_shown}

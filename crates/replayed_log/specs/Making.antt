@@ -9,7 +9,7 @@ use Rattle.calculus.specs.Tree.{Tree}
 use Rattle.calculus.specs.Unfolding.{rows_of, UnfoldsUnder}
 use Rattle.event_log.specs.declared.log.LogStep.{LogStep}
 use Rattle.found_rows.specs.Making.{printed_line}
-use Rattle.replay_scene.specs.Spaces.{IndexTry}
+use Rattle.hub_scenes.specs.Spaces.{IndexTry}
 use Rattle.replay_hub.specs.declared.deed.Did.TheVariants.{Done}
 use Rattle.replay_hub.specs.declared.deed.Try.{Try}
 use Rattle.replay_hub.specs.Values.{line_items, offers_of}

@@ -1,8 +1,8 @@
 // What a worker asks of the log.
 ghost use Rattle.std.specs.Prelude.{◌≡◌, ℕ, true, is_some, List, OnErr, OnOk};
-ghost use Rattle.shard_rows.specs.Shards.{stands_in};
-ghost use Rattle.replay_scene.specs.Spaces.{IndexTry};
-ghost use Rattle.replay_scene.specs.Entries.{arrives};
+ghost use Rattle.events.specs.Shards.{stands_in};
+ghost use Rattle.hub_scenes.specs.Spaces.{IndexTry};
+ghost use Rattle.hub_scenes.specs.Entries.{arrives};
 ghost use Rattle.replay_hub.specs.Values.{has_bit, new_row_of};
 ghost use Rattle.replay_worker.specs.Looking.{AllBecome};
 ghost use Rattle.replay_slots.specs.Hands.{shard_at};

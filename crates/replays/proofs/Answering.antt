@@ -10,7 +10,7 @@ use Rattle.calculus.specs.Runs.{Deploy, State, Leads, done, verdict, IsEnd}
 use Rattle.calculus.proofs.Ordered.{up_to_both}
 use Rattle.calculus.proofs.States.{one_state}
 use Rattle.replays.specs.Replays.{Refusal, no_run, reducible, Outcome, refused, replayed, header_refusal, StopsAt, outcome_of, deploy_under, by_header, by_step, by_rest, by_end}
-use Rattle.replays.specs.Laws.{OneAnswer, RunsAreReplayed, RefusedLogsAreNoRuns}
+use Rattle.replays.specs.ReplayLaws.{OneAnswer, RunsAreReplayed, RefusedLogsAreNoRuns}
 use Rattle.replays.proofs.Prefixes.{passed}
 use Rattle.calculus.specs.Candidates.{ids_up_to, IsLeastAllowed}
 

@@ -5,7 +5,7 @@ use Rattle.calculus.proofs.Opened.{hashing}
 use Rattle.calculus.proofs.Candidates.{candidates_suffice}
 use Rattle.replays.specs.Replays.{by_header, by_step, by_rest, by_end}
 use Rattle.replays.proofs.LeastSteps.{least-among}
-use Rattle.replays.specs.Examples.{printed_datum, second_datum, printing_step, answering_step, answer_row, ReplayExamples}
+use Rattle.replays.specs.ReplayExamples.{printed_datum, second_datum, printing_step, answering_step, answer_row, ReplayExamples}
 
 pub replay_examples : ReplayExamples
 unfolding hashing

@@ -1,4 +1,10 @@
+pub mod Done
 pub mod Prefixes
 pub mod Answering
 pub mod LeastSteps
 pub mod Computed
+pub mod Leading
+pub mod Leasts
+pub mod Lists
+pub mod Logs
+pub mod ExamplesTurns

@@ -1,4 +1,7 @@
+pub mod View
 pub mod Replays
-pub mod Laws
-pub mod Examples
+pub mod ReplayLaws
+pub mod ReplayExamples
 pub mod Refusals
+pub mod RunLaws
+pub mod RunExamples

@@ -15,9 +15,9 @@ use Rattle.grammar.proofs.OneReading.{one_reading}
 use Rattle.grammar.proofs.Sound.{sound}
 use Rattle.grammar.proofs.Agree.{same as same_outcome}
 use Rattle.grammar.proofs.Wider.{complete, wider, nothing}
-use Rattle.places.proofs.Decided.{higher}
-use Rattle.places.proofs.Exact as exact
-use Rattle.places.proofs.Framed.{frames}
+use Rattle.grammar.proofs.Decided.{higher}
+use Rattle.grammar.proofs.Exact as exact
+use Rattle.grammar.proofs.Framed.{frames}
 use Rattle.rho_lexer.specs.declared.token.Token.{Token}
 use Rattle.token_cursor.specs.Meaning.{most_height, plain_tokens, view}
 use Rattle.calculus.specs.declared.process.Proc.{Proc}

@@ -4,7 +4,7 @@ use Rattle.tokens.specs.Token.{source}
 use Rattle.tokens.specs.Reading.{AreInOrder}
 use Rattle.grammar.specs.declared.dialect.Dialect.TheVariants.{Tutorial}
 use Rattle.grammar.specs.Spells.{SpellsNothing}
-use Rattle.places.specs.Places.{PassesAt, EndsAt}
+use Rattle.grammar.specs.Places.{PassesAt, EndsAt}
 use Rattle.rho_lexer.specs.Meaning.{spanned_tokens}
 use Rattle.rho_lexer.specs.declared.token.Token.{Token}
 use Rattle.input_faults.specs.declared.parse_fault.ParseFault.{ParseFault}

@@ -3,8 +3,8 @@ use Rattle.std.proofs.Common.{◌≡◌, ◌≢◌, ◌<◌, ◌+◌, ℕ, Bool,
 use mathlib.Core.Logic.{dite}
 use native.Mathlib.Decide.{ℕ_discrete}
 use Rattle.std.specs.Prelude.{Option, Some, None, IsSome, is_some, MatchOption}
-use Rattle.replay_scene.specs.Spaces.{Part}
-use Rattle.replay_scene.specs.Entries.{Deed}
+use Rattle.hub_scenes.specs.Spaces.{Part}
+use Rattle.hub_scenes.specs.Entries.{Deed}
 use Rattle.replay_slots.specs.Hands.{InHand, shard_at, TouchedBecome, AllBecome}
 use Rattle.replay_store.specs.Stores.{AreAll}
 

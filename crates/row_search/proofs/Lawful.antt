@@ -5,7 +5,7 @@ use Rattle.calculus.specs.Rows.{Row, stdout, stdout_ack}
 use Rattle.events.specs.Found.{Among, AreAtHand}
 use Rattle.events.proofs.Counts.{ids, AreDistinct}
 use Rattle.events.proofs.Lookups.{row_with, row_with-there}
-use Rattle.events.proofs.Following.{operation-distinct}
+use Rattle.events.proofs.EventFollowing.{operation-distinct}
 use Rattle.events.proofs.Keeping.{kept-all}
 use Rattle.events.proofs.Making.{lonely_operations_are_stored, meetings_are_steps, member}
 use Rattle.row_search.specs.Meetings.{rows_with, AllAmong}

@@ -4,7 +4,7 @@ use Rattle.calculus.specs.Rows.{Row, stdout, stdout_ack}
 use Rattle.calculus.specs.Runs.{Deploy, Work, body_work}
 use Rattle.events.specs.Events.{Core, started, after_put, Event, Events, AreFresh}
 use Rattle.events.specs.Found.{met, Among, AreAtHand, after_meeting, step_of}
-use Rattle.events.specs.Laws.{Begins}
+use Rattle.events.specs.EventLaws.{Begins}
 use Rattle.found_rows.specs.declared.found.Found.{Found}
 use Rattle.row_search.specs.Meetings.{MeetsNothing, IsFound}
 use Rattle.found_rows.specs.AtHand.{MeetsAtHand}

@@ -10,8 +10,8 @@ use Rattle.calculus.specs.Rows.{Row, channels}
 use Rattle.calculus.specs.Storing.{shard}
 use Rattle.events.specs.Found.{Among}
 use Rattle.events.proofs.Making.{among}
-use Rattle.shard_rows.specs.Shards.{stands_in, rows_in, IsProjection}
-use Rattle.shard_rows.proofs.Following.{filter-moved}
+use Rattle.events.specs.Shards.{stands_in, rows_in, IsProjection}
+use Rattle.events.proofs.ShardFollowing.{filter-moved}
 use Rattle.row_shards.specs.Homes.{first_shard, home, gathered}
 
 not-there : true ≡ false → ⊥

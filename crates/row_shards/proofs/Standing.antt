@@ -11,8 +11,8 @@ use Rattle.rho_term.specs.declared.op.Op.{Op}
 use Rattle.rho_term.specs.declared.term.TermBind.{TermBind}
 use Rattle.rho_term.specs.Rows.{row_of_op}
 use Rattle.shard_counts.specs.Bits.{AreBits}
-use Rattle.shard_rows.specs.Shards.{stands_in}
-use Rattle.shard_rows.proofs.Standing.{rows_stand_in_shards}
+use Rattle.events.specs.Shards.{stands_in}
+use Rattle.events.proofs.ShardStanding.{rows_stand_in_shards}
 use Rattle.row_shards.specs.Counted.{AreCounted, StandsInOne}
 use Rattle.row_shards.proofs.SetBits.{or-none}
 

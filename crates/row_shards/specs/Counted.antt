@@ -3,7 +3,7 @@ use Rattle.std.specs.Prelude.{◌≡◌, ◌⊎◌, ℕ, true, is_some}
 use Rattle.calculus.specs.Rows.{Row}
 use Rattle.calculus.specs.Steps.{as_receiver}
 use Rattle.shard_counts.specs.Bits.{AreBits}
-use Rattle.shard_rows.specs.Shards.{stands_in}
+use Rattle.events.specs.Shards.{stands_in}
 
 -- a row stands in at most one shard
 abbrev pub StandsInOne : Row → Type 0

@@ -4,7 +4,7 @@ ghost use Rattle.std.specs.Int.{bit_at};
 ghost use Rattle.std.specs.List.{list_any};
 ghost use Rattle.calculus.specs.Storing.{shard};
 ghost use Rattle.shard_counts.specs.Bits.{AreBits};
-ghost use Rattle.shard_rows.specs.Shards.{stands_in};
+ghost use Rattle.events.specs.Shards.{stands_in};
 ghost use Rattle.row_shards.specs.Counted.{AreCounted};
 
 use rho_term::{Op, TermBind};

@@ -20,9 +20,9 @@ use Rattle.process_laws.proofs.Channels.{IsClosedShort}
 use Rattle.row_search.specs.Rows.{is_one_channel, is_heard_on}
 use Rattle.row_shards.specs.Counted.{AreCounted, StandsInOne}
 use Rattle.shard_counts.specs.Counts.{added}
-use Rattle.shard_rows.specs.Shards.{stands_in}
-use Rattle.shard_rows.proofs.Alike.{congruent_channels_share_a_shard}
-use Rattle.shard_rows.proofs.Standing.{stands, channel-shard}
+use Rattle.events.specs.Shards.{stands_in}
+use Rattle.events.proofs.Alike.{congruent_channels_share_a_shard}
+use Rattle.events.proofs.ShardStanding.{stands, channel-shard}
 use Rattle.row_table.specs.declared.table.Filed.{Filed}
 use Rattle.row_table.specs.Groups.{is_key, Index}
 use Rattle.row_table.specs.Shown.{heard_on}

@@ -14,7 +14,7 @@ use Rattle.calculus.specs.Steps.{is_one_of, differ}
 use Rattle.events.specs.Found.{without}
 use Rattle.events.proofs.Making.{among, member}
 use Rattle.events.proofs.Orders.{member-moved}
-use Rattle.shard_rows.specs.Shards.{stands_in}
+use Rattle.events.specs.Shards.{stands_in}
 use Rattle.shard_tables.specs.Hands.{AreMade, GainsRow, LosesRows}
 use Rattle.rspace_table.specs.Hands.{InHand, shard_at, GainsAt, StandIn}
 use Rattle.rspace_table.proofs.Firsts.{was-in}

@@ -10,9 +10,9 @@ use Rattle.std.specs.List.{list_any}
 use Rattle.calculus.proofs.Members.{Member}
 use Rattle.calculus.specs.Rows.{Row}
 use Rattle.events.proofs.Making.{among, member}
-use Rattle.shard_rows.specs.Shards.{stands_in}
-use Rattle.shard_rows.specs.Hands.{hears, shows}
-use Rattle.shard_rows.proofs.Standing.{any-true, any-one}
+use Rattle.events.specs.Shards.{stands_in}
+use Rattle.events.specs.Hands.{hears, shows}
+use Rattle.events.proofs.ShardStanding.{any-true, any-one}
 use Rattle.shard_tables.specs.Hands.{AreInHand}
 use Rattle.rspace_table.specs.Shown.{shown_by}
 use Rattle.found_rows.specs.declared.found.Found.{Found}

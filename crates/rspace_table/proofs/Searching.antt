@@ -18,11 +18,11 @@ use Rattle.row_search.specs.Meetings.{rows_with, AllAmong, IsFound}
 use Rattle.found_rows.specs.AtHand.{MeetsAtHand}
 use Rattle.row_search.proofs.Complete.{whose}
 use Rattle.row_search.proofs.Sound.{among-left}
-use Rattle.run_entries.specs.Allowed.{IdsTell, rows_at_hand}
-use Rattle.shard_rows.proofs.Alike.{congruent_channels_share_a_shard}
-use Rattle.shard_rows.proofs.Standing.{its-one}
-use Rattle.shard_rows.proofs.Following.{kept-in, kept-was}
-use Rattle.shard_rows.proofs.Holding.{beside}
+use Rattle.events.specs.Allowed.{IdsTell, rows_at_hand}
+use Rattle.events.proofs.Alike.{congruent_channels_share_a_shard}
+use Rattle.events.proofs.ShardStanding.{its-one}
+use Rattle.events.proofs.ShardFollowing.{kept-in, kept-was}
+use Rattle.events.proofs.ShardHolding.{beside}
 use Rattle.shard_tables.specs.Hands.{AreInHand}
 use Rattle.rspace_table.specs.Hands.{InHand, shard_at, is_send, is_receive, firsts, sends_of, all_sends, receives_of, rows_for, AreInPlace, FindsSends}
 use Rattle.rspace_table.proofs.Firsts.{first-was, found-first, stays-first}

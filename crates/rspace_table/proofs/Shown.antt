@@ -9,9 +9,9 @@ use Rattle.calculus.specs.Rows.{Row, channels}
 use Rattle.calculus.specs.Steps.{as_receiver}
 use Rattle.rho_term.specs.declared.term.TermBind.{TermBind}
 use Rattle.row_search.specs.Rows.{is_one_channel, is_heard_on}
-use Rattle.shard_rows.specs.Shards.{stands_in}
-use Rattle.shard_rows.specs.Hands.{hears, is_one_channel as is_one}
-use Rattle.shard_rows.proofs.Standing.{any-true, any-one}
+use Rattle.events.specs.Shards.{stands_in}
+use Rattle.events.specs.Hands.{hears, is_one_channel as is_one}
+use Rattle.events.proofs.ShardStanding.{any-true, any-one}
 use Rattle.row_shards.proofs.Standing.{any-each}
 use Rattle.row_table.specs.Shown.{heard_on}
 use Rattle.rspace_table.specs.Shown.{shown_by}

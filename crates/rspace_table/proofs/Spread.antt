@@ -19,7 +19,7 @@ use Rattle.std.specs.Prelude.{All}
 use Rattle.std.proofs.lemmas.List.Elements.{All-nil, All-cons, All-head, All-tail}
 use Rattle.calculus.specs.Storing.{IsStorable}
 use Rattle.rho_term.specs.declared.op.Op.{Op}
-use Rattle.shard_rows.specs.Shards.{stands_in, rows_in, IsProjection}
+use Rattle.events.specs.Shards.{stands_in, rows_in, IsProjection}
 use Rattle.shard_tables.specs.Hands.{AreShardsOf, GainsRow, IdsDiffer}
 use Rattle.rspace_table.specs.Hands.{AreBuiltIns, AreEmpty}
 

@@ -11,9 +11,9 @@ use Rattle.found_rows.specs.declared.found.Found.{Found}
 use Rattle.row_search.specs.Meetings.{rows_with, AllAmong, IsFound, MeetsNothing as FindsNothing}
 use Rattle.found_rows.specs.AtHand.{MeetsAtHand}
 use Rattle.row_search.proofs.Sound.{among-last}
-use Rattle.run_entries.specs.Allowed.{IdsTell, MeetsNothing, rows_at_hand}
-use Rattle.shard_rows.proofs.Holding.{beside, of-hand}
-use Rattle.shard_rows.proofs.Meeting.{met-on}
+use Rattle.events.specs.Allowed.{IdsTell, MeetsNothing, rows_at_hand}
+use Rattle.events.proofs.ShardHolding.{beside, of-hand}
+use Rattle.events.proofs.Meeting.{met-on}
 use Rattle.shard_tables.specs.Hands.{AreInHand}
 use Rattle.rspace_table.specs.Hands.{InHand, shard_at, is_receive, rows_for, AreBuiltIns, MeetsNoReceiver, MeetsAReceiver}
 use Rattle.rspace_table.proofs.Searching.{not-both, found-in, receive-shown, send-shown}

@@ -8,8 +8,8 @@ use Rattle.found_rows.specs.declared.found.Found.{Found}
 use Rattle.row_search.specs.Rows.{HasSends}
 use Rattle.found_rows.specs.AtHand.{MeetsAtHand}
 use Rattle.row_search.specs.Meetings.{IsFound, MeetsNothing}
-use Rattle.run_entries.specs.Allowed.{IdsTell, MeetsNothing as MakesNoStep, rows_at_hand}
-use Rattle.shard_rows.specs.Shards.{stands_in}
+use Rattle.events.specs.Allowed.{IdsTell, MeetsNothing as MakesNoStep, rows_at_hand}
+use Rattle.events.specs.Shards.{stands_in}
 use Rattle.shard_tables.specs.Hands.{AreInHand, GainsRow}
 use Rattle.rspace_table.specs.Shown.{shown_by}
 

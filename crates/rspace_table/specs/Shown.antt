@@ -2,8 +2,8 @@
 use Rattle.std.specs.Prelude.{ℕ, Bool, ◌&&◌, List}
 use Rattle.std.specs.List.{list_any}
 use Rattle.calculus.specs.Rows.{Row}
-use Rattle.shard_rows.specs.Shards.{stands_in}
-use Rattle.shard_rows.specs.Hands.{hears}
+use Rattle.events.specs.Shards.{stands_in}
+use Rattle.events.specs.Hands.{hears}
 
 -- whether a receive among these rows that hears an operation stands in the shard k
 abbrev pub shown_by : List Row → Row → ℕ → Bool

@@ -5,7 +5,7 @@ ghost use Rattle.calculus.specs.Storing.{shard};
 ghost use Rattle.row_search.specs.Choices.{AllBindsReady};
 ghost use Rattle.row_table.specs.Shown.{heard_on};
 ghost use Rattle.shard_counts.specs.Bits.{AreBitsBeside};
-ghost use Rattle.shard_rows.specs.Shards.{stands_in};
+ghost use Rattle.events.specs.Shards.{stands_in};
 ghost use Rattle.rspace_table.specs.Shown.{shown_by};
 
 use rho_term::{Op, TermBind};

@@ -7,7 +7,7 @@ ghost use Rattle.events.specs.Found.{without};
 ghost use Rattle.row_search.specs.Meetings.{IsFound, MeetsNothing};
 ghost use Rattle.row_search.specs.Rows.{row_with};
 ghost use Rattle.shard_tables.specs.Hands.{AreInHand, AreMade, AreShown, GainsRow, LosesRows};
-ghost use Rattle.shard_rows.specs.Shards.{stands_in};
+ghost use Rattle.events.specs.Shards.{stands_in};
 ghost use Rattle.match_targets.specs.Targets.{Ready};
 ghost use Rattle.shard_counts.specs.Bits.{AreBitsBeside};
 ghost use Rattle.rspace_table.specs.Hands.{all_sends, rows_for, shard_at, shown_at, sends_of, AreInPlace, FindsAMeeting, FindsSends, is_receive};

@@ -2,7 +2,7 @@
 ghost use Rattle.std.specs.Prelude.{◌≡◌, ◌≢◌, ◌≤◌, ◌<◌, [], ◌∷◌, ℕ, true, false, cond, eqb, get_or, length, map, None, IfOk, OnErr, OnOk, option_map};
 ghost use Rattle.std.specs.Int.{bit_at};
 ghost use Rattle.events.specs.Found.{without};
-ghost use Rattle.shard_rows.specs.Shards.{stands_in};
+ghost use Rattle.events.specs.Shards.{stands_in};
 ghost use Rattle.shard_tables.specs.Hands.{GainsRow};
 ghost use Rattle.shard_counts.specs.Bits.{AreBits};
 ghost use Rattle.rspace_table.specs.Hands.{GainsAt};

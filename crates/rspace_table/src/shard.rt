@@ -2,7 +2,7 @@
 ghost use Rattle.std.specs.Prelude.{◌≡◌, ◌<◌, [], ◌∷◌, true, false, map, IfOk, OnErr, IsPermutation};
 ghost use Rattle.calculus.specs.Steps.{is_one_of};
 ghost use Rattle.events.specs.Found.{without};
-ghost use Rattle.shard_rows.specs.Shards.{stands_in};
+ghost use Rattle.events.specs.Shards.{stands_in};
 ghost use Rattle.rspace_table.specs.Hands.{StandIn};
 
 use calculus::Digest;

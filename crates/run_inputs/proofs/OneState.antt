@@ -19,7 +19,7 @@ use Rattle.calculus.proofs.Tails.{length-be64}
 use Rattle.rho_term.specs.Normal.{IsNormal}
 use Rattle.process_laws.proofs.StorableLengths.{storable_rows_are_short}
 use Rattle.term_order.proofs.OneTerm.{normal_codes_are_one}
-use Rattle.states.specs.States.{state_text}
+use Rattle.events.specs.States.{state_text}
 use Rattle.checkpoint.specs.Kept.{AreInOrder}
 use Rattle.row_reader.proofs.SentRows.{Parted, a_send, a_receive, parted}
 use Rattle.state_reader.specs.Files.{heading}

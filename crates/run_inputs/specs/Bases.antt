@@ -5,7 +5,7 @@ use Rattle.calculus.specs.Steps.{differ}
 use Rattle.checkpoint.specs.Kept.{AreKept}
 use Rattle.events.specs.Events.{first_ids}
 use Rattle.rho_term.specs.Normal.{IsNormal}
-use Rattle.states.specs.States.{state_text}
+use Rattle.events.specs.States.{state_text}
 use Rattle.input_faults.specs.declared.state_fault.StateFault.{StateFault}
 use Rattle.input_faults.specs.declared.state_fault.StateFault.TheVariants.{NoMemory}
 use Rattle.state_reader.specs.Refused.{IsRefused}

@@ -4,8 +4,8 @@ use Rattle.serde_json.specs.Data.{Data, null, unsigned, number, string, object, 
 use Rattle.serde_json.specs.Written.{compact_text}
 use Rattle.hex.specs.Hex.{encode_lower}
 use Rattle.calculus.specs.Faults.{fault_name}
-use Rattle.run_verdict.specs.declared.verdict.Verdict.{Verdict}
-use Rattle.run_verdict.specs.declared.verdict.Verdict.TheVariants.{Done, Exhausted, Faulted}
+use Rattle.replays.specs.declared.verdict.Verdict.{Verdict}
+use Rattle.replays.specs.declared.verdict.Verdict.TheVariants.{Done, Exhausted, Faulted}
 
 -- what a report says: the verdict, the cost, the root of the state that is kept and the number of steps
 pub record Report : Type 0 where

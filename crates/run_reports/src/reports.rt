@@ -6,7 +6,7 @@ ghost use Rattle.calculus.specs.Faults.{fault_name};
 ghost use Rattle.run_reports.specs.Report.{Report, plain_members, faulted_members, report_members, report_line, state_members, state_line, step_data};
 
 use calculus::{Digest, FaultKind};
-use run_verdict::Verdict;
+use replays::Verdict;
 use serde_json::{Value, json};
 use std::alloc::{AllocError, Global};
 

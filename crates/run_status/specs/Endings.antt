@@ -1,8 +1,8 @@
 -- Which statuses are refusals, halts and verdicts.
 use Rattle.std.specs.Prelude.{⊤}
 use Rattle.command_words.specs.declared.usage.Usage.{Usage as Fault}
-use Rattle.run_verdict.specs.declared.verdict.Verdict.{Verdict}
-use Rattle.run_verdict.specs.declared.verdict.Verdict.TheVariants as ending
+use Rattle.replays.specs.declared.verdict.Verdict.{Verdict}
+use Rattle.replays.specs.declared.verdict.Verdict.TheVariants as ending
 use Rattle.run_status.specs.declared.status.Status.{Status}
 use Rattle.run_status.specs.declared.status.Status.TheVariants.{Done, Usage, ReadFault, WriteFault, State, Source, Prices, Limit, Log, Replay, Exhausted, Faulted, NoMemory, TooLarge}
 

@@ -6,5 +6,5 @@ pub mod status;
 mod wording;
 
 pub use command_words::Usage;
-pub use run_verdict::Verdict;
+pub use replays::Verdict;
 pub use status::{Input, Status, status_of};

@@ -7,8 +7,7 @@ use command_words::Usage;
 use event_log::LogFault;
 use input_faults::{SourceFault, StateFault};
 use phlo_meter::PriceFault;
-use replays::ReplayFault;
-use run_verdict::Verdict;
+use replays::{ReplayFault, Verdict};
 use std::alloc::{AllocError, Global};
 use std::fmt;
 

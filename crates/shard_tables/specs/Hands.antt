@@ -4,8 +4,8 @@ use Rattle.std.specs.Int.{bit_at}
 use Rattle.calculus.specs.Rows.{Row}
 use Rattle.calculus.specs.Steps.{differ}
 use Rattle.events.specs.Found.{Among, without}
-use Rattle.shard_rows.specs.Shards.{rows_in, IsProjection}
-use Rattle.shard_rows.specs.Hands.{shows}
+use Rattle.events.specs.Shards.{rows_in, IsProjection}
+use Rattle.events.specs.Hands.{shows}
 
 -- no two of these rows have one id
 abbrev pub IdsDiffer : List Row → Type 0

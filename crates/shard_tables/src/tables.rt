@@ -3,7 +3,7 @@ ghost use Rattle.std.specs.Prelude.{◌≡◌, ◌≢◌, ◌<◌, ℕ, List, []
 ghost use Rattle.calculus.specs.Rows.{channels};
 ghost use Rattle.events.specs.Found.{Among};
 ghost use Rattle.found_rows.specs.AtHand.{MeetsAtHand};
-ghost use Rattle.run_entries.specs.Allowed.{IdsTell, MeetsNothing, rows_at_hand};
+ghost use Rattle.events.specs.Allowed.{IdsTell, MeetsNothing, rows_at_hand};
 ghost use Rattle.shard_tables.specs.Hands.{AreInHand, AreMade, AreShardsOf, AreShown, GainsRow, IdsDiffer, LosesRows};
 ghost use Rattle.calculus.specs.Rows.{Row as Stored};
 

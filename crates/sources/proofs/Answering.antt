@@ -11,8 +11,8 @@ use Rattle.tokens.proofs.OneReading.{same_outcome}
 use Rattle.grammar.specs.declared.dialect.Dialect.TheVariants.{Tutorial}
 use Rattle.grammar.specs.Spells.{Spells}
 use Rattle.grammar.proofs.OneReading.{one_reading}
-use Rattle.places.specs.Places.{PassesAt, EndsAt}
-use Rattle.places.proofs.Decided.{one_place, one_end, apart, higher}
+use Rattle.grammar.specs.Places.{PassesAt, EndsAt}
+use Rattle.grammar.proofs.Decided.{one_place, one_end, apart, higher}
 use Rattle.scope.specs.NormalForm.{normal_form}
 use Rattle.scope.specs.Rules.{Broken, broken_rules}
 use Rattle.input_faults.specs.Refusals.{Refusal, no_tokens, too_deep, ill_formed, out_of_scope}

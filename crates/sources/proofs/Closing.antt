@@ -4,7 +4,7 @@ use Rattle.calculus.specs.Tree.{Tree}
 use Rattle.calculus.specs.Form.{IsClosed}
 use Rattle.tokens.specs.Token.{source}
 use Rattle.grammar.specs.declared.dialect.Dialect.TheVariants.{Tutorial}
-use Rattle.closed_terms.proofs.Spelling.{accepted_text_is_closed}
+use Rattle.source_laws.proofs.Spelling.{accepted_text_is_closed}
 use Rattle.sources.specs.Sources.{IsSourceOf}
 
 pub closed_source : (text : List ℕ) (t : Tree) → IsSourceOf text t → IsClosed t

@@ -6,7 +6,7 @@ use Rattle.tokens.specs.Token.{source}
 use Rattle.tokens.specs.Reading.{HasTokens}
 use Rattle.grammar.specs.declared.dialect.Dialect.TheVariants.{Tutorial}
 use Rattle.grammar.specs.Spells.{Spells, SpellsNothing}
-use Rattle.places.specs.Places.{PassesAt, EndsAt}
+use Rattle.grammar.specs.Places.{PassesAt, EndsAt}
 use Rattle.rho_lexer.specs.Meaning.{kind_token, spanned_tokens}
 use Rattle.rho_lexer.specs.declared.token.Token.{Token}
 use Rattle.token_cursor.specs.Meaning.{plain_tokens}

@@ -8,7 +8,7 @@ use Rattle.tokens.specs.Reading as reading
 use Rattle.tokens.specs.Reading.{HasTokens}
 use Rattle.grammar.specs.declared.dialect.Dialect.TheVariants.{Tutorial}
 use Rattle.grammar.specs.Spells.{Spells, SpellsNothing}
-use Rattle.places.specs.Places.{PassesAt, EndsAt}
+use Rattle.grammar.specs.Places.{PassesAt, EndsAt}
 use Rattle.scope.specs.NormalForm.{normal_form}
 use Rattle.scope.specs.Rules.{Broken, broken_rules}
 use Rattle.input_faults.specs.Refusals.{Refusal, no_tokens, too_deep, ill_formed, out_of_scope}

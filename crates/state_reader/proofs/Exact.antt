@@ -9,7 +9,7 @@ use Rattle.calculus.specs.Rows.{Row, row_code}
 use Rattle.calculus.specs.Storing.{IsStorable}
 use Rattle.calculus.proofs.Prefixes.{cut, Splits-length}
 use Rattle.calculus.proofs.Tails.{length-be64, number-be64, number}
-use Rattle.states.specs.States.{state_text}
+use Rattle.events.specs.States.{state_text}
 use Rattle.calculus.proofs.ListCodes.{length-map}
 use Rattle.state_reader.specs.Files.{Begins, heading, IsNoNextRow, no_row, misplaced, IsNoFront}
 use Rattle.checkpoint.specs.Kept.{AreInOrder}

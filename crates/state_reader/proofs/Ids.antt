@@ -6,7 +6,7 @@ use Rattle.std.specs.BTreeSet.{BTreeSet, contains}
 use Rattle.std.proofs.lemmas.Map.Text.{is_eq-slice_cmp}
 use Rattle.calculus.specs.Order.{byte_cmp}
 use Rattle.calculus.specs.Steps.{is_one_of}
-use Rattle.states.proofs.Groups.{same, equal}
+use Rattle.events.proofs.Groups.{same, equal}
 use Rattle.state_reader.specs.Reading.{AreIds}
 use Rattle.state_reader.proofs.Placing.{one-of-push}
 

@@ -8,7 +8,7 @@ use Rattle.calculus.specs.Root.{root}
 use Rattle.calculus.specs.Rows.{Row, row_code}
 use Rattle.calculus.specs.Steps.{differ}
 use Rattle.events.specs.Events.{first_ids, stored}
-use Rattle.states.specs.States.{state_text}
+use Rattle.events.specs.States.{state_text}
 use Rattle.least_step.specs.Least.{AllowsNone, HasRows, IsLeast, NothingIsUsedUp}
 use Rattle.least_step.specs.declared.least.LeastStep.{LeastStep}
 use Rattle.calculus.proofs.ListCodes.{length-map}
@@ -18,7 +18,7 @@ use Rattle.state_reader.specs.Files.{Begins, EndsEarly, heading, IsLeastOf, IsWr
 use Rattle.state_reader.specs.Reading.{IsOfRows}
 use Rattle.state_reader.specs.Refused.{IsRefused}
 use Rattle.checkpoint.specs.Kept.{AreInOrder}
-use Rattle.states.specs.Quiet.{AllowNoStep}
+use Rattle.events.specs.Quiet.{AllowNoStep}
 use Rattle.checkpoint.proofs.Ordering.{text-of-order}
 
 -- the header, rows, and what is left

@@ -11,7 +11,7 @@ use Rattle.calculus.specs.Steps.{differ, meeting}
 use Rattle.calculus.proofs.Counting.{bytes_equal, bytes_self}
 use Rattle.calculus.proofs.Ordered.{up_to_both}
 use Rattle.events.specs.Events.{first_ids, stored}
-use Rattle.states.specs.States.{state_text}
+use Rattle.events.specs.States.{state_text}
 use Rattle.checkpoint.specs.Kept.{AreInOrder}
 use Rattle.state_reader.specs.Files.{IsLeastOf, IsReducible}
 use Rattle.state_reader.proofs.Exact.{text-laid}

@@ -31,7 +31,7 @@ use Rattle.row_reader.proofs.Joins.{bind-parts, same-channel}
 use Rattle.process_laws.proofs.StorableStaying.{built_in_receivers_are_storable}
 use Rattle.state_reader.proofs.Same.{all-head, all-tail, heads}
 use Rattle.row_reader.proofs.SentRows.{Parted, a_send, a_receive, parted}
-use Rattle.states.specs.Quiet.{AllowNoStep}
+use Rattle.events.specs.Quiet.{AllowNoStep}
 use Rattle.state_reader.proofs.SameRows.{storable-row, storable-short}
 
 other-tag : {A : Type 0} → ◌≡◌ {A = ℕ} 1 2 → A

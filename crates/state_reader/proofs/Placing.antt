@@ -8,7 +8,7 @@ use Rattle.calculus.specs.Order.{up_to, IsAscending}
 use Rattle.calculus.specs.Rows.{Row, row_code}
 use Rattle.calculus.specs.Steps.{is_one_of, differ}
 use Rattle.calculus.specs.Storing.{IsStorable}
-use Rattle.states.proofs.Groups.{same, equal}
+use Rattle.events.proofs.Groups.{same, equal}
 use Rattle.checkpoint.specs.Kept.{AreInOrder}
 use Rattle.std.specs.BTreeSet.{BTreeSet}
 use Rattle.state_reader.specs.Reading.{last_code, AreIds, Adds}

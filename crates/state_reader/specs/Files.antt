@@ -8,7 +8,7 @@ use Rattle.calculus.specs.Candidates.{IsLeastAllowed}
 use Rattle.calculus.specs.Log.{Step}
 use Rattle.calculus.specs.Steps.{differ}
 use Rattle.events.specs.Events.{stored, first_ids}
-use Rattle.states.specs.States.{state_text}
+use Rattle.events.specs.States.{state_text}
 use Rattle.row_reader.specs.RowCodes.{IsCutRow, IsRow}
 use Rattle.checkpoint.specs.Kept.{AreInOrder}
 

@@ -3,8 +3,8 @@ use Rattle.std.specs.Prelude.{◌≡◌, ℕ, ◌<◌, ◌^◌, ◌++◌, ⊤, t
 use Rattle.calculus.specs.Rows.{Row}
 use Rattle.calculus.specs.Steps.{differ}
 use Rattle.events.specs.Events.{first_ids}
-use Rattle.states.specs.States.{state_text}
-use Rattle.states.specs.Quiet.{AllowNoStep}
+use Rattle.events.specs.States.{state_text}
+use Rattle.events.specs.Quiet.{AllowNoStep}
 use Rattle.checkpoint.specs.Kept.{AreInOrder}
 use Rattle.row_reader.specs.RowCodes.{IsCutRow}
 use Rattle.input_faults.specs.declared.state_fault.StateFault.{StateFault}

@@ -4,10 +4,10 @@ ghost use Rattle.std.specs.Str.{bytes_eq};
 ghost use Rattle.calculus.specs.Rows.{row_code as code_of_row};
 ghost use Rattle.calculus.specs.Steps.{differ};
 ghost use Rattle.events.specs.Events.{first_ids};
-ghost use Rattle.states.specs.States.{state_text};
+ghost use Rattle.events.specs.States.{state_text};
 ghost use Rattle.input_faults.specs.declared.state_fault.StateFault.TheVariants.{NotCanonical, Short};
 ghost use Rattle.state_reader.specs.Files.{Begins, EndsEarly, IsLeastOf, IsWrongAt};
-ghost use Rattle.states.specs.Quiet.{AllowNoStep};
+ghost use Rattle.events.specs.Quiet.{AllowNoStep};
 ghost use Rattle.state_reader.specs.Reading.{IsOfRows};
 ghost use Rattle.state_reader.specs.Refused.{IsRefused};
 

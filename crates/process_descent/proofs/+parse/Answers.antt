@@ -480,8 +480,8 @@ atom::drop_form-dropped_quote-requires t c = grows _ c.drop_form-quoted.ensures.
 pub atom::drop_form-members-requires : goal.atom::drop_form-members-requires
 atom::drop_form-members-requires t c = grows _ c.row-row-in-Ok-Members.ensures.room (omega (arith, c.ranges.free))
 
-pub atom::drop_form-close_group-requires : goal.atom::drop_form-close_group-requires
-atom::drop_form-close_group-requires t c = grows _ c.par-inner.ensures.room (omega (arith, c.ranges.free))
+pub atom::drop_form-close-requires : goal.atom::drop_form-close-requires
+atom::drop_form-close-requires t c = grows _ c.par-inner.ensures.room (omega (arith, c.ranges.free))
 
 pub atom::drop_form-tuple-requires : goal.atom::drop_form-tuple-requires
 atom::drop_form-tuple-requires t c = record { first = grows _ c.par-inner.ensures.room (omega (arith, c.ranges.free)); row = grows _ c.row-row.ensures.room (omega (arith, c.ranges.free)) }
@@ -524,7 +524,7 @@ atom::drop_form-returns-then-not-skip_after t c =
     let r = at_step after_process_step _ _ c.in-Ok-Group.field-0-is c.in-Ok-Group.ensures.reads in
     let m = subst (HasRoomFor c.args.free) c.in-Ok-Group.field-0-is c.in-Ok-Group.ensures.room in
     let s = subst (Passes _ _) c.in-Ok-Group.field-0-is c.in-Ok-Group.ensures.shorter in
-    record { reads = r _ (c.close_group.ensures.reads _ _ _ (group_ended c.args.free _ _ processes of_proc c.par-inner.result (c.skip_after.ensures.stays c.if-not-skip_after.true) (c.skip_after.ensures.ends c.if-not-skip_after.true) (under_read _ _ _ of_proc (λ a. last (Sort.Group processes a)) _ c.par-inner.ensures.reads))); room = c.close_group.ensures.room c.args.free (under_free _ c.par-inner.ensures.room m); shorter = down (falls s) (down c.par-inner.ensures.shorter (down c.skip_after.ensures.shorter c.close_group.ensures.shorter)) }
+    record { reads = r _ (c.close.ensures.reads proc_written _ _ _ (group_ended c.args.free _ _ processes of_proc c.par-inner.result (c.skip_after.ensures.stays c.if-not-skip_after.true) (c.skip_after.ensures.ends c.if-not-skip_after.true) (under_read _ _ _ of_proc (λ a. last (Sort.Group processes a)) _ c.par-inner.ensures.reads))); room = c.close.ensures.room c.args.free (under_free _ c.par-inner.ensures.room m); shorter = down (falls s) (down c.par-inner.ensures.shorter (down c.skip_after.ensures.shorter c.close.ensures.shorter)) }
 
 pub atom::drop_form-returns-in-Err : goal.atom::drop_form-returns-in-Err
 atom::drop_form-returns-in-Err t c = record { reads = c.in-Err.ensures.reads; room = tt; shorter = c.in-Err.ensures.shorter }
@@ -571,8 +571,8 @@ atom::block-overflow_sub-below t c = c.requires
 pub atom::block-close_map-requires : goal.atom::block-close_map-requires
 atom::block-close_map-requires t c = grows _ c.each.invariant.room (omega (arith, c.ranges.free))
 
-pub atom::block-close_block-requires : goal.atom::block-close_block-requires
-atom::block-close_block-requires t c = grows _ c.par-first.ensures.room (omega (arith, c.ranges.free))
+pub atom::block-close-requires : goal.atom::block-close-requires
+atom::block-close-requires t c = grows _ c.par-first.ensures.room (omega (arith, c.ranges.free))
 
 pub atom::block-par-first-requires : goal.atom::block-par-first-requires
 atom::block-par-first-requires t c = (lower _ _ _ c.decreases refl, tt)
@@ -601,7 +601,7 @@ pub atom::block-returns : goal.atom::block-returns
 atom::block-returns t c = record { reads = c.close_map.ensures.reads _ _ _ (stayed c.args.free _ _ _ c.each.pairs (c.skip_after-in-each.ensures.stays c.each-test.false) (block_ended c.args.free _ _ _ c.each.pairs (c.skip_after-in-each.ensures.ends c.each-test.false) c.each.invariant.turns)); room = c.close_map.ensures.room c.args.free (under_free _ c.each.invariant.room (omega (arith, c.requires))); shorter = down (falls c.each.invariant.shorter) (down c.skip_after-in-each.ensures.shorter c.close_map.ensures.shorter) }
 
 pub atom::block-returns-then-not-skip_after : goal.atom::block-returns-then-not-skip_after
-atom::block-returns-then-not-skip_after t c = record { reads = c.close_block.ensures.reads _ _ _ (block_closed c.args.free _ _ c.par-first.result (c.skip_after.ensures.stays c.if-not-skip_after.true) (c.skip_after.ensures.ends c.if-not-skip_after.true) (under_read _ _ _ of_proc (λ a. last (Sort.BraceTail a)) _ c.par-first.ensures.reads)); room = c.close_block.ensures.room c.args.free (under_free _ c.par-first.ensures.room c.requires); shorter = down c.par-first.ensures.shorter (down c.skip_after.ensures.shorter c.close_block.ensures.shorter) }
+atom::block-returns-then-not-skip_after t c = record { reads = c.close.ensures.reads proc_written _ _ _ (block_closed c.args.free _ _ c.par-first.result (c.skip_after.ensures.stays c.if-not-skip_after.true) (c.skip_after.ensures.ends c.if-not-skip_after.true) (under_read _ _ _ of_proc (λ a. last (Sort.BraceTail a)) _ c.par-first.ensures.reads)); room = c.close.ensures.room c.args.free (under_free _ c.par-first.ensures.room c.requires); shorter = down c.par-first.ensures.shorter (down c.skip_after.ensures.shorter c.close.ensures.shorter) }
 
 pub atom::block-returns-in-Err : goal.atom::block-returns-in-Err
 atom::block-returns-in-Err t c = record { reads = gives_up of_proc _ _ c.give_up.ensures (block_goes_on c.args.free _ _ _ c.each.pairs (Err c.in-Err.fault) (Err c.in-Err.fault) (c.skip_after-in-each.ensures.after c.each-test.true) (c.skip_after-in-each.ensures.is c.each-test.true) (c.skip_after-in-each.ensures.takes c.each-test.true) c.each.invariant.turns (λ after. no_pair _ _ processes proc_written after c.in-Err.fault c.par-found.ensures.reads c.in-Err.ensures.reads) (no_more _ _)); room = none_given c.args.free _ _ c.give_up.ensures; shorter = down (falls c.each.invariant.shorter) (down c.skip_after-in-each.ensures.shorter (down c.par-found.ensures.shorter c.in-Err.ensures.shorter)) }
@@ -786,8 +786,8 @@ pattern::pattern_not-member_patterns-requires t c = grows _ c.pattern_sequence-s
 pub pattern::pattern_not-negated-requires : goal.pattern::pattern_not-negated-requires
 pattern::pattern_not-negated-requires t c = grows _ c.pattern_not-arg.ensures.room (omega (arith, c.ranges.free))
 
-pub pattern::pattern_not-close_pattern_group-requires : goal.pattern::pattern_not-close_pattern_group-requires
-pattern::pattern_not-close_pattern_group-requires t c = grows _ c.pattern_par-inner.ensures.room (omega (arith, c.ranges.free))
+pub pattern::pattern_not-close-requires : goal.pattern::pattern_not-close-requires
+pattern::pattern_not-close-requires t c = grows _ c.pattern_par-inner.ensures.room (omega (arith, c.ranges.free))
 
 pub pattern::pattern_not-tuple_pattern-requires : goal.pattern::pattern_not-tuple_pattern-requires
 pattern::pattern_not-tuple_pattern-requires t c = record { first = grows _ c.pattern_par-inner.ensures.room (omega (arith, c.ranges.free)); row = grows _ c.pattern_row-row.ensures.room (omega (arith, c.ranges.free)) }
@@ -835,7 +835,7 @@ pattern::pattern_not-returns-then-not-skip_after t c =
     let r = at_step after_pattern_step _ _ c.in-Ok-Group.field-0-is c.in-Ok-Group.ensures.reads in
     let m = subst (HasRoomForPattern c.args.free) c.in-Ok-Group.field-0-is c.in-Ok-Group.ensures.room in
     let s = subst (PassesPattern _ _) c.in-Ok-Group.field-0-is c.in-Ok-Group.ensures.shorter in
-    record { reads = r _ (c.close_pattern_group.ensures.reads _ _ _ (group_ended c.args.free _ _ patterns of_pat c.pattern_par-inner.result (c.skip_after.ensures.stays c.if-not-skip_after.true) (c.skip_after.ensures.ends c.if-not-skip_after.true) (under_read _ _ _ of_pat (λ a. last (Sort.Group patterns a)) _ c.pattern_par-inner.ensures.reads))); room = c.close_pattern_group.ensures.room c.args.free (under_free _ c.pattern_par-inner.ensures.room m); shorter = down (falls s) (down c.pattern_par-inner.ensures.shorter (down c.skip_after.ensures.shorter c.close_pattern_group.ensures.shorter)) }
+    record { reads = r _ (c.close.ensures.reads pat_written _ _ _ (group_ended c.args.free _ _ patterns of_pat c.pattern_par-inner.result (c.skip_after.ensures.stays c.if-not-skip_after.true) (c.skip_after.ensures.ends c.if-not-skip_after.true) (under_read _ _ _ of_pat (λ a. last (Sort.Group patterns a)) _ c.pattern_par-inner.ensures.reads))); room = c.close.ensures.room c.args.free (under_free _ c.pattern_par-inner.ensures.room m); shorter = down (falls s) (down c.pattern_par-inner.ensures.shorter (down c.skip_after.ensures.shorter c.close.ensures.shorter)) }
 
 pub pattern::pattern_not-returns-in-Err : goal.pattern::pattern_not-returns-in-Err
 pattern::pattern_not-returns-in-Err t c = record { reads = c.in-Err.ensures.reads; room = tt; shorter = c.in-Err.ensures.shorter }
@@ -940,8 +940,8 @@ pattern_atom::pattern_block-overflow_sub-below t c = c.requires
 pub pattern_atom::pattern_block-close_pairs-requires : goal.pattern_atom::pattern_block-close_pairs-requires
 pattern_atom::pattern_block-close_pairs-requires t c = record { member = subst (λ ts. OnOk c.each.pairs (sees_member ts ≡ false)) (sym (c.skip_comma_after.ensures.stays c.each-test.false)) (c.skip_comma_after.ensures.ends c.each-test.false); room = grows _ c.each.invariant.room (omega (arith, c.ranges.free)) }
 
-pub pattern_atom::pattern_block-close_pattern_block-requires : goal.pattern_atom::pattern_block-close_pattern_block-requires
-pattern_atom::pattern_block-close_pattern_block-requires t c = grows _ c.pattern_par-first.ensures.room (omega (arith, c.ranges.free))
+pub pattern_atom::pattern_block-close-requires : goal.pattern_atom::pattern_block-close-requires
+pattern_atom::pattern_block-close-requires t c = grows _ c.pattern_par-first.ensures.room (omega (arith, c.ranges.free))
 
 pub pattern_atom::pattern_block-pattern_par-first-requires : goal.pattern_atom::pattern_block-pattern_par-first-requires
 pattern_atom::pattern_block-pattern_par-first-requires t c = (lower _ _ _ c.decreases refl, tt)
@@ -970,7 +970,7 @@ pub pattern_atom::pattern_block-returns : goal.pattern_atom::pattern_block-retur
 pattern_atom::pattern_block-returns t c = record { reads = c.close_pairs.ensures.reads _ _ _ (stayed c.args.free _ _ _ c.each.pairs (c.skip_comma_after.ensures.stays c.each-test.false) c.each.invariant.turns); room = c.close_pairs.ensures.room c.args.free (under_free _ c.each.invariant.room (omega (arith, c.requires))); shorter = down (falls c.each.invariant.shorter) (down c.skip_comma_after.ensures.shorter c.close_pairs.ensures.shorter) }
 
 pub pattern_atom::pattern_block-returns-then-not-skip_after : goal.pattern_atom::pattern_block-returns-then-not-skip_after
-pattern_atom::pattern_block-returns-then-not-skip_after t c = record { reads = c.close_pattern_block.ensures.reads _ _ _ (pattern_block_closed c.args.free _ _ c.pattern_par-first.result (c.skip_after.ensures.stays c.if-not-skip_after.true) (c.skip_after.ensures.ends c.if-not-skip_after.true) (under_read _ _ _ of_pat (λ a. last (Sort.PBraceTail a)) _ c.pattern_par-first.ensures.reads)); room = c.close_pattern_block.ensures.room c.args.free (under_free _ c.pattern_par-first.ensures.room c.requires); shorter = down c.pattern_par-first.ensures.shorter (down c.skip_after.ensures.shorter c.close_pattern_block.ensures.shorter) }
+pattern_atom::pattern_block-returns-then-not-skip_after t c = record { reads = c.close.ensures.reads pat_written _ _ _ (pattern_block_closed c.args.free _ _ c.pattern_par-first.result (c.skip_after.ensures.stays c.if-not-skip_after.true) (c.skip_after.ensures.ends c.if-not-skip_after.true) (under_read _ _ _ of_pat (λ a. last (Sort.PBraceTail a)) _ c.pattern_par-first.ensures.reads)); room = c.close.ensures.room c.args.free (under_free _ c.pattern_par-first.ensures.room c.requires); shorter = down c.pattern_par-first.ensures.shorter (down c.skip_after.ensures.shorter c.close.ensures.shorter) }
 
 pub pattern_atom::pattern_block-returns-in-Err : goal.pattern_atom::pattern_block-returns-in-Err
 pattern_atom::pattern_block-returns-in-Err t c = record { reads = gives_up of_pat _ _ c.give_up.ensures (pattern_block_goes_on c.args.free _ _ _ c.each.pairs (Err c.in-Err.fault) (Err c.in-Err.fault) (c.skip_comma_after.ensures.after c.each-test.true) (c.skip_comma_after.ensures.is c.each-test.true) (c.skip_comma_after.ensures.takes c.each-test.true) c.each.invariant.turns (λ after. no_pair _ _ patterns pat_written after c.in-Err.fault c.pattern_par-found.ensures.reads c.in-Err.ensures.reads) (no_more _ _)); room = none_given c.args.free _ _ c.give_up.ensures; shorter = down (falls c.each.invariant.shorter) (down c.skip_comma_after.ensures.shorter (down c.pattern_par-found.ensures.shorter c.in-Err.ensures.shorter)) }

@@ -6,7 +6,7 @@ use Rattle.std.specs.List.Sorted.{IsSortedBy}
 use Rattle.std.specs.declared.alloc.Global.{Global}
 use Rattle.std.specs.declared.vec.Vec.{Vec}
 use Rattle.calculus.proofs.Permutations.{each-moved}
-use Rattle.states.proofs.Groups.{sorted-moved}
+use Rattle.events.proofs.Groups.{sorted-moved}
 use Rattle.calculus.proofs.ListCodes.{sorted-ascending}
 use Rattle.checkpoint.specs.Texts.{text_with}
 use Rattle.checkpoint.proofs.Sorting.{low, ascending}

@@ -1,19 +1,19 @@
-use Rattle.form_steps.proofs.Handed.{as_fault, as_read, if_read, made_room}
-use Rattle.grammar.specs.Grammar.{rule}
-use Rattle.grammar.specs.Productions.{Prod}
-use Rattle.grammar.specs.declared.dialect.Dialect.TheVariants.{Tutorial}
+use Rattle.form_steps.proofs.Handed.{if_read}
+use Rattle.grammar.specs.Rules.{done}
+use Rattle.grammar.specs.Values.{map_of, opened}
+use Rattle.token_cursor.proofs.Steps.{ends}
 use Rattle.token_cursor.specs.Reading.{pairs_written}
 use Rattle.std.proofs.Common.{arith, ◌+◌, ◌<◌, ◌^◌}
 use Rattle.form_ends.proofs.list_steps.close_map.Goals as goal
 
-pub map_close-requires : goal.map_close-requires
-map_close-requires c = if_read (λ ps. ps.height + 1 < 2 ^ 32) _ c.in-Ok.is c.requires
+pub map-requires : goal.map-requires
+map-requires c = record { pairs = if_read (λ ps. ps.height + 1 < 2 ^ 32) _ c.in-Ok.ensures.same c.requires }
 
 pub returns-in-Ok-clause-reads : goal.returns-in-Ok-clause-reads
-returns-in-Ok-clause-reads c = λ free r ts t. as_read (λ ps. rule Tutorial (Prod.pairs_end (pairs_written ps.value.items) ps.height)) _ c.in-Ok.is t _ (c.map_close.ensures.reads free)
+returns-in-Ok-clause-reads c = λ free r ts t. c.in-Ok.ensures.reads free r ts (λ ps. done (opened (map_of (pairs_written ps.value.items)) ps.height)) t _ (ends _ _ c.map.ensures.tree c.map.ensures.height)
 
 pub returns-in-Ok-clause-room : goal.returns-in-Ok-clause-room
-returns-in-Ok-clause-room c = λ n h. let k = if_read (λ ps. ps.height < n) _ c.in-Ok.is h in made_room _ c.map_close.ensures.height (omega (arith, k))
+returns-in-Ok-clause-room c = λ n h. let k = if_read (λ ps. ps.height < n) _ c.in-Ok.ensures.same h in omega (arith, k, c.map.ensures.height)
 
 pub returns-in-Err-clause-reads : goal.returns-in-Err-clause-reads
-returns-in-Err-clause-reads c = λ free r ts t. as_fault (λ ps. rule Tutorial (Prod.pairs_end (pairs_written ps.value.items) ps.height)) _ c.in-Err.is t
+returns-in-Err-clause-reads c = λ free r ts t. c.in-Err.ensures.reads free r ts (λ ps. done (opened (map_of (pairs_written ps.value.items)) ps.height)) t

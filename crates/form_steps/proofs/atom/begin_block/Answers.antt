@@ -1,14 +1,13 @@
 use Rattle.grammar.specs.Descent.{no_opens, runs_last, runs_opens}
-use Rattle.form_steps.specs.Steps.{after_process_step}
-use Rattle.token_cursor.proofs.Steps.{leave}
+use Rattle.form_steps.proofs.Opened.{falls}
 use Rattle.std.proofs.Common.{sym, ◌∙◌}
 use Rattle.form_steps.proofs.atom.begin_block.Goals as goal
 
-pub returns-in_err-opens-clause-reads : goal.returns-in_err-opens-clause-reads
-returns-in_err-opens-clause-reads c = leave after_process_step _ _ c.from_residual.ensures.1 (no_opens c.in_err-opens.ensures.reads)
+pub returns-in-Err : goal.returns-in-Err
+returns-in-Err c = record { reads = no_opens c.in-Err.ensures.reads; enough = tt; shorter = c.in-Err.ensures.shorter }
 
-pub returns-then-sees-clause-reads : goal.returns-then-sees-clause-reads
-returns-then-sees-clause-reads c = λ out h. runs_opens c.in_ok-opens.ensures.reads (runs_last (let x0 = sym c.sees.ensures ∙ c.if-sees.true in rw x0 h))
+pub returns-then-sees : goal.returns-then-sees
+returns-then-sees c = record { reads = λ out h. runs_opens c.in-Ok.ensures.reads (runs_last (let x0 = sym c.sees.ensures ∙ c.if-sees.true in rw x0 h)); enough = c.in-Ok.ensures.room; shorter = falls c.in-Ok.ensures.shorter }
 
-pub returns-clause-reads : goal.returns-clause-reads
-returns-clause-reads c = λ out h. runs_opens c.in_ok-opens.ensures.reads (runs_last (let x0 = sym c.sees.ensures ∙ c.if-sees.false in rw x0 h))
+pub returns : goal.returns
+returns c = record { reads = λ out h. runs_opens c.in-Ok.ensures.reads (runs_last (let x0 = sym c.sees.ensures ∙ c.if-sees.false in rw x0 h)); enough = c.in-Ok.ensures.room; shorter = c.in-Ok.ensures.shorter }

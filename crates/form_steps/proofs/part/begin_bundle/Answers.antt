@@ -1,14 +1,21 @@
-use Rattle.grammar.specs.Descent.{no_opens, no_sign, runs_opens, runs_sign}
 use Rattle.form_steps.specs.Parts.{after_bundle}
+use Rattle.form_steps.proofs.Handed.{if_read}
+use Rattle.form_steps.proofs.Opened.{down, no_more, open_read, under_first}
 use Rattle.form_steps.proofs.Turning.{chosen}
-use Rattle.token_cursor.proofs.Steps.{leave}
+use Rattle.std.proofs.Common.{◌<◌}
 use Rattle.form_steps.proofs.part.begin_bundle.Goals as goal
 
-pub returns-in_err-opens_bundle-clause-reads : goal.returns-in_err-opens_bundle-clause-reads
-returns-in_err-opens_bundle-clause-reads c = λ side. leave (after_bundle side) _ _ c.from_residual.ensures.1 (chosen _ _ (c.rights-rights.ensures side) (no_opens c.in_err-opens_bundle.ensures.reads))
+pub returns-in-Ok-clause-reads : goal.returns-in-Ok-clause-reads
+returns-in-Ok-clause-reads c = λ side out h. chosen _ _ (c.rights-rights.ensures side) (c.in-Ok.ensures.reads c.args.free _ _ (λ _. after_bundle side c.rights-rights.result) (open_read _ _ _ _ _ _ c.opens_bundle-opened.ensures.reads) out h)
 
-pub returns-in_err-expect-clause-reads : goal.returns-in_err-expect-clause-reads
-returns-in_err-expect-clause-reads c = λ side. leave (after_bundle side) _ _ c.from_residual-in_err-expect.ensures.1 (chosen _ _ (c.rights-rights.ensures side) (runs_opens c.in_ok-opens_bundle.ensures.reads (no_sign c.in_err-expect.ensures.reads)))
+pub returns-in-Ok-clause-room : goal.returns-in-Ok-clause-room
+returns-in-Ok-clause-room c = if_read (λ _. 0 < c.args.free) _ c.in-Ok.ensures.same c.opens_bundle-opened.ensures.room
 
-pub returns-clause-reads : goal.returns-clause-reads
-returns-clause-reads c = λ side out h. chosen _ _ (c.rights-rights.ensures side) (runs_opens c.in_ok-opens_bundle.ensures.reads (runs_sign c.in_ok-expect.ensures.reads h))
+pub returns-in-Ok-clause-shorter : goal.returns-in-Ok-clause-shorter
+returns-in-Ok-clause-shorter c = under_first c.in-Ok.ensures.shorter (no_more _ c.opens_bundle-opened.ensures.shorter)
+
+pub returns-in-Err-clause-reads : goal.returns-in-Err-clause-reads
+returns-in-Err-clause-reads c = λ side. chosen _ _ (c.rights-rights.ensures side) (c.in-Err.ensures.reads c.args.free _ _ (λ _. after_bundle side c.rights-rights.result) (open_read _ _ _ _ _ _ c.opens_bundle-opened.ensures.reads))
+
+pub returns-in-Err-clause-shorter : goal.returns-in-Err-clause-shorter
+returns-in-Err-clause-shorter c = down c.in-Err.ensures.shorter (no_more _ c.opens_bundle-opened.ensures.shorter)

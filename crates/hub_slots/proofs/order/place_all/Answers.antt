@@ -5,6 +5,16 @@ use native.Mathlib.Decide.{dec_le}
 use Rattle.hub_rule.specs.Counts.{one_if, count, placed}
 use Rattle.hub_slots.proofs.order.place_all.Goals as goal
 
+pub loop-number-init : goal.loop-number-init
+loop-number-init g c =
+    let T : Type 0 = g.row.T.Denot in
+    let all = c.into_iter-number-iterator.ensures.into_iter_gives.0 in
+    record {
+      rest = ap {A = List (ℕ × T)} (λ l. placed c.args.places.items l) all;
+      long = refl;
+      within = λ n le. ap {A = List (ℕ × T)} (count n) all ∙ c.requires n le;
+    }
+
 pub index_mut-requires : goal.index_mut-requires
 index_mut-requires g c =
     let T : Type 0 = g.row.T.Denot in

@@ -1,4 +1,4 @@
-use Rattle.std.proofs.Common.{◌≡◌, ◌≢◌, ◌<◌, ◌-◌, ◌+◌, ◌++◌, ◌∙◌, ℕ, suc, List, false, sym, ap, arith, length, take, get_or-set_other, slice_index_or}
+use Rattle.std.proofs.Common.{◌≡◌, ◌≢◌, ◌<◌, ◌≤◌, ◌-◌, ◌+◌, ◌++◌, ◌∙◌, ℕ, suc, List, false, refl, le_refl, sym, ap, subst, arith, length, take, get_or-set_other, slice_index_or}
 use mathlib.Core.Logic.{dite}
 use native.Mathlib.Decide.{ℕ_discrete}
 use lib.ListN.{get_elem?}
@@ -57,3 +57,27 @@ returns g c = λ lists long lies.
     let i = c.loop-desk.invariant in
     let end : c.loop-desk.desk - 64 ≡ 32 = (let a = c.loop-desk-test.false in let b = c.loop-desk.auto.desk-end in omega arith) in
     i.left lists long lies ∙ (ap {A = ℕ} (λ k. all_of (λ x. x) (take k lists)) end ∙ ap (all_of (λ x. x)) (front_all lists 32 long))
+
+-- numbers below a length that a count has reached are below the count
+reached : (k len n : ℕ) → k < len → len ≡ 96 → 96 ≤ n → k < n
+reached k len n lt e le = omega arith
+
+pub loop-desk-init : goal.loop-desk-init
+loop-desk-init g c =
+    let r = c.requires.slots in
+    record {
+      items = refl;
+      len = r.0;
+      there = r.1.0;
+      gone = r.1.1;
+      room = refl;
+      left = λ lists long lies. c.requires.room;
+    }
+
+pub take-requires : goal.take-requires
+take-requires g c =
+    let i = c.loop-desk.invariant in let n : ℕ = c.loop-desk.desk in let lt = c.loop-desk-test.true in
+    (subst (λ k. n < k) (sym i.len) lt, i.there n (le_refl n) lt)
+
+pub free-requires : goal.free-requires
+free-requires g c = λ k lt. c.loop-desk.invariant.gone k (reached k _ _ lt c.loop-desk.invariant.len c.loop-desk-test.false)

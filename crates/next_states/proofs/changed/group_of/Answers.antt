@@ -7,7 +7,7 @@ use Rattle.std.specs.declared.alloc.Global.{Global}
 use Rattle.std.specs.declared.vec.Vec.{Vec}
 use Rattle.calculus.proofs.Permutations.{each-moved}
 use Rattle.radix_root.specs.Leaves.{group_digest}
-use Rattle.states.proofs.Groups.{sorted-moved}
+use Rattle.events.proofs.Groups.{sorted-moved}
 use Rattle.calculus.proofs.ListCodes.{sorted-ascending}
 use Rattle.checkpoint.proofs.Sorting.{low, ascending}
 use Rattle.next_states.proofs.changed.group_of.Goals as goal

@@ -1,4 +1,6 @@
-use denote.Param.Send.{sendable}
+use denote.Exit.{no}
+use denote.Param.Send.{arg_send, arg_sync, param_send, param_sync}
+use Rattle.play_hub.proofs.Crossing.{entry-send, entry-sync}
 use Rattle.space_row.proofs.Crossing.{row-send, row-sync}
 use Rattle.std.proofs.Common.{◌≡◌, ◌∙◌, ℕ, List, Some, refl, sym, ap, subst, drop, map, arith}
 use Rattle.std.proofs.Math.Nat.{min-eq_left}
@@ -17,10 +19,16 @@ use Rattle.play_draws.proofs.Hands.{within, ready-told, ready-carried}
 use Rattle.play_draws.proofs.drawing.draw_ready.Goals as goal
 
 pub commit-requires-send-S-Work : goal.commit-requires-send-S-Work
-commit-requires-send-S-Work g c κs within = let a = row-send in search sendable depth 10
+commit-requires-send-S-Work g c κs within = param_send _ _ (arg_send _ no _ row-send)
 
 pub commit-requires-sync-S-Work : goal.commit-requires-sync-S-Work
-commit-requires-sync-S-Work g c κs within = let a = row-sync in search sendable depth 10
+commit-requires-sync-S-Work g c κs within = param_sync _ _ (arg_sync _ no _ row-sync)
+
+pub commit-requires-send-S-Entry : goal.commit-requires-send-S-Entry
+commit-requires-send-S-Entry g c κs within = param_send _ _ (arg_send _ no _ entry-send)
+
+pub commit-requires-sync-S-Entry : goal.commit-requires-sync-S-Entry
+commit-requires-sync-S-Entry g c κs within = param_sync _ _ (arg_sync _ no _ entry-sync)
 
 pub commit-requires-clause-within : goal.commit-requires-clause-within
 commit-requires-clause-within g c κs w k b =

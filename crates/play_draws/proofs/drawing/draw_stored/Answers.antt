@@ -1,8 +1,10 @@
-use denote.Param.Send.{sendable}
+use denote.Exit.{no}
+use denote.Param.Send.{arg_send, arg_sync, param_send, param_sync}
+use Rattle.play_hub.proofs.Crossing.{entry-send, entry-sync}
 use Rattle.std.proofs.Common.{◌≡◌, ℕ, List, Option, None, refl, sym, subst}
 use Rattle.calculus.specs.Rows.{Row as Stored}
 use Rattle.group_locks.specs.Seats.{held_by, since_of, took_by}
-use Rattle.run_entries.specs.Allowed.{IdsTell, MeetsNothing, rows_at_hand}
+use Rattle.events.specs.Allowed.{IdsTell, MeetsNothing, rows_at_hand}
 use Rattle.space_row.proofs.Crossing.{row-send, row-sync}
 use Rattle.shard_tables.specs.Hands.{AreInHand, AreMade, GainsRow}
 use Rattle.play_hub.specs.declared.entry.PlayEntry.{PlayEntry}
@@ -11,10 +13,16 @@ use Rattle.play_draws.proofs.Hands.{stored-told, stored-carried}
 use Rattle.play_draws.proofs.drawing.draw_stored.Goals as goal
 
 pub commit-requires-send-S-Work : goal.commit-requires-send-S-Work
-commit-requires-send-S-Work g c κs within = let a = row-send in search sendable depth 10
+commit-requires-send-S-Work g c κs within = param_send _ _ (arg_send _ no _ row-send)
 
 pub commit-requires-sync-S-Work : goal.commit-requires-sync-S-Work
-commit-requires-sync-S-Work g c κs within = let a = row-sync in search sendable depth 10
+commit-requires-sync-S-Work g c κs within = param_sync _ _ (arg_sync _ no _ row-sync)
+
+pub commit-requires-send-S-Entry : goal.commit-requires-send-S-Entry
+commit-requires-send-S-Entry g c κs within = param_send _ _ (arg_send _ no _ entry-send)
+
+pub commit-requires-sync-S-Entry : goal.commit-requires-sync-S-Entry
+commit-requires-sync-S-Entry g c κs within = param_sync _ _ (arg_sync _ no _ entry-sync)
 
 pub commit-requires-clause-allowed : goal.commit-requires-clause-allowed
 commit-requires-clause-allowed g c κs within =

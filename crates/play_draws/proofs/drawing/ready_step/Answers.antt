@@ -1,4 +1,6 @@
-use denote.Param.Send.{sendable}
+use denote.Exit.{no}
+use denote.Param.Send.{arg_send, arg_sync, param_send, param_sync}
+use Rattle.play_hub.proofs.Crossing.{entry-send, entry-sync}
 use Rattle.space_row.proofs.Crossing.{row-send, row-sync}
 use Rattle.std.proofs.Common.{◌≡◌, ℕ, List, drop, sym, subst}
 use Rattle.std.specs.Prelude.{IfOk}
@@ -10,10 +12,16 @@ use Rattle.play_draws.proofs.Lists.{rest-is}
 use Rattle.play_draws.proofs.drawing.ready_step.Goals as goal
 
 pub drawn-drawn-requires-send-S-Work : goal.drawn-drawn-requires-send-S-Work
-drawn-drawn-requires-send-S-Work g c κs within = let a = row-send in search sendable depth 10
+drawn-drawn-requires-send-S-Work g c κs within = param_send _ _ (arg_send _ no _ row-send)
 
 pub drawn-drawn-requires-sync-S-Work : goal.drawn-drawn-requires-sync-S-Work
-drawn-drawn-requires-sync-S-Work g c κs within = let a = row-sync in search sendable depth 10
+drawn-drawn-requires-sync-S-Work g c κs within = param_sync _ _ (arg_sync _ no _ row-sync)
+
+pub drawn-drawn-requires-send-S-Entry : goal.drawn-drawn-requires-send-S-Entry
+drawn-drawn-requires-send-S-Entry g c κs within = param_send _ _ (arg_send _ no _ entry-send)
+
+pub drawn-drawn-requires-sync-S-Entry : goal.drawn-drawn-requires-sync-S-Entry
+drawn-drawn-requires-sync-S-Entry g c κs within = param_sync _ _ (arg_sync _ no _ entry-sync)
 
 pub returns : goal.returns
 returns g c =

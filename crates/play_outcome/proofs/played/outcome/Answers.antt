@@ -1,5 +1,5 @@
-use Rattle.run_verdict.specs.View.{verdict_of}
-use Rattle.run_verdict.proofs.Done.{is-done}
+use Rattle.replays.specs.View.{verdict_of}
+use Rattle.replays.proofs.Done.{is-done}
 use Rattle.play_outcome.proofs.Closing.{closes}
 use Rattle.play_outcome.proofs.played.outcome.Goals as goal
 

@@ -1,5 +1,6 @@
 use denote.Exit.{no}
 use denote.Param.Send.{arg_send, arg_sync, param_send, param_sync}
+use Rattle.play_hub.proofs.Crossing.{entry-send, entry-sync}
 use Rattle.space_row.proofs.Crossing.{row-send, row-sync}
 use Rattle.std.proofs.Common.{rules, ◌≡◌, false}
 use Rattle.group_locks.specs.Seats.{limit_of, opened_shards, opened_works, spent_of}
@@ -9,8 +10,14 @@ use Rattle.play_pool.proofs.closing.close_play.Goals as goal
 pub close-requires-send-S-Work : goal.close-requires-send-S-Work
 close-requires-send-S-Work g c κs within = param_send _ _ (arg_send _ no _ row-send)
 
+pub close-requires-send-S-Entry : goal.close-requires-send-S-Entry
+close-requires-send-S-Entry g c κs within = param_send _ _ (arg_send _ no _ entry-send)
+
 pub close-requires-sync-S-Work : goal.close-requires-sync-S-Work
 close-requires-sync-S-Work g c κs within = param_sync _ _ (arg_sync _ no _ row-sync)
+
+pub close-requires-sync-S-Entry : goal.close-requires-sync-S-Entry
+close-requires-sync-S-Entry g c κs within = param_sync _ _ (arg_sync _ no _ entry-sync)
 
 pub close-requires-clause-seats : goal.close-requires-clause-seats
 close-requires-clause-seats g c κs within = λ k d lt. (c.requires.seats k d lt).0

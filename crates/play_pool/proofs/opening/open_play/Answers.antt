@@ -1,5 +1,6 @@
 use denote.Exit.{no}
 use denote.Param.Send.{arg_send, arg_sync, param_send, param_sync}
+use Rattle.play_hub.proofs.Crossing.{entry-send, entry-sync}
 use Rattle.space_row.proofs.Crossing.{row-send, row-sync}
 use Rattle.std.proofs.Common.{ap}
 use Rattle.std.proofs.lemmas.Result.{IfOk-weaker}
@@ -12,8 +13,14 @@ use Rattle.play_pool.proofs.opening.open_play.Goals as goal
 pub start-requires-send-S-Work : goal.start-requires-send-S-Work
 start-requires-send-S-Work g c κs within = param_send _ _ (arg_send _ no _ row-send)
 
+pub start-requires-send-S-Entry : goal.start-requires-send-S-Entry
+start-requires-send-S-Entry g c κs within = param_send _ _ (arg_send _ no _ entry-send)
+
 pub start-requires-sync-S-Work : goal.start-requires-sync-S-Work
 start-requires-sync-S-Work g c κs within = param_sync _ _ (arg_sync _ no _ row-sync)
+
+pub start-requires-sync-S-Entry : goal.start-requires-sync-S-Entry
+start-requires-sync-S-Entry g c κs within = param_sync _ _ (arg_sync _ no _ entry-sync)
 
 pub start-requires-clause-opens : goal.start-requires-clause-opens
 start-requires-clause-opens g c κs within =

@@ -7,8 +7,8 @@ use Rattle.std.proofs.lemmas.List.{length-map}
 use Rattle.calculus.specs.Storing.{IsStorable}
 use Rattle.calculus.specs.Runs.{Deploy, deploy_of, work_price}
 use Rattle.event_log.specs.View.{step_of}
-use Rattle.run_entries.specs.Entries.{steps_of}
-use Rattle.play_scene.specs.Plays.{entries_of}
+use Rattle.events.specs.Entries.{steps_of}
+use Rattle.hub_scenes.specs.Plays.{entries_of}
 use Rattle.play_hub.specs.Endings.{play_of}
 use Rattle.play_outcome.specs.declared.played.Played.{Played}
 use Rattle.play_pool.specs.Closing.{ClosesPlay}

@@ -1,5 +1,6 @@
 use denote.Exit.{no}
 use denote.Param.Send.{arg_send, arg_sync, param_send, param_sync}
+use Rattle.play_hub.proofs.Crossing.{entry-send, entry-sync}
 use Rattle.space_row.proofs.Crossing.{row-send, row-sync}
 use Rattle.std.proofs.Common.{◌≡◌, ◌∙◌, ℕ, List, sym, subst, arith}
 use Rattle.std.proofs.lemmas.Nat.{le_or_l}
@@ -13,20 +14,38 @@ use Rattle.play_worker.proofs.group.take_shown.Goals as goal
 pub take_group-requires-send-S-Work : goal.take_group-requires-send-S-Work
 take_group-requires-send-S-Work g c κs within = param_send _ _ (arg_send _ no _ row-send)
 
+pub take_group-requires-send-S-Entry : goal.take_group-requires-send-S-Entry
+take_group-requires-send-S-Entry g c κs within = param_send _ _ (arg_send _ no _ entry-send)
+
 pub take_group-requires-sync-S-Work : goal.take_group-requires-sync-S-Work
 take_group-requires-sync-S-Work g c κs within = param_sync _ _ (arg_sync _ no _ row-sync)
+
+pub take_group-requires-sync-S-Entry : goal.take_group-requires-sync-S-Entry
+take_group-requires-sync-S-Entry g c κs within = param_sync _ _ (arg_sync _ no _ entry-sync)
 
 pub give_group-requires-send-S-Work : goal.give_group-requires-send-S-Work
 give_group-requires-send-S-Work g c κs within = param_send _ _ (arg_send _ no _ row-send)
 
+pub give_group-requires-send-S-Entry : goal.give_group-requires-send-S-Entry
+give_group-requires-send-S-Entry g c κs within = param_send _ _ (arg_send _ no _ entry-send)
+
 pub give_group-requires-sync-S-Work : goal.give_group-requires-sync-S-Work
 give_group-requires-sync-S-Work g c κs within = param_sync _ _ (arg_sync _ no _ row-sync)
+
+pub give_group-requires-sync-S-Entry : goal.give_group-requires-sync-S-Entry
+give_group-requires-sync-S-Entry g c κs within = param_sync _ _ (arg_sync _ no _ entry-sync)
 
 pub give_group-requires-in-loop-shown-send-S-Work : goal.give_group-requires-in-loop-shown-send-S-Work
 give_group-requires-in-loop-shown-send-S-Work g c κs within = param_send _ _ (arg_send _ no _ row-send)
 
+pub give_group-requires-in-loop-shown-send-S-Entry : goal.give_group-requires-in-loop-shown-send-S-Entry
+give_group-requires-in-loop-shown-send-S-Entry g c κs within = param_send _ _ (arg_send _ no _ entry-send)
+
 pub give_group-requires-in-loop-shown-sync-S-Work : goal.give_group-requires-in-loop-shown-sync-S-Work
 give_group-requires-in-loop-shown-sync-S-Work g c κs within = param_sync _ _ (arg_sync _ no _ row-sync)
+
+pub give_group-requires-in-loop-shown-sync-S-Entry : goal.give_group-requires-in-loop-shown-sync-S-Entry
+give_group-requires-in-loop-shown-sync-S-Entry g c κs within = param_sync _ _ (arg_sync _ no _ entry-sync)
 
 pub give_group-requires-clause-carries : goal.give_group-requires-clause-carries
 give_group-requires-clause-carries g c κs within =

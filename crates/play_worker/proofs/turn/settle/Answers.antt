@@ -1,5 +1,6 @@
 use denote.Exit.{no}
 use denote.Param.Send.{arg_send, arg_sync, param_send, param_sync}
+use Rattle.play_hub.proofs.Crossing.{entry-send, entry-sync}
 use Rattle.space_row.proofs.Crossing.{row-send, row-sync}
 use Rattle.std.proofs.Common.{◌∙◌, sym, ap, subst, length, drop, Option, ℕ}
 use Rattle.std.specs.List.{slice_get}
@@ -12,26 +13,50 @@ use Rattle.play_worker.proofs.turn.settle.Goals as goal
 pub charge-requires-send-S-Work : goal.charge-requires-send-S-Work
 charge-requires-send-S-Work g c κs within = param_send _ _ (arg_send _ no _ row-send)
 
+pub charge-requires-send-S-Entry : goal.charge-requires-send-S-Entry
+charge-requires-send-S-Entry g c κs within = param_send _ _ (arg_send _ no _ entry-send)
+
 pub charge-requires-sync-S-Work : goal.charge-requires-sync-S-Work
 charge-requires-sync-S-Work g c κs within = param_sync _ _ (arg_sync _ no _ row-sync)
+
+pub charge-requires-sync-S-Entry : goal.charge-requires-sync-S-Entry
+charge-requires-sync-S-Entry g c κs within = param_sync _ _ (arg_sync _ no _ entry-sync)
 
 pub stop-requires-send-S-Work : goal.stop-requires-send-S-Work
 stop-requires-send-S-Work g c κs within = param_send _ _ (arg_send _ no _ row-send)
 
+pub stop-requires-send-S-Entry : goal.stop-requires-send-S-Entry
+stop-requires-send-S-Entry g c κs within = param_send _ _ (arg_send _ no _ entry-send)
+
 pub stop-requires-sync-S-Work : goal.stop-requires-sync-S-Work
 stop-requires-sync-S-Work g c κs within = param_sync _ _ (arg_sync _ no _ row-sync)
+
+pub stop-requires-sync-S-Entry : goal.stop-requires-sync-S-Entry
+stop-requires-sync-S-Entry g c κs within = param_sync _ _ (arg_sync _ no _ entry-sync)
 
 pub leave_ops-requires-send-S-Work : goal.leave_ops-requires-send-S-Work
 leave_ops-requires-send-S-Work g c κs within = param_send _ _ (arg_send _ no _ row-send)
 
+pub leave_ops-requires-send-S-Entry : goal.leave_ops-requires-send-S-Entry
+leave_ops-requires-send-S-Entry g c κs within = param_send _ _ (arg_send _ no _ entry-send)
+
 pub leave_ops-requires-sync-S-Work : goal.leave_ops-requires-sync-S-Work
 leave_ops-requires-sync-S-Work g c κs within = param_sync _ _ (arg_sync _ no _ row-sync)
+
+pub leave_ops-requires-sync-S-Entry : goal.leave_ops-requires-sync-S-Entry
+leave_ops-requires-sync-S-Entry g c κs within = param_sync _ _ (arg_sync _ no _ entry-sync)
 
 pub stop-requires-in_default-send-S-Work : goal.stop-requires-in_default-send-S-Work
 stop-requires-in_default-send-S-Work g c κs within = param_send _ _ (arg_send _ no _ row-send)
 
+pub stop-requires-in_default-send-S-Entry : goal.stop-requires-in_default-send-S-Entry
+stop-requires-in_default-send-S-Entry g c κs within = param_send _ _ (arg_send _ no _ entry-send)
+
 pub stop-requires-in_default-sync-S-Work : goal.stop-requires-in_default-sync-S-Work
 stop-requires-in_default-sync-S-Work g c κs within = param_sync _ _ (arg_sync _ no _ row-sync)
+
+pub stop-requires-in_default-sync-S-Entry : goal.stop-requires-in_default-sync-S-Entry
+stop-requires-in_default-sync-S-Entry g c κs within = param_sync _ _ (arg_sync _ no _ entry-sync)
 
 pub stop-requires-clause-fault : goal.stop-requires-clause-fault
 stop-requires-clause-fault g c κs within _ =

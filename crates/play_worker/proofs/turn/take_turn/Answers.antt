@@ -1,5 +1,6 @@
 use denote.Exit.{no}
 use denote.Param.Send.{arg_send, arg_sync, param_send, param_sync}
+use Rattle.play_hub.proofs.Crossing.{entry-send, entry-sync}
 use Rattle.space_row.proofs.Crossing.{row-send, row-sync}
 use Rattle.play_worker.proofs.Seats.{drawn-home, work-same}
 use Rattle.play_worker.proofs.turn.take_turn.Goals as goal
@@ -7,20 +8,38 @@ use Rattle.play_worker.proofs.turn.take_turn.Goals as goal
 pub stop-requires-send-S-Work : goal.stop-requires-send-S-Work
 stop-requires-send-S-Work g c κs within = param_send _ _ (arg_send _ no _ row-send)
 
+pub stop-requires-send-S-Entry : goal.stop-requires-send-S-Entry
+stop-requires-send-S-Entry g c κs within = param_send _ _ (arg_send _ no _ entry-send)
+
 pub stop-requires-sync-S-Work : goal.stop-requires-sync-S-Work
 stop-requires-sync-S-Work g c κs within = param_sync _ _ (arg_sync _ no _ row-sync)
+
+pub stop-requires-sync-S-Entry : goal.stop-requires-sync-S-Entry
+stop-requires-sync-S-Entry g c κs within = param_sync _ _ (arg_sync _ no _ entry-sync)
 
 pub give_group-requires-send-S-Work : goal.give_group-requires-send-S-Work
 give_group-requires-send-S-Work g c κs within = param_send _ _ (arg_send _ no _ row-send)
 
+pub give_group-requires-send-S-Entry : goal.give_group-requires-send-S-Entry
+give_group-requires-send-S-Entry g c κs within = param_send _ _ (arg_send _ no _ entry-send)
+
 pub give_group-requires-sync-S-Work : goal.give_group-requires-sync-S-Work
 give_group-requires-sync-S-Work g c κs within = param_sync _ _ (arg_sync _ no _ row-sync)
+
+pub give_group-requires-sync-S-Entry : goal.give_group-requires-sync-S-Entry
+give_group-requires-sync-S-Entry g c κs within = param_sync _ _ (arg_sync _ no _ entry-sync)
 
 pub stop-requires-in-Err-send-S-Work : goal.stop-requires-in-Err-send-S-Work
 stop-requires-in-Err-send-S-Work g c κs within = param_send _ _ (arg_send _ no _ row-send)
 
+pub stop-requires-in-Err-send-S-Entry : goal.stop-requires-in-Err-send-S-Entry
+stop-requires-in-Err-send-S-Entry g c κs within = param_send _ _ (arg_send _ no _ entry-send)
+
 pub stop-requires-in-Err-sync-S-Work : goal.stop-requires-in-Err-sync-S-Work
 stop-requires-in-Err-sync-S-Work g c κs within = param_sync _ _ (arg_sync _ no _ row-sync)
+
+pub stop-requires-in-Err-sync-S-Entry : goal.stop-requires-in-Err-sync-S-Entry
+stop-requires-in-Err-sync-S-Entry g c κs within = param_sync _ _ (arg_sync _ no _ entry-sync)
 
 pub settle-requires-clause-drawn : goal.settle-requires-clause-drawn
 settle-requires-clause-drawn g c κs within =

@@ -3,7 +3,7 @@ use Rattle.event_log.specs.Laws.{AreSteps}
 use Rattle.event_log.specs.View.{step_of}
 use Rattle.event_log.specs.declared.log.LogStep.{LogStep}
 use Rattle.run_reports.specs.Report.{report_line}
-use Rattle.run_verdict.specs.View.{verdict_of}
+use Rattle.replays.specs.View.{verdict_of}
 use Rattle.recorded_runs.specs.Runs.{printed}
 use Rattle.recorded_runs.proofs.deploys.plan_of.Goals as goal
 

@@ -3,7 +3,7 @@ use Rattle.std.proofs.lemmas.List.Elements.{All-nil}
 use Rattle.rho_term.specs.Normal.{IsNormal}
 use Rattle.run_inputs.specs.Bases.{AreNormalRows}
 use Rattle.calculus.specs.Rows.{Row}
-use Rattle.states.specs.States.{state_text}
+use Rattle.events.specs.States.{state_text}
 use Rattle.recorded_runs.proofs.inputs.empty_base.Goals as goal
 
 pub returns-clause-text : goal.returns-clause-text

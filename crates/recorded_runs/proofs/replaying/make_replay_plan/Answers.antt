@@ -7,7 +7,7 @@ use Rattle.calculus.specs.Steps.{differ}
 use Rattle.replays.specs.Replays.{Refusal, header_refusal, deploy_under}
 use Rattle.replay_answers.specs.Answers.{Clashes, IsAnswered}
 use Rattle.replay_answers.specs.Bases.{asked, ids_of}
-use Rattle.states.specs.Quiet.{AreQuiet}
+use Rattle.events.specs.Quiet.{AreQuiet}
 use Rattle.replays.specs.Refusals.{is_of_header, refusal_of}
 use Rattle.replays.specs.declared.fault.ReplayFault.{ReplayFault}
 use Rattle.replay_answers.specs.declared.replayed.Replayed.{Replayed}

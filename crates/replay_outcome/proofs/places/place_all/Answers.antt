@@ -1,7 +1,7 @@
 use Rattle.std.proofs.Common.{rules, ◌≡◌, ◌++◌, List, [], length, map, ap, sym, subst, ◌∙◌, append_assoc, None}
 use Rattle.std.specs.Prelude.{Option}
 use Rattle.std.proofs.lemmas.List.{length-replicate}
-use Rattle.replay_scene.specs.Entries.{did_by, did_in}
+use Rattle.hub_scenes.specs.Entries.{did_by, did_in}
 use Rattle.replay_hub.specs.declared.deed.Entry.{Entry}
 use Rattle.replay_hub.specs.Values.{deed_of, entry_of}
 use Rattle.replay_outcome.specs.declared.places.Came.{Came}

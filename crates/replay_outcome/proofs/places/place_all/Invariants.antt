@@ -1,8 +1,8 @@
 use Rattle.std.proofs.Common.{◌≡◌, ◌++◌, List, length, map}
 use Rattle.calculus.specs.Rows.{Row}
 use Rattle.calculus.specs.Tree.{Tree}
-use Rattle.replay_scene.specs.Spaces.{DidStep}
-use Rattle.replay_scene.specs.Entries.{did_by}
+use Rattle.hub_scenes.specs.Spaces.{DidStep}
+use Rattle.hub_scenes.specs.Entries.{did_by}
 use Rattle.replay_hub.specs.Values.{entry_of}
 use Rattle.replay_outcome.specs.Settling.{KeptFrom}
 use Rattle.replay_outcome.proofs.places.place_all.Given as goal

@@ -1,7 +1,7 @@
 use Rattle.std.proofs.Common.{ℕ, map, sym, subst}
 use Rattle.calculus.specs.Runs.{work_price}
-use Rattle.replay_scene.specs.Closing.{in_log_order}
-use Rattle.replay_scene.specs.Entries.{did_by}
+use Rattle.hub_scenes.specs.Closing.{in_log_order}
+use Rattle.hub_scenes.specs.Entries.{did_by}
 use Rattle.replay_hub.specs.Values.{entry_of}
 use Rattle.replay_outcome.specs.declared.sum.Summed.{Summed}
 use Rattle.replay_outcome.specs.Settling.{IsSum, SumsUp}

@@ -1,6 +1,6 @@
 use Rattle.std.proofs.Common.{List, ◌∷◌, length, ap, subst, ◌∙◌, arith}
 use Rattle.std.specs.Prelude.{Option}
-use Rattle.replay_scene.specs.Closing.{in_log_order}
+use Rattle.hub_scenes.specs.Closing.{in_log_order}
 use Rattle.replay_outcome.specs.declared.places.Came.{Came}
 use Rattle.replay_outcome.proofs.Summing.{Along, one-along, undone}
 use Rattle.replay_outcome.proofs.sum.sum_up.Goals as goal

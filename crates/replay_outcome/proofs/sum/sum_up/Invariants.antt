@@ -1,5 +1,5 @@
 use Rattle.std.proofs.Common.{◌≡◌, ◌+◌, List, length}
-use Rattle.replay_scene.specs.Spaces.{DidStep}
+use Rattle.hub_scenes.specs.Spaces.{DidStep}
 use Rattle.replay_outcome.specs.Settling.{KeptFrom}
 use Rattle.replay_outcome.proofs.Summing.{Along}
 use Rattle.replay_outcome.proofs.sum.sum_up.Given as goal

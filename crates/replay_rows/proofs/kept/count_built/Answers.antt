@@ -1,7 +1,7 @@
 use Rattle.std.proofs.Common.{◌<◌, sym, ap, subst, ◌∙◌, arith, length, map as each}
 use Rattle.event_log.specs.View.{step_of}
 use Rattle.racing_replays.specs.Replaying.{names}
-use Rattle.replay_scene.specs.Spaces.{IsIn}
+use Rattle.hub_scenes.specs.Spaces.{IsIn}
 use Rattle.calculus.specs.Rows.{Row}
 use Rattle.replay_space.specs.declared.seen.Seen.{Seen}
 use Rattle.replay_rows.specs.Rows.{counted_in, seen_row}

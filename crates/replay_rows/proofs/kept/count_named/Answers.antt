@@ -4,8 +4,8 @@ use Rattle.std.specs.Str.{bytes_eq}
 use Rattle.std.proofs.lemmas.List.{take_all}
 use Rattle.calculus.specs.declared.ids.Digest.{Digest}
 use Rattle.calculus.specs.Steps.{is_one_of}
-use Rattle.replay_scene.specs.Spaces.{SeenRow, IsIn}
-use Rattle.replay_scene.proofs.Basics.{has, hold}
+use Rattle.hub_scenes.specs.Spaces.{SeenRow, IsIn}
+use Rattle.hub_scenes.proofs.Basics.{has, hold}
 use Rattle.replay_space.proofs.Filed.{mapped-more}
 use Rattle.replay_rows.specs.Rows.{filed_rows, counted_in}
 use Rattle.replay_rows.proofs.Filing.{is-same}

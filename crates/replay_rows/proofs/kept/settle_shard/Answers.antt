@@ -4,9 +4,9 @@ use Rattle.calculus.proofs.Members.{member-left, member-right}
 use Rattle.calculus.specs.declared.ids.Digest.{Digest}
 use Rattle.event_log.specs.View.{step_of}
 use Rattle.racing_replays.specs.Replaying.{names}
-use Rattle.replay_scene.specs.Spaces.{SeenRow, Part, IsIn}
-use Rattle.replay_scene.specs.Entries.{left_of}
-use Rattle.replay_scene.proofs.Basics.{has, hold}
+use Rattle.hub_scenes.specs.Spaces.{SeenRow, Part, IsIn}
+use Rattle.hub_scenes.specs.Entries.{left_of}
+use Rattle.hub_scenes.proofs.Basics.{has, hold}
 use Rattle.replay_rows.specs.Rows.{filed_rows, counted_in, seen_row}
 use Rattle.replay_rows.proofs.Settling.{stayed, left-counted}
 use Rattle.replay_rows.proofs.kept.settle_shard.Goals as goal

@@ -3,8 +3,8 @@ use Rattle.std.specs.Prelude.{flat_map}
 use Rattle.std.specs.Map.{remove_entry}
 use Rattle.std.specs.Vec.{with_items}
 use Rattle.std.proofs.lemmas.List.{with_items_is}
-use Rattle.replay_scene.specs.Spaces.{IsIn}
-use Rattle.replay_scene.proofs.Basics.{has, hold}
+use Rattle.hub_scenes.specs.Spaces.{IsIn}
+use Rattle.hub_scenes.proofs.Basics.{has, hold}
 use Rattle.calculus.specs.Rows.{Row}
 use Rattle.replay_space.specs.declared.seen.Seen.{Seen}
 use Rattle.replay_rows.specs.Filing.{is_key, Filed, AllHave}

@@ -3,7 +3,7 @@ use Rattle.std.proofs.Common.{◌∙◌, List, ℕ, sym, ap, subst}
 use Rattle.calculus.specs.Runs.{Deploy, deploy_of, source_seed, work_price}
 use Rattle.calculus.specs.Seeds.{digest_of, Start}
 use Rattle.calculus.specs.Unfolding.{Unfolds}
-use Rattle.events.specs.Laws.{Begins}
+use Rattle.events.specs.EventLaws.{Begins}
 use Rattle.replay_store.specs.Stores.{AreOpenedShards}
 use Rattle.replayed_log.proofs.Crossing.{channel-send, channel-sync, sharded-send, sharded-sync, shard-send, shard-sync, held-send, held-sync}
 use Rattle.replay_runs.proofs.RacedLogs.{plain-shards}

@@ -6,7 +6,7 @@ use Rattle.calculus.specs.Rows.{Row}
 use Rattle.events.specs.Found.{met}
 use Rattle.found_rows.specs.declared.found.Found.{Found}
 use Rattle.row_meeting.specs.Meeting.{IsMeeting}
-use Rattle.replay_scene.specs.Spaces.{bare}
+use Rattle.hub_scenes.specs.Spaces.{bare}
 use Rattle.replay_slots.specs.Hands.{all_shown, parts_of}
 use Rattle.replay_shards.specs.Ready.{AreBut, AreNext}
 use Rattle.replay_shards.specs.Taken.{bytes_of, AreFound}

@@ -2,7 +2,7 @@ use Rattle.std.proofs.Common.{◌≡◌, ◌+◌, suc, false, [], ◌∷◌, sym
 use Rattle.std.specs.Prelude.{Some, Option, option_map, option_copied, slice_get}
 use Rattle.racing_replays.specs.Counted.{uses}
 use Rattle.calculus.specs.Steps.{is_one_of}
-use Rattle.replay_scene.specs.Spaces.{SeenRow}
+use Rattle.hub_scenes.specs.Spaces.{SeenRow}
 use Rattle.replay_slots.specs.Hands.{all_shown, parts_of}
 use Rattle.replay_shards.specs.Ready.{if_any, AreNext, IsUseTry}
 use Rattle.replay_shards.specs.declared.ready.Try.{Try}

@@ -1,6 +1,6 @@
 use Rattle.std.proofs.Common.{◌≤◌, length, ◌∷◌, List, subst, arith}
 use Rattle.std.proofs.lemmas.List.{take_all}
-use Rattle.replay_scene.specs.Spaces.{SeenRow}
+use Rattle.hub_scenes.specs.Spaces.{SeenRow}
 use Rattle.replay_slots.specs.Hands.{all_shown, parts_of}
 use Rattle.replay_shards.specs.Ready.{AreNext}
 use Rattle.replay_shards.specs.Taken.{bytes_of}

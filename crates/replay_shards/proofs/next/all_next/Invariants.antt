@@ -1,6 +1,6 @@
 use Rattle.std.proofs.Common.{take, List, ◌∷◌}
 use Rattle.calculus.specs.Log.{Step}
-use Rattle.replay_scene.specs.Spaces.{SeenRow}
+use Rattle.hub_scenes.specs.Spaces.{SeenRow}
 use Rattle.replay_space.specs.Rigs.{IsRigOf}
 use Rattle.replay_slots.specs.Hands.{all_shown, parts_of}
 use Rattle.replay_shards.specs.Ready.{AreNext}

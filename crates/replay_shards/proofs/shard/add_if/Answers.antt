@@ -1,7 +1,7 @@
 use Rattle.std.proofs.Common.{◌∷◌, ◌++◌, [], sym, ap, ◌∙◌, map as each}
 use Rattle.std.proofs.lemmas.List.{map-append}
 use Rattle.calculus.specs.Rows.{Row}
-use Rattle.replay_scene.specs.Spaces.{standing_row}
+use Rattle.hub_scenes.specs.Spaces.{standing_row}
 use Rattle.replay_rows.specs.Rows.{seen_row}
 use Rattle.replay_shards.proofs.Receiving.{not-added, is-added}
 use Rattle.replay_shards.proofs.shard.add_if.Goals as goal

@@ -1,5 +1,5 @@
 use Rattle.std.proofs.Common.{◌≡◌, ◌++◌, map as each}
-use Rattle.replay_scene.specs.Spaces.{bare}
+use Rattle.hub_scenes.specs.Spaces.{bare}
 use Rattle.replay_rows.specs.Rows.{seen_row}
 use Rattle.replay_shards.proofs.shard.add_rows.Given as goal
 

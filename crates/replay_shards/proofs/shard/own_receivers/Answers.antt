@@ -4,7 +4,7 @@ use Rattle.std.proofs.lemmas.List.{take_all}
 use Rattle.calculus.specs.Rows.{Row}
 use Rattle.calculus.specs.Storing.{IsStorable}
 use Rattle.process_laws.proofs.StorableStaying.{built_in_receivers_are_storable}
-use Rattle.replay_scene.specs.Spaces.{seen_in, standing_row}
+use Rattle.hub_scenes.specs.Spaces.{seen_in, standing_row}
 use Rattle.replay_space.specs.declared.seen.Seen.{Seen}
 use Rattle.replay_rows.specs.Rows.{seen_row}
 use Rattle.replay_shards.proofs.Receiving.{all-storable, built-more}

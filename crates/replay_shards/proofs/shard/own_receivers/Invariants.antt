@@ -1,6 +1,6 @@
 use Rattle.std.proofs.Common.{◌≡◌, take, map as each}
 use Rattle.std.specs.Prelude.{filter}
-use Rattle.replay_scene.specs.Spaces.{seen_in, standing_row}
+use Rattle.hub_scenes.specs.Spaces.{seen_in, standing_row}
 use Rattle.replay_rows.specs.Rows.{seen_row}
 use Rattle.replay_shards.proofs.shard.own_receivers.Given as goal
 

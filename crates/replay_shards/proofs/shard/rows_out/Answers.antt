@@ -1,6 +1,6 @@
 use Rattle.std.proofs.Common.{◌++◌, List, ap, ◌∙◌, map as each}
 use Rattle.calculus.specs.Rows.{Row}
-use Rattle.replay_scene.specs.Spaces.{bare}
+use Rattle.hub_scenes.specs.Spaces.{bare}
 use Rattle.replay_space.specs.declared.seen.Seen.{Seen}
 use Rattle.replay_rows.specs.Filing.{Filed}
 use Rattle.replay_rows.specs.Rows.{filed_rows, seen_row}

@@ -1,5 +1,5 @@
 use Rattle.std.proofs.Common.{◌≡◌}
-use Rattle.replay_scene.specs.Spaces.{bare}
+use Rattle.hub_scenes.specs.Spaces.{bare}
 use Rattle.replay_rows.specs.Rows.{filed_rows}
 use Rattle.replay_shards.proofs.shard.rows_out.Given as goal
 

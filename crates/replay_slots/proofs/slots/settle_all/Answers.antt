@@ -2,8 +2,8 @@ use Rattle.std.proofs.Common.{◌≡◌, ◌<◌, length, get_or, sym, ap, subst
 use Rattle.std.specs.Prelude.{None, Option, option_map}
 use Rattle.calculus.specs.declared.ids.Digest.{Digest}
 use Rattle.event_log.specs.View.{step_of}
-use Rattle.replay_scene.specs.Spaces.{Part, IsIn}
-use Rattle.replay_scene.proofs.Basics.{has, hold}
+use Rattle.hub_scenes.specs.Spaces.{Part, IsIn}
+use Rattle.hub_scenes.proofs.Basics.{has, hold}
 use Rattle.replay_rows.specs.Rows.{part_of, settled_part}
 use Rattle.replay_slots.specs.Hands.{IsSlotFiled, parts_of, all_shown, shown_at}
 use Rattle.replay_rows.proofs.Settling.{same-at}

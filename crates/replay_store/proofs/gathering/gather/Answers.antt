@@ -1,7 +1,7 @@
 use Rattle.std.proofs.Common.{ℕ, List, [], ◌∷◌, ◌++◌, eqb, filter, length-append, ap, sym, ◌∙◌, arith}
 use Rattle.std.proofs.lemmas.List.{map-append}
 use Rattle.calculus.specs.Rows.{Row}
-use Rattle.replay_scene.specs.Spaces.{bare, Part}
+use Rattle.hub_scenes.specs.Spaces.{bare, Part}
 use Rattle.replay_store.specs.Stores.{bare_shards}
 use Rattle.row_shards.specs.Homes.{gathered, home}
 use Rattle.replay_store.proofs.Gathered.{bare-many}

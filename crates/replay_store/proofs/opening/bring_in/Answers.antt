@@ -1,9 +1,9 @@
 use Rattle.std.proofs.Common.{List, ap, subst, ◌∙◌}
 use Rattle.std.specs.Prelude.{None}
 use Rattle.calculus.specs.Rows.{Row}
-use Rattle.shard_rows.specs.Shards.{stands_in}
-use Rattle.replay_scene.specs.Spaces.{IndexTry, new_row}
-use Rattle.replay_scene.specs.Entries.{arrives}
+use Rattle.events.specs.Shards.{stands_in}
+use Rattle.hub_scenes.specs.Spaces.{IndexTry, new_row}
+use Rattle.hub_scenes.specs.Entries.{arrives}
 use Rattle.replay_rows.specs.Bits.{has_bit}
 use Rattle.replay_slots.specs.Hands.{TouchedBecome}
 use Rattle.replay_store.proofs.Opened.{on-ok, opened-more}

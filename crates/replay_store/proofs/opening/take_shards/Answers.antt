@@ -1,6 +1,6 @@
 use Rattle.std.proofs.Common.{◌≡◌, [], ◌∷◌, length, length-append, List, Some, ap, sym, subst, ◌∙◌, arith}
 use Rattle.std.specs.Prelude.{slice_get}
-use Rattle.replay_scene.specs.Spaces.{Part}
+use Rattle.hub_scenes.specs.Spaces.{Part}
 use Rattle.replay_slots.specs.Hands.{shard_at}
 use Rattle.replay_store.proofs.Opened.{taken-more}
 use Rattle.replay_store.proofs.opening.take_shards.Goals as goal

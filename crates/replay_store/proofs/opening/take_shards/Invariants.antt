@@ -1,6 +1,6 @@
 use Rattle.std.proofs.Common.{◌≡◌, ◌≤◌, ℕ, length, Some}
 use Rattle.std.specs.Prelude.{slice_get}
-use Rattle.replay_scene.specs.Spaces.{Part}
+use Rattle.hub_scenes.specs.Spaces.{Part}
 use Rattle.replay_slots.specs.Hands.{shard_at}
 use Rattle.replay_store.proofs.opening.take_shards.Given as goal
 

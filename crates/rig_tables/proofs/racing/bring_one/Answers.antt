@@ -1,5 +1,5 @@
-use Rattle.replay_scene.specs.Spaces.{new_row}
-use Rattle.replay_scene.specs.Entries.{arrives}
+use Rattle.hub_scenes.specs.Spaces.{new_row}
+use Rattle.hub_scenes.specs.Entries.{arrives}
 use Rattle.replay_rows.specs.Bits.{has_bit}
 use Rattle.std.proofs.Common.{[]}
 use Rattle.rig_tables.proofs.Staying.{after-arrival}

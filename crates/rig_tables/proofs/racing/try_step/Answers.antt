@@ -1,9 +1,9 @@
 use Rattle.std.proofs.Common.{[], None, refl, sym, ap, subst, arith}
 use Rattle.event_log.specs.declared.log.LogStep.{LogStep}
 use Rattle.event_log.specs.View.{step_of}
-use Rattle.run_entries.specs.Entries.{Making}
-use Rattle.replay_scene.specs.Spaces.{IndexTry}
-use Rattle.replay_scene.specs.Entries.{does}
+use Rattle.events.specs.Entries.{Making}
+use Rattle.hub_scenes.specs.Spaces.{IndexTry}
+use Rattle.hub_scenes.specs.Entries.{does}
 use Rattle.replay_shards.specs.Taken.{bytes_of}
 use Rattle.replay_shards.proofs.Calling.{split-at, Split}
 use Rattle.rig_tables.proofs.Staying.{after-step, at-some}

@@ -6,7 +6,7 @@ use Rattle.calculus.specs.Rows.{Row, channels}
 use Rattle.rho_term.specs.declared.term.TermBind.{TermBind}
 use Rattle.row_shards.proofs.Standing.{as-row}
 use Rattle.space_row.proofs.Codes.{channels-receive}
-use Rattle.shard_rows.specs.Shards.{stands_in}
+use Rattle.events.specs.Shards.{stands_in}
 use Rattle.shard_counts.specs.Bits.{AreBits}
 use Rattle.row_shards.proofs.SetBits.{or-none, same-bits, shifted-bit}
 use Rattle.row_shards.proofs.Standing.{binds-stand}

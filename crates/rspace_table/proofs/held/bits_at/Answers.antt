@@ -3,7 +3,7 @@ use Rattle.std.specs.Prelude.{Option, IfOk}
 use Rattle.std.proofs.lemmas.Nat.Bits.{bit_at-zero}
 use Rattle.calculus.specs.Rows.{Row}
 use Rattle.shard_counts.specs.Bits.{AreBitsBeside}
-use Rattle.shard_rows.specs.Shards.{stands_in}
+use Rattle.events.specs.Shards.{stands_in}
 use Rattle.rspace_table.specs.Shown.{shown_by}
 use Rattle.rspace_table.specs.Hands.{shown_at}
 use Rattle.rspace_table.proofs.held.bits_at.Goals as goal

@@ -1,7 +1,7 @@
 use Rattle.std.proofs.Common.{sym, ◌∙◌, ap, subst}
 use Rattle.std.specs.Prelude.{OnOk}
 use Rattle.calculus.specs.Rows.{Row}
-use Rattle.shard_rows.specs.Shards.{stands_in}
+use Rattle.events.specs.Shards.{stands_in}
 use Rattle.shard_tables.specs.Hands.{GainsRow}
 use Rattle.rspace_table.proofs.Changes.{gains-not, put-gains}
 use Rattle.rspace_table.proofs.places.gain.Goals as goal

@@ -1,8 +1,8 @@
 use Rattle.std.proofs.Common.{◌≡◌, List, map, true, false, sym, ap, ◌∙◌, subst}
 use Rattle.calculus.specs.Rows.{Row, row_code}
 use Rattle.radix_root.specs.Leaves.{Keeps, groups_of}
-use Rattle.states.specs.States.{state_text}
-use Rattle.states.proofs.Groups.{same, equal}
+use Rattle.events.specs.States.{state_text}
+use Rattle.events.proofs.Groups.{same, equal}
 use Rattle.state_reader.proofs.Laid.{laid-text, least-some, order-refused}
 use Rattle.state_reader.proofs.state.read_state.Goals as goal
 

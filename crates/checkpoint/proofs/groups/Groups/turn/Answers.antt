@@ -1,5 +1,5 @@
 use Rattle.std.proofs.Common.{◌≡◌, true, false, sym, ◌∙◌, ap, map, ⊎_elim}
-use Rattle.states.proofs.Groups.{same, equal}
+use Rattle.events.proofs.Groups.{same, equal}
 use Rattle.checkpoint.specs.Groups.{keys_in}
 use Rattle.checkpoint.proofs.Adding.{open-new}
 use Rattle.checkpoint.proofs.Apart.{not-there}

@@ -1,11 +1,11 @@
-use Rattle.next_states.proofs.Gathering.{set-others, set-only, set-bare}
+use Rattle.next_states.proofs.Gathering.{set-here, set-others, set-only, set-bare}
 use Rattle.next_states.proofs.changed.Changed.add.Goals as goal
 
-pub returns-clause-others : goal.returns-clause-others
-returns-clause-others c = set-others c.args.self.now.groups c.insert.new.self c.args.key.now.0 c.new.result c.in_ok-insert.ensures.updates.0
-
-pub returns-clause-bare : goal.returns-clause-bare
-returns-clause-bare c = set-bare c.args.self.now.groups c.insert.new.self c.args.key.now.0 c.new.result c.in_ok-insert.ensures.updates.0 c.new.ensures.items
-
-pub returns-clause-only : goal.returns-clause-only
-returns-clause-only c = set-only c.args.self.now.groups c.insert.new.self c.args.key.now.0 c.new.result c.in_ok-insert.ensures.updates.0
+pub returns : goal.returns
+returns c = λ f.
+    let m = c.args.self.now.groups in
+    let n = c.set.new.self.groups in
+    let d = c.args.key.now.0 in
+    let w = c.new.result in
+    let e = c.set.ensures f in
+    (e.0, record { here = set-here m n d w e.1; others = set-others m n d w e.1; bare = set-bare m n d w e.1 c.new.ensures.items; only = set-only m n d w e.1 })

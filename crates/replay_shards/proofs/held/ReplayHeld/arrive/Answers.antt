@@ -1,8 +1,8 @@
 use Rattle.std.proofs.Common.{sym, subst, ◌∙◌, eq-eqb, refl}
 use Rattle.std.specs.Prelude.{IsSome}
 use Rattle.std.proofs.lemmas.Result.{on_ok_weaker}
-use Rattle.replay_scene.specs.Spaces.{new_row}
-use Rattle.replay_scene.specs.Entries.{arrives}
+use Rattle.hub_scenes.specs.Spaces.{new_row}
+use Rattle.hub_scenes.specs.Entries.{arrives}
 use Rattle.replay_rows.specs.Bits.{has_bit}
 use Rattle.replay_slots.specs.Hands.{InHand, parts_of, shard_at, TouchedBecome}
 use Rattle.replay_slots.proofs.Arriving.{one-arrived, is-there}

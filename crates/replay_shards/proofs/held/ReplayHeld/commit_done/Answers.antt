@@ -3,7 +3,7 @@ use Rattle.std.specs.Prelude.{option_map}
 use Rattle.calculus.specs.Log.{Step}
 use Rattle.event_log.specs.declared.log.LogStep.{LogStep}
 use Rattle.event_log.specs.View.{step_of}
-use Rattle.replay_scene.specs.Spaces.{IsIn}
+use Rattle.hub_scenes.specs.Spaces.{IsIn}
 use Rattle.replay_slots.specs.Hands.{InHand, all_shown, parts_of, shard_at}
 use Rattle.replay_rows.specs.Rows.{settled_part}
 use Rattle.replay_shards.specs.Taken.{bytes_of}

@@ -3,7 +3,7 @@ use Rattle.std.specs.Prelude.{IfOk, MatchOption}
 use Rattle.calculus.specs.Log.{Step}
 use Rattle.event_log.specs.View.{step_of, steps_of}
 use Rattle.replay_space.specs.Rigs.{IsRigOf}
-use Rattle.replay_scene.specs.Spaces.{SeenRow}
+use Rattle.hub_scenes.specs.Spaces.{SeenRow}
 use Rattle.replay_slots.specs.Hands.{all_shown, parts_of}
 use Rattle.replay_shards.specs.Ready.{IsReady}
 use Rattle.replay_shards.specs.Taken.{FitsNothing}

@@ -2,7 +2,7 @@ use Rattle.std.proofs.Common.{◌≡◌, List, sym, ap, ◌∙◌}
 use Rattle.std.specs.Prelude.{option_map, option_copied}
 use Rattle.calculus.specs.Log.{Step}
 use Rattle.event_log.specs.View.{step_of}
-use Rattle.replay_scene.specs.Spaces.{SeenRow}
+use Rattle.hub_scenes.specs.Spaces.{SeenRow}
 use Rattle.replay_slots.specs.Hands.{all_shown, parts_of}
 use Rattle.replay_rows.specs.Rows.{find_seen, seen_row}
 use Rattle.replay_shards.proofs.Calling.{its-step}

@@ -1,6 +1,6 @@
 use Rattle.std.proofs.lemmas.Result.{on_ok_weaker}
-use Rattle.replay_scene.specs.Spaces.{new_row}
-use Rattle.replay_scene.specs.Entries.{arrives}
+use Rattle.hub_scenes.specs.Spaces.{new_row}
+use Rattle.hub_scenes.specs.Entries.{arrives}
 use Rattle.replay_hub.specs.Values.{has_bit}
 use Rattle.replayed_log.proofs.Becoming.{arrived}
 use Rattle.replayed_log.proofs.tables.LogReplayReplayTables.arrive.Goals as goal

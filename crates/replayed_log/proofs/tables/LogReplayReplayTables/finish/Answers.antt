@@ -3,9 +3,9 @@ use Rattle.calculus.specs.Log.{Step}
 use Rattle.event_log.specs.View.{step_of}
 use Rattle.racing_replays.specs.Counted.{names_id}
 use Rattle.racing_replays.proofs.Arriving.{same-place}
-use Rattle.run_entries.specs.Entries.{Making}
-use Rattle.replay_scene.specs.Spaces.{IndexTry}
-use Rattle.replay_scene.specs.Entries.{does}
+use Rattle.events.specs.Entries.{Making}
+use Rattle.hub_scenes.specs.Spaces.{IndexTry}
+use Rattle.hub_scenes.specs.Entries.{does}
 use Rattle.replay_hub.specs.Values.{making_of}
 use Rattle.replay_shards.specs.Taken.{bytes_of}
 use Rattle.replayed_log.specs.Making.{seen_tries}

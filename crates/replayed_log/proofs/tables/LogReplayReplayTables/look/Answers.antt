@@ -6,8 +6,8 @@ use Rattle.calculus.specs.Storing.{shard}
 use Rattle.event_log.specs.declared.log.LogStep.{LogStep}
 use Rattle.event_log.specs.View.{step_of}
 use Rattle.racing_replays.proofs.Converse.{split-at}
-use Rattle.shard_rows.specs.Shards.{stands_in}
-use Rattle.replay_scene.specs.Spaces.{SeenRow}
+use Rattle.events.specs.Shards.{stands_in}
+use Rattle.hub_scenes.specs.Spaces.{SeenRow}
 use Rattle.replay_hub.specs.Values.{has_bit}
 use Rattle.replay_slots.specs.Hands.{shard_at, all_shown}
 use Rattle.replay_shards.specs.Ready.{IsReady}

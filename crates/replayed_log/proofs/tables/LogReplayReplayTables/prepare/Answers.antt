@@ -1,7 +1,7 @@
 use Rattle.std.proofs.Common.{◌∙◌, ◌++◌, List, map as each, sym, ap, subst, Vec, Global}
 use Rattle.calculus.specs.Tree.{Tree}
-use Rattle.replay_scene.specs.Spaces.{IndexTry}
-use Rattle.replay_scene.specs.Showing.{IsFirstUse}
+use Rattle.hub_scenes.specs.Spaces.{IndexTry}
+use Rattle.hub_scenes.specs.Showing.{IsFirstUse}
 use Rattle.replay_hub.specs.declared.deed.Task.{Task}
 use Rattle.replay_hub.specs.declared.deed.Task.TheVariants.{Index}
 use Rattle.replay_hub.specs.declared.deed.Try.{Try}

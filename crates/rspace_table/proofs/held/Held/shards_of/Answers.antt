@@ -3,7 +3,7 @@ use Rattle.std.specs.Prelude.{Option}
 use Rattle.std.specs.List.{list_any}
 use Rattle.calculus.specs.Rows.{Row}
 use Rattle.row_search.proofs.Looping.{take-whole}
-use Rattle.shard_rows.specs.Shards.{stands_in}
+use Rattle.events.specs.Shards.{stands_in}
 use Rattle.shard_counts.specs.Bits.{AreBits, AreBitsBeside}
 use Rattle.rspace_table.specs.Hands.{InHand, shown_at}
 use Rattle.row_shards.proofs.SetBits.{beside-on, or-none, same-bits}

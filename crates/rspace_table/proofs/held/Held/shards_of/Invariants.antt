@@ -1,6 +1,6 @@
 use Rattle.std.proofs.Common.{◌||◌, take}
 use Rattle.std.specs.List.{list_any}
-use Rattle.shard_rows.specs.Shards.{stands_in}
+use Rattle.events.specs.Shards.{stands_in}
 use Rattle.shard_counts.specs.Bits.{AreBits}
 use Rattle.rspace_table.specs.Hands.{shown_at}
 use Rattle.rspace_table.proofs.held.Held.shards_of.Given as goal

@@ -1,5 +1,5 @@
 use Rattle.std.proofs.Common.{◌<◌, ℕ, ap, sym, subst, ◌∙◌}
-use Rattle.shard_rows.specs.Shards.{stands_in}
+use Rattle.events.specs.Shards.{stands_in}
 use Rattle.rspace_table.specs.Hands.{StandIn}
 use Rattle.rspace_table.proofs.Changes.{stand-after}
 use Rattle.rspace_table.proofs.shard.Shard.put.Goals as goal

@@ -1,5 +1,0 @@
-use Rattle.calculus_examples.proofs.examples.form_examples.Goals as goal
-use Rattle.calculus_examples.proofs.Form.{form_examples}
-
-pub returns : goal.returns
-returns c = record { examples = form_examples }

@@ -1,5 +1,0 @@
-use Rattle.calculus_examples.proofs.examples.match_examples.Goals as goal
-use Rattle.calculus_examples.proofs.Matches.{match_examples}
-
-pub returns : goal.returns
-returns c = record { examples = match_examples }

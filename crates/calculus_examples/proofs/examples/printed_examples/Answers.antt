@@ -1,5 +1,0 @@
-use Rattle.calculus_examples.proofs.examples.printed_examples.Goals as goal
-use Rattle.calculus_examples.proofs.Printed.{printed_examples}
-
-pub returns : goal.returns
-returns c = record { examples = printed_examples }

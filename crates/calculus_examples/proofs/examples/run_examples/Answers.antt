@@ -1,5 +1,0 @@
-use Rattle.calculus_examples.proofs.examples.run_examples.Goals as goal
-use Rattle.calculus_examples.proofs.Runs.{run_examples}
-
-pub returns : goal.returns
-returns c = record { examples = run_examples }

@@ -1,5 +1,0 @@
-use Rattle.calculus_examples.proofs.examples.step_examples.Goals as goal
-use Rattle.calculus_examples.proofs.Steps.{step_examples}
-
-pub returns : goal.returns
-returns c = record { examples = step_examples }

@@ -1,5 +1,0 @@
-use Rattle.calculus_examples.proofs.examples.unfolding_examples.Goals as goal
-use Rattle.calculus_examples.proofs.Unfoldings.{unfolding_examples}
-
-pub returns : goal.returns
-returns c = record { examples = unfolding_examples }

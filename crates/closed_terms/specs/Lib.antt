@@ -1,4 +1,0 @@
-pub mod WellFormed
-pub mod Texts
-pub mod Laws
-pub mod ExamplesClosed

@@ -1,8 +1,0 @@
-// Worked examples stand in the contract of a function that does nothing.
-
-ghost use Rattle.closed_terms.specs.ExamplesClosed.{ClosedExamples};
-
-/// Processes that break no rule of scope and come to no closed process, since they are not well formed.
-pub fn closed_examples()
-    ensures examples { ClosedExamples }
-{}

@@ -1,5 +1,0 @@
-use Rattle.events.proofs.laws.ended_events_are_a_run.Goals as goal
-use Rattle.events.proofs.Ending.{ended_events_are_a_run}
-
-pub returns : goal.returns
-returns c = record { law = ended_events_are_a_run }

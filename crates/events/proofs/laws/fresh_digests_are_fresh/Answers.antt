@@ -1,5 +1,0 @@
-use Rattle.events.proofs.laws.fresh_digests_are_fresh.Goals as goal
-use Rattle.events.proofs.Fresh.{fresh_digests_are_fresh}
-
-pub returns : goal.returns
-returns c = record { law = fresh_digests_are_fresh }

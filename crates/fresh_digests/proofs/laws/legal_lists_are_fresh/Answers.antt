@@ -1,5 +1,0 @@
-use Rattle.fresh_digests.proofs.laws.legal_lists_are_fresh.Goals as goal
-use Rattle.fresh_digests.proofs.Concluding.{legal_lists_are_fresh}
-
-pub returns : goal.returns
-returns c = record { law = legal_lists_are_fresh }

@@ -1,5 +1,0 @@
-use Rattle.fresh_digests.proofs.laws.room_adds_no_texts.Goals as goal
-use Rattle.fresh_digests.proofs.OneList.{room_adds_no_texts}
-
-pub returns : goal.returns
-returns c = record { law = room_adds_no_texts }

@@ -1,0 +1,5 @@
+use Rattle.hub_scenes.proofs.play_laws.hubs_play_or_collide.Goals as goal
+use Rattle.hub_scenes.proofs.Ending.{hubs_play_or_collide}
+
+pub returns : goal.returns
+returns c = record { law = hubs_play_or_collide }

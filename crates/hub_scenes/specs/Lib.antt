@@ -1,0 +1,14 @@
+pub mod SceneLaws
+pub mod Plays
+pub mod PlayScene
+pub mod PlayPulled
+pub mod ClosedRows
+pub mod PlayLaws
+pub mod Spaces
+pub mod Entries
+pub mod Showing
+pub mod ReplayScene
+pub mod Closing
+pub mod ReplayPulled
+pub mod ReplayLaws
+pub mod Examples

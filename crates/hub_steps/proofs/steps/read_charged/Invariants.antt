@@ -1,5 +1,0 @@
-use Rattle.hub_steps.proofs.steps.read_charged.Given as goal
-
--- the limit of the hub
-abbrev pub ghosts-read_charged_as : goal.ghosts-read_charged_as
-ghosts-read_charged_as g a = record { limit = a.board.now.key.terms.limit }

@@ -1,5 +1,0 @@
-mod Bridging
-mod Lexing
-mod Lanes
-mod Reading
-pub mod Sources

@@ -1,5 +1,0 @@
-use Rattle.play_scene.proofs.laws.hubs_play_or_show_an_id.Goals as goal
-use Rattle.play_scene.proofs.Ending.{hubs_play_or_show_an_id}
-
-pub returns : goal.returns
-returns c = record { law = hubs_play_or_show_an_id }

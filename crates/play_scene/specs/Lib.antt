@@ -1,5 +1,0 @@
-pub mod Plays
-pub mod Scene
-pub mod Pulled
-pub mod ClosedRows
-pub mod Laws

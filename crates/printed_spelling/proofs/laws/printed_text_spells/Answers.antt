@@ -1,5 +1,0 @@
-use Rattle.printed_spelling.proofs.laws.printed_text_spells.Goals as goal
-use Rattle.printed_spelling.proofs.Spelling.{printed_text_spells}
-
-pub returns : goal.returns
-returns c = record { law = printed_text_spells }

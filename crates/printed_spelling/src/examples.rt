@@ -1,8 +1,0 @@
-// Worked examples stand in the contract of a function that does nothing.
-
-ghost use Rattle.printed_spelling.specs.Examples.{SpellingExamples};
-
-/// Worked examples of printed texts: processes that meet what the laws ask, with their texts.
-pub fn spelling_examples()
-    ensures examples { SpellingExamples }
-{}

@@ -1,4 +1,0 @@
-pub mod Spelled
-pub mod Ordered
-pub mod Examples
-pub mod Laws

@@ -1,8 +1,0 @@
-// Worked examples stand in the contract of a function that does nothing.
-
-ghost use Rattle.printed_terms.specs.Examples.{SpelledExamples};
-
-/// Worked examples of written processes.
-pub fn spelled_examples()
-    ensures examples { SpelledExamples }
-{}

@@ -1,5 +1,0 @@
-use Rattle.replays.proofs.examples.replay_examples.Goals as goal
-use Rattle.replays.proofs.Computed.{replay_examples}
-
-pub returns : goal.returns
-returns c = record { examples = replay_examples }

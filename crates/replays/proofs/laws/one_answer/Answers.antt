@@ -1,5 +1,0 @@
-use Rattle.replays.proofs.laws.one_answer.Goals as goal
-use Rattle.replays.proofs.Answering.{one_answer}
-
-pub returns : goal.returns
-returns c = record { law = one_answer }

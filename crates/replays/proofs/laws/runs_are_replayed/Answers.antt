@@ -1,5 +1,0 @@
-use Rattle.replays.proofs.laws.runs_are_replayed.Goals as goal
-use Rattle.replays.proofs.Answering.{runs_are_replayed}
-
-pub returns : goal.returns
-returns c = record { law = runs_are_replayed }

@@ -1,5 +1,0 @@
-use Rattle.run_entries.proofs.laws.allowed_entries_are_a_run_or_collide.Goals as goal
-use Rattle.run_entries.proofs.Ending.{allowed_entries_are_a_run_or_collide}
-
-pub returns : goal.returns
-returns c = record { law = allowed_entries_are_a_run_or_collide }

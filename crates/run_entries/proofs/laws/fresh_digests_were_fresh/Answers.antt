@@ -1,5 +1,0 @@
-use Rattle.run_entries.proofs.laws.fresh_digests_were_fresh.Goals as goal
-use Rattle.run_entries.proofs.Growing.{fresh_digests_were_fresh}
-
-pub returns : goal.returns
-returns c = record { law = fresh_digests_were_fresh }

@@ -1,5 +1,0 @@
-use Rattle.run_entries.proofs.laws.moved_rows_are_among.Goals as goal
-use Rattle.run_entries.proofs.Showing.{moved_rows_are_among}
-
-pub returns : goal.returns
-returns c = record { law = moved_rows_are_among }

@@ -1,5 +1,0 @@
-use Rattle.run_entries.proofs.laws.own_steps_are_allowed.Goals as goal
-use Rattle.run_entries.proofs.Counted.{own_steps_are_allowed}
-
-pub returns : goal.returns
-returns c = record { law = own_steps_are_allowed }

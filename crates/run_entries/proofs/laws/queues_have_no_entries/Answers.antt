@@ -1,5 +1,0 @@
-use Rattle.run_entries.proofs.laws.queues_have_no_entries.Goals as goal
-use Rattle.run_entries.proofs.Queued.{queues_have_no_entries}
-
-pub returns : goal.returns
-returns c = record { law = queues_have_no_entries }

@@ -1,5 +1,0 @@
-use Rattle.run_entries.proofs.laws.step_entries_are_allowed.Goals as goal
-use Rattle.run_entries.proofs.Showing.{step_entries_are_allowed}
-
-pub returns : goal.returns
-returns c = record { law = step_entries_are_allowed }

@@ -1,4 +1,0 @@
-pub mod Entries
-pub mod Allowed
-pub mod Laws
-pub mod Examples

@@ -1,5 +1,0 @@
-use Rattle.run_laws.proofs.laws.legal_steps_are_allowed.Goals as goal
-use Rattle.run_laws.proofs.Lists.{legal_steps_are_allowed}
-
-pub returns : goal.returns
-returns c = record { law = legal_steps_are_allowed }

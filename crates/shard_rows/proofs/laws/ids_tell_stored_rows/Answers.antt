@@ -1,5 +1,0 @@
-use Rattle.shard_rows.proofs.laws.ids_tell_stored_rows.Goals as goal
-use Rattle.shard_rows.proofs.Telling.{ids_tell_stored_rows}
-
-pub returns : goal.returns
-returns c = record { law = ids_tell_stored_rows }

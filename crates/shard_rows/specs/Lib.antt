@@ -1,4 +1,0 @@
-pub mod Shards
-pub mod Hands
-pub mod Laws
-pub mod Examples

@@ -1,5 +1,0 @@
-use Rattle.states.proofs.laws.text_ignores_order.Goals as goal
-use Rattle.states.proofs.Groups.{text_ignores_order}
-
-pub returns : goal.returns
-returns c = record { law = text_ignores_order }

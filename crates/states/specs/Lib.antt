@@ -1,4 +1,0 @@
-pub mod States
-pub mod Laws
-pub mod Examples
-pub mod Quiet
